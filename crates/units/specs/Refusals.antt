@@ -1,0 +1,35 @@
+-- The paper's numbers of the refusals, and an ordered list of tests. Cited by every call that refuses. Assumes nothing.
+use Prim.Native.Nat.{ℕ}
+use mathlib.Core.Bool.{Bool, true, false}
+use mathlib.Core.List.{List, [], _∷_}
+use Rattle.units.specs.declared.refusals.Refusal.{Refusal}
+use Rattle.units.specs.declared.refusals.Refusal.the-variants as refusal
+use Rattle.units.specs.declared.refusals.Verdict.{Verdict}
+use Rattle.units.specs.declared.refusals.Verdict.the-variants.{Passed, Refused}
+
+-- 01, "Refusal numbers"
+abbrev pub numberOf : Refusal → ℕ
+numberOf refusal.BadTable = 1
+numberOf refusal.NoEntry = 2
+numberOf refusal.OtherKind = 3
+numberOf refusal.WrongState = 4
+numberOf refusal.PayloadLength = 5
+numberOf refusal.TooShort = 6
+numberOf refusal.WindowFull = 7
+numberOf refusal.RunFull = 8
+numberOf refusal.UrgentWaits = 9
+numberOf refusal.BadFrame = 10
+numberOf refusal.NotOurs = 11
+numberOf refusal.AgainstRules = 12
+numberOf refusal.NoEndPoint = 13
+numberOf refusal.AcksFull = 14
+
+-- the first where the test holds, else the second
+abbrev pub pick : {A : Type 0} → Bool → A → A → A
+pick true a b = a
+pick false a b = b
+
+-- each test beside what it refuses with, in the paper's order: the first that fits decides
+abbrev pub verdict : List (Bool × Refusal) → Verdict
+verdict [] = Passed
+verdict (t ∷ ts) = pick (t .0) (Refused (t .1)) (verdict ts)

@@ -1,0 +1,21 @@
+-- Window sizes (01, "The channel table"). Cited by the window, the table and whatever is lent one. Assumes nothing.
+use Prim.Native.Nat.{ℕ}
+use mathlib.Core.Bool.{Bool, _&&_, _||_}
+use lib.Dec.{eqb, leb}
+use lib.Count.{ones}
+use Rattle.units.specs.Refusals.{pick}
+
+-- what 0 stands for
+unfoldable pub defaultSize : ℕ
+defaultSize = 16
+
+-- exactly one bit set, and at most 128
+abbrev pub isSize : ℕ → Bool
+isSize w = eqb (ones w) 1 && leb w 128
+
+-- what a table may write: 0, or a size
+abbrev pub mayWrite : ℕ → Bool
+mayWrite w = eqb w 0 || isSize w
+
+abbrev pub inForce : ℕ → ℕ
+inForce w = pick (eqb w 0) defaultSize w

@@ -1,0 +1,19 @@
+// What every layer shares: the papers' units, which are never taken for one another; the refusals and
+// their numbers; big-endian numbers and runs of bytes in lent memory.
+// Proved: each function is the definition of specs/ that it cites, for every input; none asks anything
+// of its caller. A read past the end gives 0, a store past the end alters nothing.
+pub mod bytes; // bytes.rt: reading and writing lent bytes
+pub mod sizes; // sizes.rt: which numbers are window sizes, and the default
+pub mod refusals; // refusals.rt: why a call is refused, and what it answers then
+
+// A sequence number, as a frame carries it.
+pub struct Seq(pub u8);
+
+// A channel number.
+pub struct Channel(pub u8);
+
+// A SpaceWire logical address.
+pub struct Address(pub u8);
+
+// A count of payloads from the start of a run on, which no byte folds.
+pub struct Unfolded(pub u32);
