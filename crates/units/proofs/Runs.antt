@@ -3,12 +3,13 @@
 use mathlib.Core.Path.{_≡_, refl, sym, ap, _∙_}
 use mathlib.Core.List.{List, [], _∷_, _++_}
 use mathlib.Core.Logic.{_⊎_, inl, inr}
-use Prim.Native.Nat.{ℕ, zero, suc, _+_, _*_, _≤_, _<_, min}
+use Prim.Native.Nat.{ℕ, zero, suc, _+_, _*_, _-_, _≤_, _<_, min}
 use native.Mathlib.Nat.{add-zero, add-suc, suc-add}
 use native.Mathlib.Numerals.{add-one}
+use native.Mathlib.Decide.{decLe}
 use native.Mathlib.Omega.{arith}
 use lib.ListN.{length, getD, set, take, drop, length-set, length-take, List·getD-eq-default}
-use lib.Seq.{sets, set-out, length-sets, getD-set-same, getD-set-other, take-suc}
+use lib.Seq.{sets, set-out, length-sets, getD-set-same, getD-set-other, take-suc, take-all}
 use Rattle.units.specs.Bytes.{get16Of}
 
 -- a number past the end
@@ -58,3 +59,11 @@ getD-sets-at (v ∷ vs) l i zero d h f = rw (add-zero i) (getD-sets-before vs (s
 getD-sets-at (v ∷ vs) l i (suc k) d h f =
     ap (λ (n : ℕ). getD (sets (set l i v) (suc i) vs) n d) (add-suc i k ∙ sym (suc-add i k))
     ∙ getD-sets-at vs (set l i v) (suc i) k d (omega arith) (rw (length-set l i v) (omega arith))
+
+-- a run that ends with the bytes or with the room is the whole
+pub sets-whole : (s bs : List ℕ) (i k : ℕ) → i ≤ length s → min (length s - i) (length bs) ≤ k → sets s i (take k bs) ≡ sets s i bs
+sets-whole s bs i k f h = sides (decLe (length bs) k)
+  where
+    sides : Dec (length bs ≤ k) → sets s i (take k bs) ≡ sets s i bs
+    sides (yes l) = ap (sets s i) (take-all k bs l)
+    sides (no l) = sets-clip bs s i k (omega arith)

@@ -1,14 +1,12 @@
 -- `units::bytes::put_all` meets its contract. The loop's invariant: the first k bytes are stored. Assumes nothing.
 use mathlib.Core.Path.{_≡_, refl, sym, ap, _∙_}
-use mathlib.Core.List.{List}
-use native.Mathlib.Decide.{decLe}
-use Prim.Native.Nat.{ℕ, _≤_, _<_, _+_, _-_, min}
+use Prim.Native.Nat.{_≤_, _<_, _+_, _-_, min}
 use native.Mathlib.Omega.{arith}
 use borrow.Author.Needs.{needs}
 use denote.Ref.{now}
 use lib.ListN.{length, take}
-use lib.Seq.{sets, length-sets, take-all}
-use Rattle.units.proofs.Runs.{sets-out, sets-more, sets-clip}
+use lib.Seq.{sets, length-sets}
+use Rattle.units.proofs.Runs.{sets-out, sets-more, sets-whole}
 use Rattle.units.proofs.bytes.put_all.Statement.{statement}
 use Rattle.units.proofs.bytes.put_all.Tie as tie
 
@@ -62,19 +60,11 @@ same-length c =
     let a = c .before .before .before .before .before .before .args in
     ap length (l .inv .1 .1 .1) ∙ length-sets (now (a .s)) (a .i) (take (l .k) (now (a .bytes)))
 
--- a run that ends with the bytes or with the room is the whole
-whole : (s bs : List ℕ) (i k : ℕ) → i ≤ length s → min (length s - i) (length bs) ≤ k → sets s i (take k bs) ≡ sets s i bs
-whole s bs i k f h = sides (decLe (length bs) k)
-  where
-    sides : Dec (length bs ≤ k) → sets s i (take k bs) ≡ sets s i bs
-    sides (yes l) = ap (sets s i) (take-all k bs l)
-    sides (no l) = sets-clip bs s i k (omega arith)
-
 returns-2 : tie.Need-returns-2 Inv-loop μ-loop
 returns-2 c =
     let l = c .before .loop in
     let a = c .before .before .before .before .before .before .args in
-    l .inv .1 .1 .1 ∙ whole (now (a .s)) (now (a .bytes)) (a .i) (l .k) (l .inv .1 .0) (omega arith)
+    l .inv .1 .1 .1 ∙ sets-whole (now (a .s)) (now (a .bytes)) (a .i) (l .k) (l .inv .1 .0) (omega arith)
 
 pub put-all-spec : {M : Type 1} → statement M
 put-all-spec =

@@ -1,0 +1,117 @@
+// An arrival: a frame is read, judged, and taken in by the entry it is for.
+// Proved: the answer and what all that was lent holds afterwards are the definitions of specs/Arriving.antt, for every
+// frame and memory; a refused frame alters nothing.
+mod judging; // judging.rt: the tests at an entry
+
+use acking::acknowledge;
+use ends::EndPoint;
+use ends::answers::Arrived;
+use ends::heads::own;
+use ends::heads::protocol;
+use ends::load;
+use frame::FrameType;
+use frame::Header;
+use frame::Read;
+use frame::reading::header;
+use frame::reading::is_sound;
+use frame::reading::payload;
+use judging::judge;
+use lookup::entry_for;
+use receiving::take_data;
+use receiving::take_reset;
+use receiving::take_urgent;
+use units::Seq;
+use units::bytes::byte_at;
+use units::refusals::Refusal;
+use units::refusals::Verdict;
+ghost use mathlib.Core.Path.{_≡_};
+ghost use Prim.Native.Nat.{_<_};
+ghost use lib.ListN.{length};
+ghost use Rattle.arriving.specs.Arriving.{ours, takenAnswer, takenAfter, entryAnswer, entryAfter, entryOf, arrivalAnswer, arrivalAfter};
+
+// Whether destination and protocol ID are ours.
+fn is_ours(node: &[u64], frame: &[u8]) -> bool
+    ensures { λ r. ⌜ r ≡ ours (now (node .entry)) (now (frame .entry)) ⌝ }
+{
+    let us = own(node);
+    if byte_at(frame, 0) == us.0 {
+        return byte_at(frame, 1) == protocol(node);
+    }
+    false
+}
+
+// Entry i, which is e, takes in a frame of type t, number s and payload.
+fn take(
+    node: &mut [u64],
+    book: &mut [u16],
+    store: &mut [u8],
+    out: &mut [u8],
+    i: u8,
+    e: EndPoint,
+    t: FrameType,
+    s: Seq,
+    payload: &[u8],
+) -> Arrived
+    requires { ⌜ length (now payload) < 65536 ⌝ }
+    ensures answer { λ r. ⌜ r ≡ takenAnswer (record { node = now (node .entry); book = now (book .entry); store = now (store .entry); out = now (out .entry) }) i e t (s .0) (now (payload .entry)) ⌝ }
+    ensures after { λ _. ⌜ record { node = now (node .exit); book = now (book .exit); store = now (store .exit); out = now (out .exit) }
+        ≡ takenAfter (record { node = now (node .entry); book = now (book .entry); store = now (store .entry); out = now (out .entry) }) i e t (s .0) (now (payload .entry)) ⌝ }
+{
+    match t {
+        FrameType::Data => take_data(node, book, store, out, i, e, s, payload),
+        FrameType::Acknowledge => acknowledge(node, book, i, e, s),
+        FrameType::Reset => take_reset(node, i, e),
+        FrameType::Urgent => take_urgent(out, payload),
+    }
+}
+
+// A frame with a header comes to entry i.
+fn come(
+    node: &mut [u64],
+    book: &mut [u16],
+    store: &mut [u8],
+    out: &mut [u8],
+    i: u8,
+    h: Header,
+    payload: &[u8],
+) -> Arrived
+    requires { ⌜ length (now payload) < 65536 ⌝ }
+    ensures answer { λ r. ⌜ r ≡ entryAnswer (record { node = now (node .entry); book = now (book .entry); store = now (store .entry); out = now (out .entry) }) i h (now (payload .entry)) ⌝ }
+    ensures after { λ _. ⌜ record { node = now (node .exit); book = now (book .exit); store = now (store .exit); out = now (out .exit) }
+        ≡ entryAfter (record { node = now (node .entry); book = now (book .entry); store = now (store .entry); out = now (out .entry) }) i h (now (payload .entry)) ⌝ }
+{
+    let e = load(node, i as usize);
+    let t = h.kind;
+    match judge(node, i, e, t, h.length, store.len(), out.len()) {
+        Verdict::Refused(w) => Arrived::Refused(w),
+        Verdict::Passed => take(node, book, store, out, i, e, t, h.seq, payload),
+    }
+}
+
+// A frame arrives.
+pub fn arrive(
+    node: &mut [u64],
+    book: &mut [u16],
+    store: &mut [u8],
+    out: &mut [u8],
+    frame: &[u8],
+) -> Arrived
+    ensures answer { λ r. ⌜ r ≡ arrivalAnswer (record { node = now (node .entry); book = now (book .entry); store = now (store .entry); out = now (out .entry) }) (now (frame .entry)) ⌝ }
+    ensures after { λ _. ⌜ record { node = now (node .exit); book = now (book .exit); store = now (store .exit); out = now (out .exit) }
+        ≡ arrivalAfter (record { node = now (node .entry); book = now (book .entry); store = now (store .entry); out = now (out .entry) }) (now (frame .entry)) ⌝ }
+{
+    if is_sound(frame) {
+        if is_ours(node, frame) {
+            match header(frame) {
+                Read::Refused(w) => return Arrived::Refused(w),
+                Read::Frame(h) => {
+                    let t = h.kind;
+                    let i = entry_for(node, t, h.source, h.channel);
+                    return come(node, book, store, out, i, h, payload(frame));
+                }
+            }
+        }
+        return Arrived::Refused(Refusal::NotOurs);
+    }
+    Arrived::Refused(Refusal::BadFrame)
+}

@@ -1,0 +1,23 @@
+-- `blocks::put_none` meets its contract. Assumes nothing.
+use mathlib.Core.Path.{refl}
+use Rattle.units.specs.Bytes.{be16, be32}
+use Rattle.blocks.specs.Blocks.{offsets, joinedUp, blockOf}
+use borrow.Author.Needs.{needs}
+use Rattle.blocks.proofs.put_none.Statement.{statement}
+use Rattle.blocks.proofs.put_none.Tie as tie
+
+put16-requires : tie.Need-put16-requires
+put16-requires c κs = search needs
+
+put-offset-requires : tie.Need-put-offset-requires
+put-offset-requires c κs = search needs
+
+same-length : tie.Need-same-length
+same-length c = search needs
+
+returns : tie.Need-returns
+unfolding blockOf offsets joinedUp be16 be32
+returns c = (refl, rw (c .before .before .put-offset .ensures, c .before .before .before .before .before .before .put16 .ensures))
+
+pub put-none-spec : {M : Type 1} → statement M
+put-none-spec = tie.close (tie.spec put16-requires put-offset-requires same-length returns)

@@ -1,0 +1,44 @@
+-- `blocks::put_one` meets its contract. Assumes nothing.
+use mathlib.Core.Path.{sym}
+use denote.Ref.{now}
+use Rattle.blocks.proofs.Appending.{length-one, sets-one}
+use borrow.Author.Needs.{needs}
+use Rattle.blocks.proofs.put_one.Statement.{statement}
+use Rattle.blocks.proofs.put_one.Tie as tie
+
+add-end : tie.Need-add-end
+add-end c = search needs
+
+put16-requires : tie.Need-put16-requires
+put16-requires c κs = search needs
+
+put-offset-requires : tie.Need-put-offset-requires
+put-offset-requires c κs = search needs
+
+put-offset-requires-2 : tie.Need-put-offset-requires-2
+put-offset-requires-2 c κs = search needs
+
+put-all-requires : tie.Need-put-all-requires
+put-all-requires c κs = search needs
+
+same-length : tie.Need-same-length
+same-length c = search needs
+
+returns : tie.Need-returns
+returns c =
+    let a = c .before .before .before .before .before .before .before .before .before .before .before .before .before .before .before .before .before .before .args in (
+      sym (length-one (now (a .payload))),
+      rw (c .before .before .put-all .ensures, c .before .before .before .before .before .before .put-offset2 .ensures, c .before .before .before .before .before .before .before .before .before .before .put-offset .ensures, c .before .before .before .before .before .before .before .before .before .before .before .before .before .before .put16 .ensures) (sets-one (now (a .out)) (now (a .payload))),
+    )
+
+pub put-one-spec : {M : Type 1} → statement M
+put-one-spec =
+    tie.close
+    (tie.spec
+    add-end
+    put16-requires
+    put-offset-requires
+    put-offset-requires-2
+    put-all-requires
+    same-length
+    returns)

@@ -1,0 +1,24 @@
+-- How a host reads a block: how many payloads, and each from its offset to the next. Cited by the law that nothing is lost in a
+-- block. Assumes nothing.
+use Prim.Native.Nat.{ℕ, zero, suc, _+_, _*_, _-_}
+use mathlib.Core.List.{List, [], _∷_}
+use lib.ListN.{take, drop}
+use Rattle.units.specs.Bytes.{get16Of}
+
+-- the four bytes from i on, as a number
+unfoldable pub get32Of : List ℕ → ℕ → ℕ
+get32Of s i = get16Of s i * 65536 + get16Of s (i + 2)
+
+abbrev pub offsetIn : List ℕ → ℕ → ℕ
+offsetIn s j = get32Of s (2 + 4 * j)
+
+unfoldable pub payloadIn : List ℕ → ℕ → List ℕ
+payloadIn s j = take (offsetIn s (j + 1) - offsetIn s j) (drop (offsetIn s j) s)
+
+-- n payloads from payload j on
+unfoldable pub payloadsIn : List ℕ → ℕ → ℕ → List (List ℕ)
+payloadsIn s j zero = []
+payloadsIn s j (suc n) = payloadIn s j ∷ payloadsIn s (j + 1) n
+
+unfoldable pub readBlock : List ℕ → List (List ℕ)
+readBlock s = payloadsIn s 0 (get16Of s 0)

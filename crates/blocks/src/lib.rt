@@ -1,0 +1,108 @@
+// The host's block: how many payloads it has, where each begins and where the last ends, then the payloads.
+// Proved: what is written is `blockOf` of specs/Blocks.antt, from the first byte on, and the answer is its length;
+// beyond its end nothing alters. proofs/Reading.antt: the payloads can be read out of the block again.
+// `put_one` asks a payload of at most 65,535 bytes, which is more than any frame carries.
+use memory::half_at;
+use slots::cell_of;
+use slots::part;
+use slots::slot_for;
+use slots::spot_of;
+use units::bytes::put_all;
+use units::bytes::put16;
+use units::bytes::put32;
+use window::Window;
+use window::advance;
+ghost use mathlib.Core.Path.{_≡_};
+ghost use mathlib.Core.List.{[], _∷_};
+ghost use Prim.Native.Nat.{_+_, _*_, _<_};
+ghost use lib.ListN.{length};
+ghost use lib.Seq.{sets};
+ghost use Rattle.units.specs.Bytes.{be32};
+ghost use Rattle.blocks.specs.Blocks.{blockOf, payloadAt, payloads};
+
+// The payload of number k past the start.
+fn payload<'a>(
+    store: &'a [u8],
+    book: &[u16],
+    i: u8,
+    place: u16,
+    largest: u16,
+    w: Window,
+    k: u8,
+) -> &'a [u8]
+    ensures is { λ r. ⌜ now r ≡ payloadAt (now (store .entry)) (now (book .entry)) i place largest w k ⌝ }
+    ensures short { λ r. ⌜ length (now r) < 65536 ⌝ }
+{
+    let s = advance(w.start, k);
+    let n = half_at(book, 4224 + cell_of(i, w, s) as usize);
+    part(store, spot_of(place, largest, slot_for(w, s)), n as usize)
+}
+
+// Offset j of a block stored, with one test of the room where all of it fits.
+fn put_offset(out: &mut [u8], j: u8, offset: usize)
+    requires { ⌜ offset < 4294967296 ⌝ }
+    ensures { λ _. ⌜ now (out .exit) ≡ sets (now (out .entry)) (2 + 4 * j) (be32 offset) ⌝ }
+{
+    let at = 2 + 4 * j as usize;
+    if out.len() < at + 4 {
+        put32(out, at, offset as u32);
+        return;
+    }
+    out[at] = (offset / 65536 / 256) as u8;
+    out[at + 1] = (offset / 65536 % 256) as u8;
+    out[at + 2] = (offset % 65536 / 256) as u8;
+    out[at + 3] = (offset % 65536 % 256) as u8;
+}
+
+// The block of the first k payloads of entry i from the start of its window on, as store and book have them;
+// answers its length.
+pub fn put_block(
+    out: &mut [u8],
+    store: &[u8],
+    book: &[u16],
+    i: u8,
+    place: u16,
+    largest: u16,
+    w: Window,
+    k: u8,
+) -> usize
+    ensures length { λ r. ⌜ r ≡ length (blockOf (payloads (now (store .entry)) (now (book .entry)) i place largest w k)) ⌝ }
+    ensures written { λ _. ⌜ now (out .exit) ≡ sets (now (out .entry)) 0 (blockOf (payloads (now (store .entry)) (now (book .entry)) i place largest w k)) ⌝ }
+{
+    put16(out, 0, k as u16);
+    let mut end = 6 + 4 * k as usize;
+    let mut j: u8 = 0;
+    while j < k {
+        let p = payload(store, book, i, place, largest, w, j);
+        put_offset(out, j, end);
+        put_all(out, end, p);
+        end += p.len();
+        j += 1;
+    }
+    put_offset(out, k, end);
+    end
+}
+
+// The block of no payload; answers its length.
+pub fn put_none(out: &mut [u8]) -> usize
+    ensures length { λ r. ⌜ r ≡ length (blockOf []) ⌝ }
+    ensures written { λ _. ⌜ now (out .exit) ≡ sets (now (out .entry)) 0 (blockOf []) ⌝ }
+{
+    put16(out, 0, 0);
+    put_offset(out, 0, 6);
+    6
+}
+
+// The block of one payload; answers its length.
+pub fn put_one(out: &mut [u8], payload: &[u8]) -> usize
+    requires { ⌜ length (now payload) < 65536 ⌝ }
+    ensures length { λ r. ⌜ r ≡ length (blockOf (now (payload .entry) ∷ [])) ⌝ }
+    ensures written { λ _. ⌜ now (out .exit) ≡ sets (now (out .entry)) 0 (blockOf (now (payload .entry) ∷ [])) ⌝ }
+{
+    let end = 10 + payload.len();
+    put16(out, 0, 1);
+    put_offset(out, 0, 10);
+    put_offset(out, 1, end);
+    put_all(out, 10, payload);
+    end
+}

@@ -1,0 +1,2 @@
+pub mod Polynomial
+pub mod Table

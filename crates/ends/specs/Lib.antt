@@ -1,0 +1,5 @@
+pub mod Ends
+pub mod Heads
+pub mod States
+pub mod Lent
+pub mod Answers

@@ -1,0 +1,62 @@
+-- The reader (01, "The frame", "Refusal numbers"): 10, then 12. Cited by its two halves and by whoever tests 11 between them.
+-- Assumes nothing.
+use Prim.Native.Nat.{ℕ, _+_}
+use mathlib.Core.Bool.{Bool, _&&_, not}
+use mathlib.Core.List.{List, [], _∷_}
+use lib.Dec.{eqb, leb}
+use lib.ListN.{length, getD}
+use Rattle.units.specs.Bytes.{get16Of}
+use Rattle.units.specs.Refusals.{verdict}
+use Rattle.units.specs.declared.refusals.Refusal.{Refusal}
+use Rattle.units.specs.declared.refusals.Refusal.the-variants as refusal
+use Rattle.units.specs.declared.refusals.Verdict.{Verdict}
+use Rattle.units.specs.declared.refusals.Verdict.the-variants as verdicts
+use Rattle.check8.specs.Polynomial.{checkOf}
+use Rattle.frame.specs.declared.FrameType.{FrameType}
+use Rattle.frame.specs.declared.Header.{Header}
+use Rattle.frame.specs.declared.Read.{Read}
+use Rattle.frame.specs.declared.Read.the-variants.{Frame, Refused}
+use Rattle.frame.specs.Types.{typeOf, suits, seqReads, seqGiven}
+use Rattle.frame.specs.Layout.{typeAt, userAt}
+
+-- 9 bytes or more, as many as the length field says, and a check byte of 0 over the whole
+unfoldable pub soundOf : List ℕ → Bool
+soundOf f = leb 9 (length f) && eqb (get16Of f 4 + 9) (length f) && eqb (checkOf f) 0
+
+-- refusal 12 of a known type: user bits, payload length, a Reset's sequence
+abbrev pub typedTests : FrameType → List ℕ → List (Bool × Refusal)
+typedTests t f =
+    (not (eqb (userAt f) 0), refusal.AgainstRules)
+    ∷ (not (suits t (get16Of f 4)), refusal.AgainstRules)
+    ∷ (not (seqReads t (getD f 7 0)), refusal.AgainstRules)
+    ∷ []
+
+-- refusal 12
+abbrev pub headerTests : List ℕ → List (Bool × Refusal)
+headerTests f = (leb 4 (typeAt f), refusal.AgainstRules) ∷ typedTests (typeOf (typeAt f)) f
+
+-- the fields, of a frame of a known type
+abbrev pub headerAt : FrameType → List ℕ → Header
+headerAt t f =
+    record {
+      destination = record { 0 = getD f 0 0 };
+      protocol = getD f 1 0;
+      source = record { 0 = getD f 2 0 };
+      kind = t;
+      channel = record { 0 = getD f 6 0 };
+      seq = record { 0 = seqGiven t (getD f 7 0) };
+      length = get16Of f 4;
+    }
+
+-- the fields where the tests pass
+abbrev pub readAs : Verdict → Header → Read
+readAs verdicts.Passed h = Frame h
+readAs (verdicts.Refused w) h = Refused w
+
+-- the second half: 12
+unfoldable pub headerOf : List ℕ → Read
+headerOf f = readAs (verdict (headerTests f)) (headerAt (typeOf (typeAt f)) f)
+
+-- the whole reader: 10, then 12
+unfoldable pub readOf : List ℕ → Read
+readOf f = readAs (verdict ((not (soundOf f), refusal.BadFrame) ∷ headerTests f)) (headerAt (typeOf (typeAt f)) f)

@@ -1,0 +1,60 @@
+-- The four types of frame (01, "The frame"): their numbers, and what each asks of payload and sequence. Cited by reader and writer.
+-- Assumes nothing.
+use Prim.Native.Nat.{ℕ, zero, suc}
+use mathlib.Core.Bool.{Bool, true, false, _&&_}
+use lib.Dec.{eqb, leb}
+use Rattle.units.specs.Refusals.{pick}
+use Rattle.frame.specs.declared.FrameType.{FrameType}
+use Rattle.frame.specs.declared.FrameType.the-variants.{Data, Acknowledge, Reset, Urgent}
+use Rattle.frame.specs.declared.types.Known.{Known}
+use Rattle.frame.specs.declared.types.Known.the-variants.{Is, Unknown}
+
+-- a type's number
+abbrev pub typeNumber : FrameType → ℕ
+typeNumber Data = 0
+typeNumber Acknowledge = 1
+typeNumber Reset = 2
+typeNumber Urgent = 3
+
+-- the type of a number below 4
+abbrev pub typeOf : ℕ → FrameType
+typeOf zero = Data
+typeOf (suc zero) = Acknowledge
+typeOf (suc (suc zero)) = Reset
+typeOf (suc (suc (suc n))) = Urgent
+
+-- 4 and above stand for none
+abbrev pub knownOf : ℕ → Known
+knownOf n = pick (leb 4 n) Unknown (Is (typeOf n))
+
+-- whether frames of a type have a payload
+abbrev pub carries : FrameType → Bool
+carries Data = true
+carries Acknowledge = false
+carries Reset = false
+carries Urgent = true
+
+-- whether a payload of n bytes fits a type
+abbrev pub suits : FrameType → ℕ → Bool
+suits t n = pick (carries t) (leb 1 n && leb n 65520) (eqb n 0)
+
+-- whether a frame of a type may be read with a sequence: a Reset's is 0
+abbrev pub seqReads : FrameType → ℕ → Bool
+seqReads Data s = true
+seqReads Acknowledge s = true
+seqReads Reset s = eqb s 0
+seqReads Urgent s = true
+
+-- whether it may be written with one: an Urgent's is 0 too
+abbrev pub seqWrites : FrameType → ℕ → Bool
+seqWrites Data s = true
+seqWrites Acknowledge s = true
+seqWrites Reset s = eqb s 0
+seqWrites Urgent s = eqb s 0
+
+-- the sequence that the reader gives: an Urgent's is not looked at
+abbrev pub seqGiven : FrameType → ℕ → ℕ
+seqGiven Data s = s
+seqGiven Acknowledge s = s
+seqGiven Reset s = s
+seqGiven Urgent s = 0

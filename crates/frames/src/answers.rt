@@ -1,0 +1,150 @@
+// What each kind of record prints after its number and kind.
+use crate::records::get32;
+use frame::Fields;
+use frame::Header;
+use frame::Read;
+use frame::Written;
+use frame::reading::payload;
+use frame::reading::read;
+use frame::type_number;
+use frame::writing::write;
+use lines::number;
+use lines::text;
+use units::Address;
+use units::Channel;
+use units::Seq;
+use units::bytes::byte_at;
+use units::refusals::Refusal;
+
+// A number of the line, with the space before it.
+pub fn value(out: &mut [u8], at: usize, v: u64) -> usize {
+    let next = text(out, at, b" ");
+    number(out, next, v)
+}
+
+// The numbers of a slice.
+fn numbers(out: &mut [u8], at: usize, vs: &[u64]) -> usize {
+    let mut next = at;
+    let mut i = 0;
+    while i < vs.len() {
+        next = value(out, next, vs[i]);
+        i += 1;
+    }
+    next
+}
+
+// The bytes of a slice.
+fn values(out: &mut [u8], at: usize, bytes: &[u8]) -> usize {
+    let mut next = at;
+    let mut i = 0;
+    while i < bytes.len() {
+        let b = byte_at(bytes, i);
+        next = value(out, next, b as u64);
+        i += 1;
+    }
+    next
+}
+
+// A refusal's number.
+fn refused(out: &mut [u8], at: usize, why: Refusal) -> usize {
+    let n = units::refusals::number(why);
+    value(out, at, n as u64)
+}
+
+// A frame that the reader takes: 0, its fields, its payload.
+fn taken(out: &mut [u8], at: usize, h: Header, frame: &[u8]) -> usize {
+    let kind = h.kind;
+    let fields = [
+        0,
+        h.destination.0 as u64,
+        h.protocol as u64,
+        h.source.0 as u64,
+        type_number(kind) as u64,
+        h.channel.0 as u64,
+        h.seq.0 as u64,
+        h.length as u64,
+    ];
+    let next = numbers(out, at, &fields);
+    values(out, next, payload(frame))
+}
+
+// Kind 1: the reader.
+fn reading(out: &mut [u8], at: usize, bytes: &[u8]) -> usize {
+    match read(bytes) {
+        Read::Frame(h) => taken(out, at, h, bytes),
+        Read::Refused(why) => refused(out, at, why),
+    }
+}
+
+// All of a slice set to 165.
+fn fill(buffer: &mut [u8]) {
+    let mut i = 0;
+    while i < buffer.len() {
+        buffer[i] = 165;
+        i += 1;
+    }
+}
+
+// The bytes of a slice from an index on.
+fn rest(bytes: &[u8], from: usize) -> &[u8] {
+    if bytes.len() < from {
+        return &bytes[..0];
+    }
+    &bytes[from..]
+}
+
+// The fields at the start of a record to write.
+fn fields_of(bytes: &[u8]) -> Fields {
+    Fields {
+        destination: Address(byte_at(bytes, 0)),
+        protocol: byte_at(bytes, 1),
+        source: Address(byte_at(bytes, 2)),
+        kind: byte_at(bytes, 3),
+        user: byte_at(bytes, 4),
+        channel: Channel(byte_at(bytes, 5)),
+        seq: Seq(byte_at(bytes, 6)),
+    }
+}
+
+// What the writer answers: 0 and the frame's length, or the refusal.
+fn written(out: &mut [u8], at: usize, answer: Written) -> usize {
+    match answer {
+        Written::Length(n) => {
+            let next = value(out, at, 0);
+            value(out, next, n as u64)
+        }
+        Written::Refused(why) => refused(out, at, why),
+    }
+}
+
+// The writer's answer with a buffer, and the buffer afterwards.
+fn writing_into(out: &mut [u8], at: usize, bytes: &[u8], buffer: &mut [u8]) -> usize {
+    fill(buffer);
+    let answer = write(buffer, fields_of(bytes), rest(bytes, 11));
+    let next = written(out, at, answer);
+    values(out, next, buffer)
+}
+
+// Kind 2: the writer, with as much of the buffer as the record asks for.
+fn writing(out: &mut [u8], at: usize, bytes: &[u8], buffer: &mut [u8]) -> usize {
+    let asked = get32(bytes, 7);
+    if asked < buffer.len() {
+        return writing_into(out, at, bytes, &mut buffer[..asked]);
+    }
+    writing_into(out, at, bytes, buffer)
+}
+
+// Kind 3: the check byte.
+fn checking(out: &mut [u8], at: usize, bytes: &[u8]) -> usize {
+    let next = value(out, at, 0);
+    value(out, next, check8::check(bytes) as u64)
+}
+
+// The record's line from the refusal on.
+pub fn answer(out: &mut [u8], at: usize, kind: u8, bytes: &[u8], buffer: &mut [u8]) -> usize {
+    match kind {
+        1 => reading(out, at, bytes),
+        2 => writing(out, at, bytes, buffer),
+        _ => checking(out, at, bytes),
+    }
+}

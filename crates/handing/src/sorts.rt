@@ -1,0 +1,192 @@
+// Each sort of what waits, handed out: its frame into the buffer, and what that leaves of node and book.
+// Among what waits entry i's Reset is 16 + i, its Urgent 32 + i, and the payload in cell g is 64 + g.
+use super::frames::fields_to;
+use super::frames::put_frame;
+use ends::Run;
+use ends::State;
+use ends::answers::HandedOut;
+use ends::load;
+use ends::load_entry;
+use ends::load_run;
+use ends::load_state;
+use ends::save;
+use ends::states::without_urgent;
+use frame::FrameType;
+use memory::half_at;
+use memory::put_half;
+use memory::word_at;
+use slots::number_in;
+use slots::part;
+use slots::spot_of;
+use units::Seq;
+use waiting::acks::Ack;
+use waiting::acks::pop;
+use waiting::queues::unlink;
+ghost use mathlib.Core.Path.{_≡_};
+ghost use Prim.Native.Nat.{_-_, _<_};
+ghost use lib.Seq.{sets};
+ghost use Rattle.waiting.specs.Queues.{unlinked};
+ghost use Rattle.waiting.specs.Acks.{popped};
+ghost use Rattle.ends.specs.Ends.{endOf};
+ghost use Rattle.handing.specs.Handing.{fitted, once, ackFrame, resetFrame, urgentFrame, dataFrame, resetEntry, urgentEntry, slotEntry, resetNode, urgentNode, dataNode, timed, handedRun};
+
+// a less b, and 0 where b is more.
+fn less(a: u16, b: u16) -> u16
+    ensures { λ r. ⌜ r ≡ a - b ⌝ }
+{
+    if a <= b {
+        return 0;
+    }
+    a - b
+}
+
+// An acknowledgement.
+pub fn put_ack(node: &mut [u64], frame: &mut [u8], a: Ack) -> HandedOut
+    ensures answer { λ r. ⌜ r ≡ fitted (now (frame .entry)) (ackFrame (now (node .entry)) a) ⌝ }
+    ensures node { λ r. ⌜ now (node .exit) ≡ once r (now (node .entry)) (popped (now (node .entry))) ⌝ }
+    ensures frame { λ r. ⌜ now (frame .exit) ≡ once r (now (frame .entry)) (sets (now (frame .entry)) 0 (ackFrame (now (node .entry)) a)) ⌝ }
+{
+    let entry = load_entry(node, a.entry as usize);
+    let fields = fields_to(node, entry, FrameType::Acknowledge, a.seq);
+    match put_frame(frame, fields, b"") {
+        HandedOut::Refused(w) => HandedOut::Refused(w),
+        HandedOut::Length(n) => {
+            pop(node);
+            HandedOut::Length(n)
+        }
+    }
+}
+
+// The Reset that is x in its queue: its timer starts, and one went out.
+pub fn put_reset(node: &mut [u64], book: &mut [u16], frame: &mut [u8], x: u16) -> HandedOut
+    ensures answer { λ r. ⌜ r ≡ fitted (now (frame .entry)) (resetFrame (now (node .entry)) x) ⌝ }
+    ensures node { λ r. ⌜ now (node .exit) ≡ once r (now (node .entry)) (resetNode (now (node .entry)) (resetEntry x) (endOf (now (node .entry)) (resetEntry x))) ⌝ }
+    ensures book { λ r. ⌜ now (book .exit) ≡ once r (now (book .entry)) (unlinked (now (book .entry)) x) ⌝ }
+    ensures frame { λ r. ⌜ now (frame .exit) ≡ once r (now (frame .entry)) (sets (now (frame .entry)) 0 (resetFrame (now (node .entry)) x)) ⌝ }
+{
+    let i = (less(x, 16) % 256) as usize;
+    let e = load(node, i);
+    let fields = fields_to(node, e.entry, FrameType::Reset, Seq(0));
+    match put_frame(frame, fields, b"") {
+        HandedOut::Refused(w) => HandedOut::Refused(w),
+        HandedOut::Length(n) => {
+            unlink(book, x);
+            save(node, i, State::Enabled(e.entry.timeout, true), e.run);
+            HandedOut::Length(n)
+        }
+    }
+}
+
+// The Urgent that is x in its queue: it waits no more.
+pub fn put_urgent(
+    node: &mut [u64],
+    book: &mut [u16],
+    store: &[u8],
+    frame: &mut [u8],
+    x: u16,
+) -> HandedOut
+    ensures answer { λ r. ⌜ r ≡ fitted (now (frame .entry)) (urgentFrame (now (node .entry)) (now (store .entry)) x) ⌝ }
+    ensures node { λ r. ⌜ now (node .exit) ≡ once r (now (node .entry)) (urgentNode (now (node .entry)) (urgentEntry x) (endOf (now (node .entry)) (urgentEntry x))) ⌝ }
+    ensures book { λ r. ⌜ now (book .exit) ≡ once r (now (book .entry)) (unlinked (now (book .entry)) x) ⌝ }
+    ensures frame { λ r. ⌜ now (frame .exit) ≡ once r (now (frame .entry)) (sets (now (frame .entry)) 0 (urgentFrame (now (node .entry)) (now (store .entry)) x)) ⌝ }
+{
+    let i = (less(x, 32) % 256) as usize;
+    let e = load(node, i);
+    let state = e.state;
+    let run = e.run;
+    let fields = fields_to(node, e.entry, FrameType::Urgent, Seq(0));
+    let spot = spot_of(e.place, e.entry.largest, run.window.size);
+    match put_frame(frame, fields, part(store, spot, run.urgent as usize)) {
+        HandedOut::Refused(w) => HandedOut::Refused(w),
+        HandedOut::Length(n) => {
+            unlink(book, x);
+            save(node, i, state, without_urgent(run));
+            HandedOut::Length(n)
+        }
+    }
+}
+
+// The entry of the slot that is x in its queue.
+fn entry_of(x: u16) -> usize
+    ensures { λ r. ⌜ r ≡ slotEntry x ⌝ }
+{
+    (less(x, 64) / 128 % 256) as usize
+}
+
+// Where the part of the store begins that is entry i's.
+fn place_of(node: &[u64], i: usize) -> u16
+    requires { ⌜ i < 4096 ⌝ }
+    ensures { λ r. ⌜ r ≡ endOf (now (node .entry)) i .place ⌝ }
+{
+    (word_at(node, 64 + 32 * i + 7) % 65536) as u16
+}
+
+// The run of entry i.
+fn run_of(node: &[u64], i: usize) -> Run
+    requires { ⌜ i < 4096 ⌝ }
+    ensures { λ r. ⌜ r ≡ endOf (now (node .entry)) i .run ⌝ }
+{
+    load_run(node, i, (load_entry(node, i).window % 256) as u8)
+}
+
+// The retransmission that is x in its queue: its timer starts.
+pub fn put_again(
+    node: &[u64],
+    book: &mut [u16],
+    store: &[u8],
+    frame: &mut [u8],
+    x: u16,
+) -> HandedOut
+    ensures answer { λ r. ⌜ r ≡ fitted (now (frame .entry)) (dataFrame (now (node .entry)) (now (book .entry)) (now (store .entry)) x) ⌝ }
+    ensures book { λ r. ⌜ now (book .exit) ≡ once r (now (book .entry)) (timed (now (node .entry)) (now (book .entry)) x) ⌝ }
+    ensures frame { λ r. ⌜ now (frame .exit) ≡ once r (now (frame .entry)) (sets (now (frame .entry)) 0 (dataFrame (now (node .entry)) (now (book .entry)) (now (store .entry)) x)) ⌝ }
+{
+    let i = entry_of(x);
+    let g = less(x, 64);
+    let slot = (g % 128) as u8;
+    let entry = load_entry(node, i);
+    let number = number_in(run_of(node, i).window, slot);
+    let fields = fields_to(node, entry, FrameType::Data, number);
+    let length = half_at(book, 4224 + g as usize);
+    let spot = spot_of(place_of(node, i), entry.largest, slot);
+    match put_frame(frame, fields, part(store, spot, length as usize)) {
+        HandedOut::Refused(w) => HandedOut::Refused(w),
+        HandedOut::Length(n) => {
+            unlink(book, x);
+            put_half(book, 6272 + g as usize, entry.timeout);
+            HandedOut::Length(n)
+        }
+    }
+}
+
+// The run with one number more handed out.
+fn handed_run(mut r: Run) -> Run
+    ensures { λ n. ⌜ n ≡ handedRun r ⌝ }
+{
+    r.handed = std::num::wrapping_add_u8(r.handed, 1);
+    r
+}
+
+// The data that is x in its queue: its timer starts, and one number more is handed out.
+pub fn put_data(
+    node: &mut [u64],
+    book: &mut [u16],
+    store: &[u8],
+    frame: &mut [u8],
+    x: u16,
+) -> HandedOut
+    ensures answer { λ r. ⌜ r ≡ fitted (now (frame .entry)) (dataFrame (now (node .entry)) (now (book .entry)) (now (store .entry)) x) ⌝ }
+    ensures node { λ r. ⌜ now (node .exit) ≡ once r (now (node .entry)) (dataNode (now (node .entry)) (slotEntry x) (endOf (now (node .entry)) (slotEntry x))) ⌝ }
+    ensures book { λ r. ⌜ now (book .exit) ≡ once r (now (book .entry)) (timed (now (node .entry)) (now (book .entry)) x) ⌝ }
+    ensures frame { λ r. ⌜ now (frame .exit) ≡ once r (now (frame .entry)) (sets (now (frame .entry)) 0 (dataFrame (now (node .entry)) (now (book .entry)) (now (store .entry)) x)) ⌝ }
+{
+    match put_again(node, book, store, frame, x) {
+        HandedOut::Refused(w) => HandedOut::Refused(w),
+        HandedOut::Length(n) => {
+            let i = entry_of(x);
+            let state = load_state(node, i);
+            save(node, i, state, handed_run(run_of(node, i)));
+            HandedOut::Length(n)
+        }
+    }
+}

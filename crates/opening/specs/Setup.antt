@@ -1,0 +1,55 @@
+-- Setup (01, "End points"): which answer, and what node and book hold afterwards. Cited by setup. Assumes nothing.
+use Prim.Native.Nat.{ℕ, zero, suc}
+use mathlib.Core.Bool.{not}
+use mathlib.Core.List.{List, [], _∷_}
+use lib.ListN.{length, replicate}
+use lib.Seq.{sets}
+use lib.Dec.{ltb}
+use Rattle.units.specs.Refusals.{verdict}
+use Rattle.units.specs.declared.refusals.Refusal.the-variants as refusal
+use Rattle.units.specs.declared.refusals.Verdict.{Verdict}
+use Rattle.units.specs.declared.refusals.Verdict.the-variants.{Passed, Refused}
+use Rattle.memory.specs.Layout.{resets, urgents, resends, datas}
+use Rattle.waiting.specs.Queues.{joined}
+use Rattle.window.specs.Windows.{newOf}
+use Rattle.table.specs.Layout.{countOf, ownOf, protocolOf, entryOf}
+use Rattle.table.specs.Areas.{placeOf, storeOf}
+use Rattle.table.specs.Rules.{goodTable}
+use Rattle.ends.specs.Ends.{saved, savedEntry}
+use Rattle.ends.specs.Lent.{Lent}
+use Rattle.ends.specs.declared.State.the-variants.{Closed}
+use Rattle.ends.specs.declared.Run.{Run}
+
+-- 1, 6
+unfoldable pub setupAnswer : Lent → List ℕ → Verdict
+setupAnswer x t =
+    verdict ((not (goodTable t), refusal.BadTable) ∷ (ltb (length (x .store)) (storeOf t), refusal.TooShort) ∷ [])
+
+-- start 1, nothing taken, counts 0
+abbrev pub firstRun : Run
+firstRun = record { window = newOf 0; taken = 0; handed = 0; accepted = record { 0 = 0 }; confirmed = record { 0 = 0 }; urgent = 0 }
+
+-- the head, then the first k entries, each Closed
+abbrev pub headed : List ℕ → List ℕ → List ℕ
+headed t ws = sets ws 0 (countOf t ∷ ownOf t .0 ∷ protocolOf t ∷ storeOf t ∷ [])
+
+abbrev pub entered : List ℕ → ℕ → List ℕ → List ℕ
+entered t k ws = saved (savedEntry ws k (entryOf t k) (placeOf t k)) k Closed firstRun
+
+unfoldable pub tabled : List ℕ → ℕ → List ℕ → List ℕ
+tabled t zero ws = ws
+tabled t (suc k) ws = entered t k (tabled t k ws)
+
+-- nothing waits: each queue is followed by itself
+unfoldable pub emptied : List ℕ → List ℕ
+emptied b = joined (joined (joined (joined b resets resets) urgents urgents) resends resends) datas datas
+
+unfoldable pub setupAfter : Lent → List ℕ → Verdict → Lent
+setupAfter x t (Refused w) = x
+setupAfter x t Passed =
+    record {
+      node = tabled t (countOf t) (headed t (replicate (length (x .node)) 0));
+      book = emptied (x .book);
+      store = x .store;
+      out = x .out;
+    }

@@ -1,0 +1,125 @@
+-- Send and Urgent (01, "End points", "Refusal numbers"): which answer, and what all that was lent holds afterwards. Cited by both
+-- calls. Assumes nothing.
+use Prim.Native.Nat.{ℕ, _+_}
+use mathlib.Core.Bool.{Bool, not}
+use mathlib.Core.List.{List, [], _∷_, _++_}
+use lib.ListN.{length, set}
+use lib.Seq.{sets}
+use lib.Dec.{eqb, leb, ltb}
+use Rattle.units.specs.Refusals.{verdict}
+use Rattle.units.specs.declared.refusals.Refusal.{Refusal}
+use Rattle.units.specs.declared.refusals.Refusal.the-variants as refusal
+use Rattle.units.specs.declared.refusals.Verdict.{Verdict}
+use Rattle.units.specs.declared.refusals.Verdict.the-variants.{Passed, Refused}
+use Rattle.memory.specs.Layout.{datas, urgents, urgentId, slotId, lengthAt, retriesAt}
+use Rattle.waiting.specs.Queues.{appended}
+use Rattle.ends.specs.Ends.{endOf, saved}
+use Rattle.ends.specs.Heads.{countIn, needIn}
+use Rattle.ends.specs.States.{isSends, isOpen}
+use Rattle.ends.specs.Lent.{Lent}
+use Rattle.ends.specs.declared.EndPoint.{EndPoint}
+use Rattle.ends.specs.declared.Run.{Run}
+use Rattle.slots.specs.Slots.{slotFor, cell, spot, past}
+
+-- what both ask of an end point: 3, 4, and of a payload of n bytes 5
+abbrev pub senderTests : EndPoint → ℕ → List (Bool × Refusal)
+senderTests e n =
+    (not (isSends (e .entry .kind)), refusal.OtherKind)
+    ∷ (not (isOpen (e .state)), refusal.WrongState)
+    ∷ (eqb n 0, refusal.PayloadLength)
+    ∷ (ltb (e .entry .largest) n, refusal.PayloadLength)
+    ∷ []
+
+-- ---- send: 2, 3, 4, 5, 8, 7, 6
+
+-- of the run, and of a store of room bytes where need are in use: 8, 7, 6
+abbrev pub runTests : Run → ℕ → ℕ → List (Bool × Refusal)
+runTests r room need =
+    (eqb (r .accepted .0) 4294967295, refusal.RunFull)
+    ∷ (leb (r .window .size) (r .taken), refusal.WindowFull)
+    ∷ (ltb room need, refusal.TooShort)
+    ∷ []
+
+abbrev pub sendTests : EndPoint → ℕ → ℕ → ℕ → List (Bool × Refusal)
+sendTests e n room need = senderTests e n ++ runTests (e .run) room need
+
+unfoldable pub sendAnswer : Lent → ℕ → List ℕ → Verdict
+sendAnswer x i p =
+    verdict
+    ((leb (countIn (x .node)) i, refusal.NoEntry)
+    ∷ sendTests (endOf (x .node) i) (length p) (length (x .store)) (needIn (x .node)))
+
+-- the number that the next payload takes
+abbrev pub nextNumber : Run → ℕ
+nextNumber r = past (r .window) (r .taken)
+
+-- one payload more is taken and accepted
+unfoldable pub sentRun : Run → Run
+sentRun r =
+    record {
+      window = r .window;
+      taken = r .taken + 1;
+      handed = r .handed;
+      accepted = record { 0 = r .accepted .0 + 1 };
+      confirmed = r .confirmed;
+      urgent = r .urgent;
+    }
+
+-- the cell g has a payload of n bytes that was never sent again, and waits as data
+unfoldable pub sentBook : List ℕ → ℕ → ℕ → List ℕ
+sentBook b g n = appended (set (set b (lengthAt g) n) (retriesAt g) 0) datas (slotId g)
+
+-- the payload lies in its slot; its number waits
+abbrev pub sent : Lent → ℕ → EndPoint → List ℕ → Lent
+sent x i e p =
+    record {
+      node = saved (x .node) i (e .state) (sentRun (e .run));
+      book = sentBook (x .book) (cell i (e .run .window) (nextNumber (e .run))) (length p);
+      store = sets (x .store) (spot (e .place) (e .entry .largest) (slotFor (e .run .window) (nextNumber (e .run)))) p;
+      out = x .out;
+    }
+
+unfoldable pub sendAfter : Lent → ℕ → List ℕ → Verdict → Lent
+sendAfter x i p (Refused w) = x
+sendAfter x i p Passed = sent x i (endOf (x .node) i) p
+
+-- ---- Urgent: 2, 3, 4, 5, 9, 6
+
+-- of the Urgent that waits, and of the store: 9, 6
+abbrev pub waitTests : Run → ℕ → ℕ → List (Bool × Refusal)
+waitTests r room need = (not (eqb (r .urgent) 0), refusal.UrgentWaits) ∷ (ltb room need, refusal.TooShort) ∷ []
+
+abbrev pub urgentTests : EndPoint → ℕ → ℕ → ℕ → List (Bool × Refusal)
+urgentTests e n room need = senderTests e n ++ waitTests (e .run) room need
+
+unfoldable pub urgentAnswer : Lent → ℕ → List ℕ → Verdict
+urgentAnswer x i p =
+    verdict
+    ((leb (countIn (x .node)) i, refusal.NoEntry)
+    ∷ urgentTests (endOf (x .node) i) (length p) (length (x .store)) (needIn (x .node)))
+
+-- an Urgent of n bytes waits
+unfoldable pub urgentRun : Run → ℕ → Run
+urgentRun r n =
+    record {
+      window = r .window;
+      taken = r .taken;
+      handed = r .handed;
+      accepted = r .accepted;
+      confirmed = r .confirmed;
+      urgent = n;
+    }
+
+-- it lies in the sender's last slot
+abbrev pub urged : Lent → ℕ → EndPoint → List ℕ → Lent
+urged x i e p =
+    record {
+      node = saved (x .node) i (e .state) (urgentRun (e .run) (length p));
+      book = appended (x .book) urgents (urgentId i);
+      store = sets (x .store) (spot (e .place) (e .entry .largest) (e .run .window .size)) p;
+      out = x .out;
+    }
+
+unfoldable pub urgentAfter : Lent → ℕ → List ℕ → Verdict → Lent
+urgentAfter x i p (Refused w) = x
+urgentAfter x i p Passed = urged x i (endOf (x .node) i) p

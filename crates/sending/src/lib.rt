@@ -1,0 +1,123 @@
+// Send and Urgent: the host hands over a payload. It is put into its slot of the lent store and waits to be
+// handed out.
+// Proved: which answer is given, and what the node, the book and the store hold afterwards, for every memory and
+// every payload; a refused call alters nothing. specs/Sending.antt states both calls.
+mod judging; // judging.rt: which of the two calls are refused
+
+use ends::Run;
+use ends::State;
+use ends::heads::count;
+use ends::heads::need;
+use ends::load;
+use ends::save;
+use judging::judge_send;
+use judging::judge_urgent;
+use memory::put_half;
+use slots::cell_of;
+use slots::slot_for;
+use slots::spot_of;
+use units::Seq;
+use units::Unfolded;
+use units::bytes::put_all;
+use units::refusals::Refusal;
+use units::refusals::Verdict;
+use waiting::queues::append;
+use window::Window;
+use window::advance;
+ghost use mathlib.Core.Path.{_≡_};
+ghost use mathlib.Core.List.{[]};
+ghost use Prim.Native.Nat.{_<_};
+ghost use Rattle.slots.specs.Slots.{cell};
+ghost use Rattle.sending.specs.Sending.{sendAnswer, sendAfter, sentRun, sentBook, urgentAnswer, urgentAfter, urgentRun};
+
+// The host sends a payload: it takes the next sequence number and waits as data.
+pub fn send(
+    node: &mut [u64],
+    book: &mut [u16],
+    store: &mut [u8],
+    index: usize,
+    payload: &[u8],
+) -> Verdict
+    ensures { λ r. ⌜ r ≡ sendAnswer (record { node = now (node .entry); book = now (book .entry); store = now (store .entry); out = [] }) index (now (payload .entry)) ⌝ }
+    ensures { λ r. ⌜ record { node = now (node .exit); book = now (book .exit); store = now (store .exit); out = [] }
+        ≡ sendAfter (record { node = now (node .entry); book = now (book .entry); store = now (store .entry); out = [] }) index (now (payload .entry)) r ⌝ }
+{
+    if count(node) as usize <= index {
+        return Verdict::Refused(Refusal::NoEntry);
+    }
+    let e = load(node, index);
+    let v = judge_send(e, payload.len(), store.len(), need(node));
+    let Verdict::Refused(why) = v else {
+        let run = e.run;
+        let window = run.window;
+        let s = advance(window.start, run.taken);
+        wait_as_data(book, index as u8, window, s, payload.len() as u16);
+        let at = spot_of(e.place, e.entry.largest, slot_for(window, s));
+        put_all(store, at, payload);
+        save(node, index, State::Open, sent_run(run));
+        return Verdict::Passed;
+    };
+    Verdict::Refused(why)
+}
+
+// The host sends an Urgent: it lies in the sender's last slot and waits.
+pub fn urgent(
+    node: &mut [u64],
+    book: &mut [u16],
+    store: &mut [u8],
+    index: usize,
+    payload: &[u8],
+) -> Verdict
+    ensures { λ r. ⌜ r ≡ urgentAnswer (record { node = now (node .entry); book = now (book .entry); store = now (store .entry); out = [] }) index (now (payload .entry)) ⌝ }
+    ensures { λ r. ⌜ record { node = now (node .exit); book = now (book .exit); store = now (store .exit); out = [] }
+        ≡ urgentAfter (record { node = now (node .entry); book = now (book .entry); store = now (store .entry); out = [] }) index (now (payload .entry)) r ⌝ }
+{
+    if count(node) as usize <= index {
+        return Verdict::Refused(Refusal::NoEntry);
+    }
+    let e = load(node, index);
+    let v = judge_urgent(e, payload.len(), store.len(), need(node));
+    let Verdict::Refused(why) = v else {
+        let run = e.run;
+        append(book, 1, 32 + index as u16);
+        let at = spot_of(e.place, e.entry.largest, run.window.size);
+        put_all(store, at, payload);
+        save(
+            node,
+            index,
+            State::Open,
+            urgent_run(run, payload.len() as u16),
+        );
+        return Verdict::Passed;
+    };
+    Verdict::Refused(why)
+}
+
+// The run with one payload more taken and accepted.
+fn sent_run(mut r: Run) -> Run
+    requires { ⌜ (r .taken < 255) × (r .accepted .0 < 4294967295) ⌝ }
+    ensures { λ n. ⌜ n ≡ sentRun r ⌝ }
+{
+    let accepted = Unfolded(r.accepted.0 + 1);
+    r.taken += 1;
+    r.accepted = accepted;
+    r
+}
+
+// The run with an Urgent of n bytes waiting.
+fn urgent_run(mut r: Run, n: u16) -> Run
+    ensures { λ u. ⌜ u ≡ urgentRun r n ⌝ }
+{
+    r.urgent = n;
+    r
+}
+
+// Number s of entry i is a payload of n bytes that was never sent again, and waits as data.
+fn wait_as_data(book: &mut [u16], i: u8, w: Window, s: Seq, n: u16)
+    ensures { λ _. ⌜ now (book .exit) ≡ sentBook (now (book .entry)) (cell i w (s .0)) n ⌝ }
+{
+    let g = cell_of(i, w, s);
+    put_half(book, 4224 + g as usize, n);
+    put_half(book, 8320 + g as usize, 0);
+    append(book, 3, 64 + g)
+}

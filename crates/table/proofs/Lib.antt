@@ -1,0 +1,4 @@
+pub mod Every
+mod Past
+pub mod Places
+pub mod Good

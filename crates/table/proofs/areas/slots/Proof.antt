@@ -1,0 +1,22 @@
+-- `table::areas::slots` meets its contract. Assumes nothing.
+use borrow.Author.Needs.{needs}
+use Rattle.table.proofs.areas.slots.Statement.{statement}
+use Rattle.table.proofs.areas.slots.Tie as tie
+
+enum-told : tie.Need-enum-told
+enum-told c = search needs
+
+add-result : tie.Need-add-result
+add-result c = search needs
+
+enum-told-2 : tie.Need-enum-told-2
+enum-told-2 c = search needs
+
+returns : tie.Need-returns
+returns c = rw (c .enum-told .given .1)
+
+returns-2 : tie.Need-returns-2
+returns-2 c = search needs
+
+pub slots-spec : {M : Type 1} → statement M
+slots-spec = tie.close (tie.spec enum-told add-result enum-told-2 returns returns-2)

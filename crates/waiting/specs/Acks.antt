@@ -1,0 +1,40 @@
+-- The waiting acknowledgements: a ring of 32 words in the node, each an entry and a sequence number. Cited by arrival, handing
+-- out and close. Assumes nothing.
+use Prim.Native.Nat.{ℕ, zero, suc, _+_, _*_, _/_, _%_}
+use mathlib.Core.List.{List}
+use lib.ListN.{getD, set}
+use lib.Dec.{eqb}
+use Rattle.units.specs.Refusals.{pick}
+use Rattle.memory.specs.Layout.{oldestAt, acksAt, ackAt}
+use Rattle.waiting.specs.declared.acks.Ack.{Ack}
+
+-- where the oldest stands, and how many wait
+abbrev pub placeOf : List ℕ → ℕ
+placeOf ws = getD ws oldestAt 0 % 32
+
+abbrev pub waitingOf : List ℕ → ℕ
+waitingOf ws = getD ws acksAt 0 % 64
+
+abbrev pub oldestOf : List ℕ → ℕ
+oldestOf ws = getD ws (ackAt (placeOf ws)) 0
+
+abbrev pub ackOf : ℕ → Ack
+ackOf w = record { entry = w / 256 % 256; seq = record { 0 = w % 256 } }
+
+-- one more, and the oldest gone
+unfoldable pub pushed : List ℕ → ℕ → List ℕ
+pushed ws w = set (set ws (ackAt ((placeOf ws + waitingOf ws) % 32)) w) acksAt (waitingOf ws + 1)
+
+unfoldable pub popped : List ℕ → List ℕ
+popped ws = set (set ws oldestAt ((placeOf ws + 1) % 32)) acksAt ((waitingOf ws + 63) % 64)
+
+-- the oldest goes, and to the end where it is not entry i's; a full turn leaves those of the others, in their order
+unfoldable pub turned : ℕ → List ℕ → List ℕ
+turned i ws = pick (eqb (oldestOf ws / 256 % 256) i) (popped ws) (pushed (popped ws) (oldestOf ws))
+
+unfoldable pub turns : ℕ → ℕ → List ℕ → List ℕ
+turns i zero ws = ws
+turns i (suc k) ws = turned i (turns i k ws)
+
+abbrev pub dropped : ℕ → List ℕ → List ℕ
+dropped i ws = turns i (waitingOf ws) ws

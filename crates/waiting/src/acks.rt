@@ -1,0 +1,91 @@
+// The waiting acknowledgements, oldest first: each is its entry and the number it acknowledges.
+use memory::put_word;
+use memory::word_at;
+use units::Seq;
+ghost use mathlib.Core.Path.{_≡_};
+ghost use Prim.Native.Nat.{_+_, _*_, _<_};
+ghost use Rattle.waiting.specs.Acks.{waitingOf, oldestOf, ackOf, pushed, popped, turned, turns, dropped};
+
+// An acknowledgement that waits.
+pub struct Ack {
+    pub entry: u8,
+    pub seq: Seq,
+}
+
+// How many wait.
+pub fn waiting(node: &[u64]) -> u8
+    ensures { λ r. ⌜ r ≡ waitingOf (now (node .entry)) ⌝ }
+{
+    (word_at(node, 5) % 64) as u8
+}
+
+// The word of the one that has waited longest.
+fn oldest_word(node: &[u64]) -> u64
+    ensures { λ r. ⌜ r ≡ oldestOf (now (node .entry)) ⌝ }
+{
+    let k = word_at(node, 4) % 32;
+    word_at(node, 32 + k as usize)
+}
+
+// The one that has waited longest.
+pub fn oldest(node: &[u64]) -> Ack
+    ensures { λ r. ⌜ r ≡ ackOf (oldestOf (now (node .entry))) ⌝ }
+{
+    let w = oldest_word(node);
+    Ack {
+        entry: (w / 256 % 256) as u8,
+        seq: Seq((w % 256) as u8),
+    }
+}
+
+// One more waits.
+fn push_word(node: &mut [u64], w: u64)
+    ensures { λ _. ⌜ now (node .exit) ≡ pushed (now (node .entry)) w ⌝ }
+{
+    let k = word_at(node, 4) % 32;
+    let n = word_at(node, 5) % 64;
+    put_word(node, 32 + ((k + n) % 32) as usize, w);
+    put_word(node, 5, n + 1);
+}
+
+// An acknowledgement of s waits for entry i.
+pub fn push(node: &mut [u64], i: u8, s: Seq)
+    ensures { λ _. ⌜ now (node .exit) ≡ pushed (now (node .entry)) (i * 256 + s .0) ⌝ }
+{
+    let seq = s.0;
+    push_word(node, i as u64 * 256 + seq as u64)
+}
+
+// The oldest waits no more.
+pub fn pop(node: &mut [u64])
+    ensures { λ _. ⌜ now (node .exit) ≡ popped (now (node .entry)) ⌝ }
+{
+    let k = word_at(node, 4) % 32;
+    let n = word_at(node, 5) % 64;
+    put_word(node, 4, (k + 1) % 32);
+    put_word(node, 5, (n + 63) % 64);
+}
+
+// The oldest goes, and to the end where it is not entry i's.
+fn turn(node: &mut [u64], i: u8)
+    ensures { λ _. ⌜ now (node .exit) ≡ turned i (now (node .entry)) ⌝ }
+{
+    let w = oldest_word(node);
+    pop(node);
+    if w / 256 % 256 == i as u64 {
+        return;
+    }
+    push_word(node, w)
+}
+
+// Those of entry i wait no more; the others keep their order.
+pub fn drop(node: &mut [u64], i: u8)
+    ensures { λ _. ⌜ now (node .exit) ≡ dropped i (now (node .entry)) ⌝ }
+{
+    let n = waiting(node);
+    let mut k: u8 = 0;
+    while k < n {
+        turn(node, i);
+        k += 1;
+    }
+}

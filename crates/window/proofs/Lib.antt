@@ -1,0 +1,10 @@
+pub mod Bits
+pub mod TrailingOnes
+pub mod TwoWords
+pub mod Sizes
+pub mod WindowLaw
+pub mod Holding
+pub mod Accepting
+pub mod Passing
+pub mod Resetting
+pub mod Counts

@@ -1,0 +1,66 @@
+"""What the comparison tests share: building the peer, running a program of ours and the peer's on the same bytes."""
+import os
+import subprocess
+
+ROOT = os.path.dirname(os.path.dirname(os.path.abspath(__file__)))
+PEER = os.path.join(ROOT, "target", "peer")
+
+
+def build_peer(extra="", out=PEER):
+    """Builds the C peer into `out` and gives that; `extra` goes to the compiler."""
+    subprocess.run(["make", "-s", "-C", os.path.join(ROOT, "peer"), "OUT=" + out, "EXTRA=" + extra], check=True)
+    return out
+
+
+def build_sanitized():
+    """Builds the C peer with sanitizers, which end it at their first finding; gives where."""
+    return build_peer("-g -fsanitize=address,undefined -fno-sanitize-recover=all", PEER + "_sanitized")
+
+
+def ours(name, data):
+    """What our program `name` writes on `data`."""
+    return subprocess.run([os.path.join(ROOT, "run"), name], input=data, stdout=subprocess.PIPE, check=True).stdout
+
+
+def peers(name, data, out=PEER):
+    """What the peer's program `name` writes on `data`."""
+    return subprocess.run([os.path.join(out, name)], input=data, stdout=subprocess.PIPE, check=True).stdout
+
+
+def command_of_ours(name):
+    return [os.path.join(ROOT, "run"), name]
+
+
+def command_of_peers(name, out=PEER):
+    return [os.path.join(out, name)]
+
+
+def written(command, data, seconds=300):
+    """What a program writes on `data`. A bad ending is no exception but a last line, so that it can be compared and shrunk."""
+    try:
+        done = subprocess.run(command, input=data, stdout=subprocess.PIPE, stderr=subprocess.PIPE, timeout=seconds)
+    except subprocess.TimeoutExpired as late:
+        return (late.stdout or b"") + b"(no end after %d s)\n" % seconds
+    if done.returncode == 0:
+        return done.stdout
+    return done.stdout + b"(exit status %d) " % done.returncode + b" | ".join(done.stderr.split(b"\n")[:6]) + b"\n"
+
+
+def excerpt(line, at):
+    """A part of a line around the place `at`."""
+    first = max(0, at - 60) if at > 200 else 0
+    return ("..." if first else "") + line[first:first + 300].decode("latin-1")
+
+
+def difference(a, b, names=("ours", "peer's")):
+    """The first line in which two outputs differ, or None."""
+    if a == b:
+        return None
+    la, lb = a.split(b"\n"), b.split(b"\n")
+    for k in range(max(len(la), len(lb))):
+        x = la[k] if k < len(la) else b"(nothing)"
+        y = lb[k] if k < len(lb) else b"(nothing)"
+        if x != y:
+            at = len(os.path.commonprefix([x, y]))
+            return "line %d\n  %-7s %s\n  %-7s %s" % (k + 1, names[0] + ":", excerpt(x, at), names[1] + ":", excerpt(y, at))
+    return "they differ in length alone"
