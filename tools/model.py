@@ -1,0 +1,524 @@
+"""A node and its desk as paper 01 describes them, in plain Python: it makes the traces and is a third opinion on every answer.
+
+Written for the reader, not for speed, and with no lent memory: the desk's store, block and frame buffers are always long enough,
+so refusal 6 is never given here."""
+import collections
+
+SENDS, RECEIVES = 0, 1
+CLOSED, ENABLED, OPEN, FAILING = "Closed", "Enabled", "Open", "Failing"
+DATA, ACKNOWLEDGE, RESET, URGENT = range(4)
+# what an arrival was
+IGNORED, ACKNOWLEDGED, OPENED, TOOK_RESET, TOOK_DATA, TOOK_URGENT = range(6)
+# the five sorts of frame that wait, in the order of handing out
+SORTS = ACKS, RESETS, URGENTS, AGAIN, FIRST = range(5)
+# the desk's kinds of record
+TABLE_CALL, OPEN_CALL, CLOSE_CALL, SEND_CALL, URGENT_CALL, ARRIVAL_CALL, TICK_CALL, HAND_OUT_CALL, COUNTS_CALL = 1, 2, 3, 4, 5, 6, 7, 8, 20
+
+DEFAULT_WINDOW = 16
+MOST_ENTRIES = 16
+MOST_STORE = 32768
+MOST_PAYLOAD = 65520
+MOST_ACCEPTED = 4294967295
+MOST_ACKS = 32
+MOST_STREAM = 65536
+OVERHEAD = 9
+
+
+class Refused(Exception):
+    """A call that is refused; nothing has altered."""
+
+    def __init__(self, number):
+        super().__init__(number)
+        self.number = number
+
+
+def refuse_if(condition, number):
+    if condition:
+        raise Refused(number)
+
+
+# 1. THE WIRE (01, "The frame")
+
+
+def _check_entry(value):
+    for _ in range(8):
+        value = value << 1 ^ (0x107 if value & 0x80 else 0)
+    return value
+
+
+CHECK = [_check_entry(value) for value in range(256)]
+
+
+def check(data):
+    value = 0xFF
+    for byte in data:
+        value = CHECK[value ^ byte]
+    return value
+
+
+def two(number):
+    return number.to_bytes(2, "big")
+
+
+def frame(destination, protocol, source, control, channel, sequence, payload=b""):
+    """A frame with a fitting length and check byte, whatever its fields are."""
+    body = bytes((destination, protocol, source, control)) + two(len(payload)) + bytes((channel, sequence)) + payload
+    return body + bytes((check(body),))
+
+
+def is_sound(data):
+    """Refusal 10's three tests."""
+    return len(data) >= OVERHEAD and int.from_bytes(data[4:6], "big") + OVERHEAD == len(data) and check(data) == 0
+
+
+def is_lawful(control, length, sequence):
+    """Refusal 12's tests: type, user bits, payload length, Reset sequence."""
+    if control in (DATA, URGENT):
+        return 1 <= length <= MOST_PAYLOAD
+    if control == ACKNOWLEDGE:
+        return length == 0
+    return control == RESET and length == 0 and sequence == 0
+
+
+def block(payloads):
+    """The host's block: count, offsets, payloads."""
+    at = 2 + 4 * (len(payloads) + 1)
+    out = two(len(payloads)) + at.to_bytes(4, "big")
+    for payload in payloads:
+        at += len(payload)
+        out += at.to_bytes(4, "big")
+    return out + b"".join(payloads)
+
+
+def payloads_of(data):
+    """What a block holds: the other way round."""
+    count = int.from_bytes(data[:2], "big")
+    at = [int.from_bytes(data[2 + 4 * k:6 + 4 * k], "big") for k in range(count + 1)]
+    return [data[at[k]:at[k + 1]] for k in range(count)]
+
+
+# 2. THE CHANNEL TABLE (01, "The channel table")
+
+Entry = collections.namedtuple("Entry", "kind remote channel retries window largest timeout")
+
+
+def table(own, protocol, entries):
+    """A table's bytes; an entry's window is written as it stands, 0 for the default."""
+    out = two(len(entries)) + two(8) + bytes((own, protocol, 0, 0))
+    for e in entries:
+        out += bytes((e.kind, e.remote, e.channel, e.retries)) + two(e.window) + two(e.largest) + two(e.timeout) + bytes(2)
+    return out
+
+
+def is_address(byte):
+    return 32 <= byte <= 254
+
+
+def is_window(size):
+    return size.bit_count() <= 1 and size <= 128
+
+
+def _read_entry(data):
+    words = [int.from_bytes(data[k:k + 2], "big") for k in (4, 6, 8, 10)]
+    e = Entry(data[0], data[1], data[2], data[3], *words[:3])
+    refuse_if(e.kind > 1 or not is_address(e.remote) or words[3] != 0, 1)
+    refuse_if(not is_window(e.window) or not 1 <= e.largest <= 32768, 1)
+    refuse_if(e.timeout == 0 if e.kind == SENDS else e.timeout or e.retries, 1)
+    return e._replace(window=e.window or DEFAULT_WINDOW)
+
+
+def store_of(e):
+    return (e.window + 1 if e.kind == SENDS else e.window) * e.largest
+
+
+def read_table(data):
+    """Own address, protocol ID and entries with the windows in force, or refusal 1."""
+    refuse_if(len(data) < 8, 1)
+    count = int.from_bytes(data[:2], "big")
+    refuse_if(count > MOST_ENTRIES or len(data) != 8 + 12 * count or data[2:4] != two(8) or data[6:8] != bytes(2), 1)
+    refuse_if(not is_address(data[4]) or data[5] == 0, 1)
+    entries = [_read_entry(data[8 + 12 * k:20 + 12 * k]) for k in range(count)]
+    refuse_if(len({(e.kind, e.remote, e.channel) for e in entries}) < count, 1)
+    refuse_if(sum(store_of(e) for e in entries) > MOST_STORE, 1)
+    return data[4], data[5], entries
+
+
+# 3. THE END POINTS (01, "End points")
+
+
+class Number:
+    """A sequence number that a sender has taken for a payload."""
+
+    def __init__(self, sequence, payload):
+        self.sequence, self.payload = sequence, payload
+        self.handed_out = self.acknowledged = False
+        self.timer = self.retries = 0
+
+
+class End:
+    """What both kinds share: the entry, the state, where the window starts."""
+
+    def __init__(self, entry):
+        self.entry, self.state = entry, CLOSED
+        self.clear()
+
+    def distance(self, sequence):
+        return (sequence - self.start) % 256
+
+
+class Sender(End):
+    name = "sender"
+
+    def __init__(self, entry):
+        super().__init__(entry)
+        self.accepted = self.confirmed = 0
+
+    def clear(self):
+        """Becoming Closed or Enabled; the counts are kept."""
+        self.start = 1
+        self.taken = []  # a Number each, from the start on
+        self.reset_timer = 0
+        self.reset_went_out = False
+
+    def running(self):
+        return any(number.timer for number in self.taken)
+
+
+class Receiver(End):
+    name = "receiver"
+
+    def clear(self):
+        self.start = 1
+        self.held = {}  # sequence number: payload
+
+    def take_run(self):
+        """The held payloads from the start on without a gap; the start passes them."""
+        run = []
+        while self.start in self.held:
+            run.append(self.held.pop(self.start))
+            self.start = (self.start + 1) % 256
+        return run
+
+
+# 4. THE NODE
+
+
+class Node:
+    """A node with its calls, each of which gives a list of numbers or raises Refused. `seen` counts what happened, for coverage."""
+
+    def __init__(self):
+        self.own = self.protocol = 0
+        self.ends = []
+        self.waiting = [[] for _ in SORTS]  # of (entry index, what is needed to write the frame)
+        self.seen = collections.Counter()
+
+    # what waits
+
+    def wait(self, sort, index, what=None):
+        self.waiting[sort].append((index, what))
+
+    def drop(self, index, *sorts):
+        for sort in sorts:
+            self.waiting[sort] = [item for item in self.waiting[sort] if item[0] != index]
+
+    def waits(self, sort, index):
+        return any(item[0] == index for item in self.waiting[sort])
+
+    # changes of state
+
+    def turn(self, end, state):
+        self.seen["%s %s to %s" % (end.name, end.state, state)] += 1
+        end.state = state
+
+    def enable(self, index, end):
+        self.turn(end, ENABLED)
+        end.clear()
+        if isinstance(end, Sender):
+            self.wait(RESETS, index)
+
+    def fail(self, index, end):
+        for sort, name in ((URGENTS, "an Urgent"), (FIRST, "data"), (AGAIN, "a retransmission")):
+            self.seen["failing drops " + name] += self.waits(sort, index)
+        self.turn(end, FAILING)
+        self.drop(index, URGENTS, AGAIN, FIRST)
+
+    # the host's calls
+
+    def end(self, index, kind=None):
+        refuse_if(index >= len(self.ends), 2)
+        end = self.ends[index]
+        refuse_if(kind is not None and not isinstance(end, kind), 3)
+        return end
+
+    def setup(self, data):
+        self.own, self.protocol, entries = read_table(data)
+        self.ends = [Sender(e) if e.kind == SENDS else Receiver(e) for e in entries]
+        self.waiting = [[] for _ in SORTS]
+        return []
+
+    def open(self, index):
+        end = self.end(index)
+        refuse_if(end.state != CLOSED, 4)
+        self.enable(index, end)
+        return []
+
+    def close(self, index):
+        end = self.end(index)
+        refuse_if(end.state == CLOSED, 4)
+        self.turn(end, CLOSED)
+        end.clear()
+        self.drop(index, *SORTS)
+        return []
+
+    def counts(self, index):
+        end = self.end(index, Sender)
+        return [end.accepted, end.confirmed]
+
+    def send(self, index, payload):
+        end = self.end(index, Sender)
+        refuse_if(end.state != OPEN, 4)
+        refuse_if(not 1 <= len(payload) <= end.entry.largest, 5)
+        refuse_if(end.accepted == MOST_ACCEPTED, 8)
+        refuse_if(len(end.taken) == end.entry.window, 7)
+        number = Number((end.start + len(end.taken)) % 256, payload)
+        end.taken.append(number)
+        end.accepted += 1
+        self.wait(FIRST, index, number)
+        return []
+
+    def urgent(self, index, payload):
+        end = self.end(index, Sender)
+        refuse_if(end.state != OPEN, 4)
+        refuse_if(not 1 <= len(payload) <= end.entry.largest, 5)
+        refuse_if(self.waits(URGENTS, index), 9)
+        self.wait(URGENTS, index, payload)
+        return []
+
+    # arrival
+
+    def find(self, kind, source, channel):
+        for index, end in enumerate(self.ends):
+            if isinstance(end, kind) and (end.entry.remote, end.entry.channel) == (source, channel):
+                return index
+        raise Refused(13)
+
+    def admit(self, data):
+        """The index of the entry that takes the frame in, or the refusal; alters nothing."""
+        refuse_if(not is_sound(data), 10)
+        destination, protocol, source, control, _, _, channel, sequence = data[:8]
+        length = len(data) - OVERHEAD
+        refuse_if((destination, protocol) != (self.own, self.protocol), 11)
+        refuse_if(not is_lawful(control, length, sequence), 12)
+        index = self.find(Sender if control == ACKNOWLEDGE else Receiver, source, channel)
+        end = self.ends[index]
+        refuse_if(end.state == CLOSED or control in (DATA, URGENT) and end.state == ENABLED, 13)
+        refuse_if(length > end.entry.largest, 5)
+        refuse_if(control in (DATA, RESET) and len(self.waiting[ACKS]) == MOST_ACKS, 14)
+        return index
+
+    def refusal_of(self, data):
+        """The number with which an arriving frame would be refused, or 0."""
+        try:
+            self.admit(data)
+        except Refused as refused:
+            return refused.number
+        return 0
+
+    def arrival(self, data):
+        index = self.admit(data)
+        end, control, sequence, payload = self.ends[index], data[3], data[7], data[8:-1]
+        if control == ACKNOWLEDGE:
+            return self.acknowledged(index, end, sequence)
+        if control == RESET:
+            return self.take_reset(index, end)
+        if control == URGENT:
+            self.seen["Urgent delivered"] += 1
+            return [TOOK_URGENT] + self.block_fields([payload])
+        return self.take_data(index, end, sequence, payload)
+
+    def block_fields(self, payloads):
+        data = block(payloads)
+        return [len(data)] + list(data)
+
+    def acknowledged(self, index, end, sequence):
+        if end.state == ENABLED:
+            return self.opened(index, end, sequence)
+        distance = end.distance(sequence)
+        if distance >= end.entry.window or distance >= len(end.taken):
+            return self.ignored(end, "outside")
+        number = end.taken[distance]
+        if number.acknowledged or not number.handed_out:
+            return self.ignored(end, "again" if number.acknowledged else "not handed out")
+        self.seen["acknowledgement stops a waiting retransmission"] += (index, number) in self.waiting[AGAIN]
+        self.waiting[AGAIN] = [item for item in self.waiting[AGAIN] if item != (index, number)]
+        number.acknowledged, number.timer = True, 0
+        passed = 0
+        while end.taken and end.taken[0].acknowledged:
+            self.seen["sender's start folds"] += end.start == 255
+            end.taken.pop(0)
+            end.start = (end.start + 1) % 256
+            passed += 1
+        end.confirmed += passed
+        self.seen["acknowledgement at %s passes %s" % (end.state, passed if passed < 2 else "more")] += 1
+        return [ACKNOWLEDGED, passed]
+
+    def ignored(self, end, why):
+        self.seen["acknowledgement at %s ignored, %s" % (end.state, why)] += 1
+        return [IGNORED]
+
+    def opened(self, index, end, sequence):
+        if sequence != 0 or not end.reset_went_out:
+            return self.ignored(end, "not 0" if sequence else "no Reset out")
+        self.seen["acknowledgement 0 removes a waiting Reset"] += self.waits(RESETS, index)
+        self.turn(end, OPEN)
+        end.clear()
+        end.accepted = end.confirmed = 0
+        self.drop(index, RESETS)
+        return [OPENED]
+
+    def take_reset(self, index, end):
+        held = len(end.held)
+        self.seen["Reset drops waiting acknowledgements"] += self.waits(ACKS, index)
+        self.seen["Reset drops held payloads"] += held > 0
+        self.turn(end, OPEN)
+        end.clear()
+        self.drop(index, ACKS)
+        self.wait(ACKS, index, 0)
+        return [TOOK_RESET, held]
+
+    def take_data(self, index, end, sequence, payload):
+        given = []
+        if end.distance(sequence) >= end.entry.window:
+            self.seen["Data outside the window"] += 1
+        elif sequence in end.held:
+            self.seen["Data held already"] += 1
+        else:
+            before = end.start
+            end.held[sequence] = payload
+            given = end.take_run()
+            self.seen["Data delivers %s" % (len(given) if len(given) < 2 else "more")] += 1
+            self.seen["receiver's start folds"] += end.start < before
+        self.wait(ACKS, index, sequence)
+        return [TOOK_DATA] + self.block_fields(given)
+
+    # handing out
+
+    def hand_out(self):
+        for sort in SORTS:
+            if self.waiting[sort]:
+                data = self.write(sort, *self.waiting[sort].pop(0))
+                return [len(data)] + list(data)
+        return [0]
+
+    def write(self, sort, index, what):
+        """The frame of something that waited; a Reset's and a number's timer start."""
+        end = self.ends[index]
+        control, sequence, payload = DATA, 0, b""
+        if sort == ACKS:
+            control, sequence = ACKNOWLEDGE, what
+        elif sort == RESETS:
+            control = RESET
+            end.reset_timer, end.reset_went_out = end.entry.timeout, True
+        elif sort == URGENTS:
+            control, payload = URGENT, what
+        else:
+            sequence, payload = what.sequence, what.payload
+            what.handed_out, what.timer = True, end.entry.timeout
+        self.seen["handed out: " + ("acknowledgement", "Reset", "Urgent", "retransmission", "data")[sort]] += 1
+        return frame(end.entry.remote, self.protocol, self.own, control, end.entry.channel, sequence, payload)
+
+    # ticks
+
+    def tick(self):
+        senders = [(index, end) for index, end in enumerate(self.ends) if isinstance(end, Sender)]
+        for index, end in senders:
+            if end.state == ENABLED:
+                self.tick_reset(index, end)
+            for number in list(end.taken):
+                self.tick_number(index, end, number)
+        bits = 0
+        for index, end in senders:
+            if end.state == FAILING and not end.running():
+                self.enable(index, end)
+                bits |= 1 << index
+        return [bits]
+
+    def tick_reset(self, index, end):
+        if end.reset_timer:
+            end.reset_timer -= 1
+            if end.reset_timer == 0:
+                self.seen["Reset's timer ends"] += 1
+                self.wait(RESETS, index)
+
+    def tick_number(self, index, end, number):
+        if not number.timer:
+            return
+        number.timer -= 1
+        if number.timer:
+            return
+        self.seen["data's timer ends at " + end.state] += 1
+        if end.state == FAILING:
+            return
+        if number.retries < end.entry.retries:
+            number.retries += 1
+            self.wait(AGAIN, index, number)
+        else:
+            self.fail(index, end)
+
+
+# 5. THE DESK
+
+Answer = collections.namedtuple("Answer", "refusal fields")
+
+CALLS = {
+    TABLE_CALL: lambda node, index, data: node.setup(data),
+    OPEN_CALL: lambda node, index, data: node.open(index),
+    CLOSE_CALL: lambda node, index, data: node.close(index),
+    SEND_CALL: lambda node, index, data: node.send(index, data),
+    URGENT_CALL: lambda node, index, data: node.urgent(index, data),
+    ARRIVAL_CALL: lambda node, index, data: node.arrival(data),
+    TICK_CALL: lambda node, index, data: node.tick(),
+    HAND_OUT_CALL: lambda node, index, data: node.hand_out(),
+    COUNTS_CALL: lambda node, index, data: node.counts(index),
+}
+CALL_NAMES = {
+    TABLE_CALL: "table", OPEN_CALL: "open", CLOSE_CALL: "close", SEND_CALL: "send", URGENT_CALL: "urgent",
+    ARRIVAL_CALL: "arrival", TICK_CALL: "tick", HAND_OUT_CALL: "hand out", COUNTS_CALL: "counts",
+}
+
+
+def call(node, kind, index, data):
+    """One call and its answer; counted by kind and refusal."""
+    try:
+        answer = Answer(0, CALLS[kind](node, index, data))
+    except Refused as refused:
+        answer = Answer(refused.number, [])
+    node.seen[(kind, answer.refusal)] += 1
+    return answer
+
+
+def line(number, kind, answer):
+    return " ".join(map(str, [number, kind, answer.refusal] + answer.fields)) + "\n"
+
+
+def records(stream):
+    """The whole records of a stream as (kind, index, data, where it ends)."""
+    at = 0
+    while at + 4 <= len(stream):
+        end = at + 4 + int.from_bytes(stream[at + 2:at + 4], "big")
+        if end > len(stream):
+            return
+        yield stream[at], stream[at + 1], stream[at + 4:end], end
+        at = end
+
+
+def desk(stream):
+    """What the desk writes on a stream."""
+    if len(stream) > MOST_STREAM:
+        return "too long\n"
+    node, out, number, end = Node(), [], 0, 0
+    for number, (kind, index, data, end) in enumerate(records(stream), 1):
+        if kind not in CALLS:
+            return "".join(out) + "unknown %d\n" % number
+        out.append(line(number, kind, call(node, kind, index, data)))
+    return "".join(out) + ("torn %d\n" % (number + 1) if end < len(stream) else "")
