@@ -1,0 +1,93 @@
+// The node at a desk: runs the calls that the records on standard input name, on a node that starts as zeros.
+// A record is its kind (1 table, 2 open, 3 close, 4 send, 5 urgent, 6 arrival, 7 tick, 8 hand out, 20 counts), an index byte, a
+// length (2 bytes, high byte first) and that many bytes. Each gives one line: its number from 1, its kind, the refusal's
+// number or 0, then what came back, in decimal. Store, block and frame buffer are always long enough.
+// The input is at most 65,536 bytes; a longer one gives only the line `too long`. A record that is cut short ends the run with
+// `torn N`, a whole one of another kind with `unknown N`.
+use lines::number;
+use lines::text;
+
+mod records; // records.rt: where the records lie
+mod answers; // answers.rt: what each call prints
+
+use records::Found;
+use records::record_at;
+
+// A last line: why the run ends, and at which record.
+fn torn(out: &mut [u8], at: usize, count: u64) -> usize {
+    let mut next = text(out, at, b"torn ");
+    next = number(out, next, count);
+    text(out, next, b"\n")
+}
+
+fn unknown(out: &mut [u8], at: usize, count: u64) -> usize {
+    let mut next = text(out, at, b"unknown ");
+    next = number(out, next, count);
+    text(out, next, b"\n")
+}
+
+// The lines of all records, or of those up to the first that is torn or unknown.
+fn run(
+    input: &[u8],
+    out: &mut [u8],
+    node: &mut [u64; 576],
+    book: &mut [u16; 10368],
+    store: &mut [u8],
+    block: &mut [u8],
+    frame: &mut [u8],
+) -> usize {
+    let mut at = 0;
+    let mut i = 0;
+    let mut count: u64 = 0;
+    while i < input.len() {
+        count += 1;
+        match record_at(input, i) {
+            Found::Torn => return torn(out, at, count),
+            Found::Unknown => return unknown(out, at, count),
+            Found::Record(kind, index, end) => {
+                let start = i + 4;
+                at = answers::line(
+                    out,
+                    at,
+                    count,
+                    kind,
+                    index,
+                    &input[start..end],
+                    node,
+                    book,
+                    store,
+                    block,
+                    frame,
+                );
+                i = end;
+            }
+        }
+    }
+    at
+}
+
+fn main() {
+    let mut input = [0u8; 65537];
+    let mut out = [0u8; 65536];
+    let n = io::read_full(libc::STDIN_FILENO, &mut input);
+    if 65536 < n {
+        let at = text(&mut out, 0, b"too long\n");
+        lines::flush(&out, at);
+        return;
+    }
+    let mut node = [0u64; 576];
+    let mut book = [0u16; 10368];
+    let mut store = [0u8; 32768];
+    let mut block = [0u8; 33286];
+    let mut frame = [0u8; 32777];
+    let at = run(
+        &input[..n],
+        &mut out,
+        &mut node,
+        &mut book,
+        &mut store,
+        &mut block,
+        &mut frame,
+    );
+    lines::flush(&out, at);
+}
