@@ -1,7 +1,7 @@
 // An end point: what the table says of it, its state, and its run. It lives in the node's words, one field a
 // word, and is taken out and put back by value.
-// Proved: `load`, `save` and `save_entry` are the definitions of specs/Ends.antt, for every memory;
-// proofs/Kept.antt: what is saved is loaded back, and nothing else of the node alters.
+// Proved: `load`, `save` and `save_entry` are the definitions of specs/Ends.antt, for every memory. The crate `kept` has
+// the laws: what is saved is loaded back, and nothing else of the node alters.
 pub mod answers; // answers.rt: what the calls answer
 pub mod heads; // heads.rt: the node's head
 pub mod states; // states.rt: questions about kind and state, and a run begun anew

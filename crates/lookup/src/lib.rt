@@ -1,6 +1,5 @@
 // Which entry a frame is for: the one of the fitting kind, with the frame's source as remote address and its channel.
-// Proved: `entry_for` is the definition of specs/Lookup.antt, for every node; proofs/Found.antt: what it finds fits,
-// and where it finds nothing no entry does.
+// Proved: `entry_for` is the definition of specs/Lookup.antt, the first entry that fits, for every node.
 use ends::heads::count;
 use frame::FrameType;
 use memory::word_at;
