@@ -1,7 +1,9 @@
 // What the drive box's C firmware calls, on numbers and byte slices: the frame reader, the frame writer and the
-// window test. `include/shelugvar.h` declares them.
-// Proved: each is the frame's or the window's own definition, for every input (specs/Firmware.antt says in which
+// window test here, the whole node in nodes.rt. `include/shelugvar.h` declares them.
+// Proved: each is the frame's, the window's or the node's own definition, for every input (specs/ says in which
 // numbers); a refused call alters nothing. That the header's declarations are these functions nothing proves.
+pub mod nodes; // nodes.rt: the node's calls
+
 use frame::Fields;
 use frame::FrameType;
 use frame::Header;

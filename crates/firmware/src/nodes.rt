@@ -1,0 +1,203 @@
+// The node's calls for C: the node and its book are the two lent arrays, everything else pointer and length.
+// Each answers the refusal, 0 where it is done; what else it answers goes to the last parameter, which a refused call
+// leaves as it was, as all that was lent.
+// Proved: each is the node's own call (crates/node), in the numbers that specs/Nodes.antt gives to its answer.
+use ends::answers::Arrived;
+use ends::answers::Counted;
+use ends::answers::HandedOut;
+use units::refusals::Verdict;
+use units::refusals::number;
+ghost use mathlib.Core.Path.{_≡_};
+ghost use mathlib.Core.List.{[], _∷_};
+ghost use lib.Seq.{sets};
+ghost use Rattle.ends.specs.Answers.{answerOf, countedOf, arrivedOf, handedOf};
+ghost use Rattle.opening.specs.Setup.{setupAnswer, setupAfter};
+ghost use Rattle.opening.specs.Opening.{openAnswer, openAfter, closeAnswer, closeAfter, countsAnswer};
+ghost use Rattle.sending.specs.Sending.{sendAnswer, sendAfter, urgentAnswer, urgentAfter};
+ghost use Rattle.arriving.specs.Arriving.{arrivalAnswer, arrivalAfter};
+ghost use Rattle.handing.specs.Handing.{handAnswer, handAfter};
+ghost use Rattle.ticking.specs.Ticking.{tickAnswer, tickAfter};
+ghost use Rattle.firmware.specs.Nodes.{refusalIn, valueIn, valuesIn};
+
+// A verdict's number.
+fn told(v: Verdict) -> u8
+    ensures { λ r. ⌜ r ≡ refusalIn (answerOf v) ⌝ }
+{
+    match v {
+        Verdict::Passed => 0,
+        Verdict::Refused(w) => number(w),
+    }
+}
+
+// The table is read into a node, a new one or any other. Refuses 1, 6.
+#[no_mangle]
+pub extern "C" fn shelugvar_setup(
+    node: &mut [u64; 576],
+    book: &mut [u16; 10368],
+    store: &[u8],
+    table: &[u8],
+) -> u8
+    ensures answer { λ r. ⌜ r ≡ refusalIn (answerOf (setupAnswer (record { node = now (node .entry); book = now (book .entry); store = now (store .entry); out = [] }) (now (table .entry)))) ⌝ }
+    ensures after { λ _. ⌜ record { node = now (node .exit); book = now (book .exit); store = now (store .entry); out = [] }
+        ≡ setupAfter (record { node = now (node .entry); book = now (book .entry); store = now (store .entry); out = [] }) (now (table .entry))
+        (setupAnswer (record { node = now (node .entry); book = now (book .entry); store = now (store .entry); out = [] }) (now (table .entry))) ⌝ }
+{
+    told(node::setup(node, book, store, table))
+}
+
+// Entry `index` becomes Enabled. Refuses 2, 4.
+#[no_mangle]
+pub extern "C" fn shelugvar_open(node: &mut [u64; 576], book: &mut [u16; 10368], index: usize) -> u8
+    ensures answer { λ r. ⌜ r ≡ refusalIn (answerOf (openAnswer (record { node = now (node .entry); book = now (book .entry); store = []; out = [] }) index)) ⌝ }
+    ensures after { λ _. ⌜ record { node = now (node .exit); book = now (book .exit); store = []; out = [] }
+        ≡ openAfter (record { node = now (node .entry); book = now (book .entry); store = []; out = [] }) index
+        (openAnswer (record { node = now (node .entry); book = now (book .entry); store = []; out = [] }) index) ⌝ }
+{
+    told(node::open(node, book, index))
+}
+
+// Entry `index` becomes Closed. Refuses 2, 4.
+#[no_mangle]
+pub extern "C" fn shelugvar_close(
+    node: &mut [u64; 576],
+    book: &mut [u16; 10368],
+    index: usize,
+) -> u8
+    ensures answer { λ r. ⌜ r ≡ refusalIn (answerOf (closeAnswer (record { node = now (node .entry); book = now (book .entry); store = []; out = [] }) index)) ⌝ }
+    ensures after { λ _. ⌜ record { node = now (node .exit); book = now (book .exit); store = []; out = [] }
+        ≡ closeAfter (record { node = now (node .entry); book = now (book .entry); store = []; out = [] }) index
+        (closeAnswer (record { node = now (node .entry); book = now (book .entry); store = []; out = [] }) index) ⌝ }
+{
+    told(node::close(node, book, index))
+}
+
+// A sender's counts: accepted, confirmed. Refuses 2, 3.
+#[no_mangle]
+pub extern "C" fn shelugvar_counts(node: &[u64; 576], index: usize, values: &mut [u32; 2]) -> u8
+    ensures answer { λ r. ⌜ r ≡ refusalIn (countedOf (countsAnswer (now (node .entry)) index)) ⌝ }
+    ensures after { λ _. ⌜ now (values .exit) ≡ valuesIn (countedOf (countsAnswer (now (node .entry)) index)) (now (values .entry)) ⌝ }
+{
+    match node::counts(node, index) {
+        Counted::Counts(accepted, confirmed) => {
+            values[0] = accepted.0;
+            values[1] = confirmed.0;
+            0
+        }
+        Counted::Refused(w) => number(w),
+    }
+}
+
+// A payload is accepted and waits. Refuses 2, 3, 4, 5, 8, 7, 6.
+#[no_mangle]
+pub extern "C" fn shelugvar_send(
+    node: &mut [u64; 576],
+    book: &mut [u16; 10368],
+    store: &mut [u8],
+    index: usize,
+    payload: &[u8],
+) -> u8
+    ensures answer { λ r. ⌜ r ≡ refusalIn (answerOf (sendAnswer (record { node = now (node .entry); book = now (book .entry); store = now (store .entry); out = [] }) index (now (payload .entry)))) ⌝ }
+    ensures after { λ _. ⌜ record { node = now (node .exit); book = now (book .exit); store = now (store .exit); out = [] }
+        ≡ sendAfter (record { node = now (node .entry); book = now (book .entry); store = now (store .entry); out = [] }) index (now (payload .entry))
+        (sendAnswer (record { node = now (node .entry); book = now (book .entry); store = now (store .entry); out = [] }) index (now (payload .entry))) ⌝ }
+{
+    told(node::send(node, book, store, index, payload))
+}
+
+// An Urgent waits. Refuses 2, 3, 4, 5, 9, 6.
+#[no_mangle]
+pub extern "C" fn shelugvar_urgent(
+    node: &mut [u64; 576],
+    book: &mut [u16; 10368],
+    store: &mut [u8],
+    index: usize,
+    payload: &[u8],
+) -> u8
+    ensures answer { λ r. ⌜ r ≡ refusalIn (answerOf (urgentAnswer (record { node = now (node .entry); book = now (book .entry); store = now (store .entry); out = [] }) index (now (payload .entry)))) ⌝ }
+    ensures after { λ _. ⌜ record { node = now (node .exit); book = now (book .exit); store = now (store .exit); out = [] }
+        ≡ urgentAfter (record { node = now (node .entry); book = now (book .entry); store = now (store .entry); out = [] }) index (now (payload .entry))
+        (urgentAnswer (record { node = now (node .entry); book = now (book .entry); store = now (store .entry); out = [] }) index (now (payload .entry))) ⌝ }
+{
+    told(node::urgent(node, book, store, index, payload))
+}
+
+// What an arrival was, and its value.
+fn found(values: &mut [usize; 2], what: usize, value: usize) -> u8
+    ensures answer { λ r. ⌜ r ≡ 0 ⌝ }
+    ensures after { λ _. ⌜ now (values .exit) ≡ sets (now (values .entry)) 0 (what ∷ value ∷ []) ⌝ }
+{
+    values[0] = what;
+    values[1] = value;
+    0
+}
+
+// An arrival in numbers. The value of one that has none is 0.
+fn arrived(values: &mut [usize; 2], a: Arrived) -> u8
+    ensures answer { λ r. ⌜ r ≡ refusalIn (arrivedOf a) ⌝ }
+    ensures after { λ _. ⌜ now (values .exit) ≡ valuesIn (arrivedOf a) (now (values .entry)) ⌝ }
+{
+    match a {
+        Arrived::Ignored => found(values, 0, 0),
+        Arrived::Acknowledged(passed) => found(values, 1, passed as usize),
+        Arrived::Opened => found(values, 2, 0),
+        Arrived::Reset(held) => found(values, 3, held as usize),
+        Arrived::Data(length) => found(values, 4, length),
+        Arrived::Urgent(length) => found(values, 5, length),
+        Arrived::Refused(w) => number(w),
+    }
+}
+
+// A frame has arrived: what it was (0 ignored, 1 acknowledged, 2 opened, 3 Reset, 4 Data, 5 Urgent), and the numbers passed, the
+// payloads held or the block's length. Refuses 10, 11, 12, 13, 5, 14, 6.
+#[no_mangle]
+pub extern "C" fn shelugvar_arrival(
+    node: &mut [u64; 576],
+    book: &mut [u16; 10368],
+    store: &mut [u8],
+    block: &mut [u8],
+    frame: &[u8],
+    values: &mut [usize; 2],
+) -> u8
+    ensures answer { λ r. ⌜ r ≡ refusalIn (arrivedOf (arrivalAnswer (record { node = now (node .entry); book = now (book .entry); store = now (store .entry); out = now (block .entry) }) (now (frame .entry)))) ⌝ }
+    ensures after { λ _. ⌜ record { node = now (node .exit); book = now (book .exit); store = now (store .exit); out = now (block .exit) }
+        ≡ arrivalAfter (record { node = now (node .entry); book = now (book .entry); store = now (store .entry); out = now (block .entry) }) (now (frame .entry)) ⌝ }
+    ensures values { λ _. ⌜ now (values .exit)
+        ≡ valuesIn (arrivedOf (arrivalAnswer (record { node = now (node .entry); book = now (book .entry); store = now (store .entry); out = now (block .entry) }) (now (frame .entry)))) (now (values .entry)) ⌝ }
+{
+    arrived(values, node::arrival(node, book, store, block, frame))
+}
+
+// What goes out next is written into the frame buffer: its length, 0 where nothing waits. Refuses 6.
+#[no_mangle]
+pub extern "C" fn shelugvar_hand_out(
+    node: &mut [u64; 576],
+    book: &mut [u16; 10368],
+    store: &[u8],
+    frame: &mut [u8],
+    length: &mut usize,
+) -> u8
+    ensures answer { λ r. ⌜ r ≡ refusalIn (handedOf (handAnswer (record { node = now (node .entry); book = now (book .entry); store = now (store .entry); out = now (frame .entry) }))) ⌝ }
+    ensures after { λ _. ⌜ record { node = now (node .exit); book = now (book .exit); store = now (store .entry); out = now (frame .exit) }
+        ≡ handAfter (record { node = now (node .entry); book = now (book .entry); store = now (store .entry); out = now (frame .entry) })
+        (handAnswer (record { node = now (node .entry); book = now (book .entry); store = now (store .entry); out = now (frame .entry) })) ⌝ }
+    ensures value { λ _. ⌜ now (length .exit)
+        ≡ valueIn (handedOf (handAnswer (record { node = now (node .entry); book = now (book .entry); store = now (store .entry); out = now (frame .entry) }))) (now (length .entry)) ⌝ }
+{
+    match node::hand_out(node, book, store, frame) {
+        HandedOut::Length(n) => {
+            *length = n;
+            0
+        }
+        HandedOut::Refused(w) => number(w),
+    }
+}
+
+// Every running timer falls by one: the entries that became Enabled, entry 0 lowest. Refuses nothing.
+#[no_mangle]
+pub extern "C" fn shelugvar_tick(node: &mut [u64; 576], book: &mut [u16; 10368]) -> u16
+    ensures answer { λ r. ⌜ r ≡ tickAnswer (record { node = now (node .entry); book = now (book .entry); store = []; out = [] }) ⌝ }
+    ensures after { λ _. ⌜ record { node = now (node .exit); book = now (book .exit); store = []; out = [] }
+        ≡ tickAfter (record { node = now (node .entry); book = now (book .entry); store = []; out = [] }) ⌝ }
+{
+    node::tick(node, book)
+}
