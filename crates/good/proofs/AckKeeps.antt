@@ -1,0 +1,296 @@
+-- An acknowledgement taken in by a sender keeps a good node good; what becomes of its end point, and that no payload's length
+-- alters. Assumes nothing.
+use Prim.Native.Nat.{ℕ, _-_, _≤_, _<_}
+use mathlib.Core.Path.{_≡_, refl, sym, ap, subst, _∙_}
+use mathlib.Core.Bool.{Bool, true, false, _&&_, true≢false}
+use mathlib.Core.List.{List, [], _∷_, List·Memᴰ, List·Memᴰ·not-nil}
+use native.Mathlib.Omega.{arith}
+use lib.ListN.{length, getD, set}
+use lib.Dec.{eqb}
+use borrow.Author.Tests.{eqb-true, ltb-true}
+use Rattle.units.specs.Refusals.{pick}
+use Rattle.memory.specs.Layout.{resets, urgents, resends, datas, resetId, lengthAt, timerAt}
+use Rattle.waiting.specs.Queues.{unlinked}
+use Rattle.window.specs.Windows.{offsetOf}
+use Rattle.window.proofs.Resetting.{reset-held, reset-good}
+use Rattle.window.proofs.WindowLaw.{distance-back}
+use Rattle.kept.proofs.Kept.{StateFits, RunFits}
+use Rattle.ends.specs.Ends.{endOf, saved}
+use Rattle.ends.specs.Heads.{countIn}
+use Rattle.ends.specs.States.{isSends}
+use Rattle.ends.specs.Lent.{Lent}
+use Rattle.ends.specs.declared.State.{State}
+use Rattle.ends.specs.declared.State.the-variants.{Closed, Enabled, Open, Failing}
+use Rattle.ends.specs.declared.answers.Arrived.the-variants as arrived
+use Rattle.slots.specs.Slots.{cell, past, lengthIn, timerIn}
+use Rattle.acking.specs.Acking.{counts, passing, ackedRun, openedRun, ackAnswer, resetGone, stopped, fewer, ackNode, ackBook, ackAfter}
+use Rattle.good.specs.Good.{Lists, mine, ids, Silent, Sending, OpenSender, FailingSender, Good}
+use Rattle.good.proofs.Lined.{less, unlink-cells}
+use Rattle.good.proofs.Framing.{Within, within-same, within-unlink, Apart, apart-same, apart-saved}
+use Rattle.good.proofs.Offsets.{reset-owner}
+use Rattle.good.proofs.Turns.{run-fits, state-fits, turnedTo, end-saved, sender-turn, Kept}
+use Rattle.good.proofs.Senders.{Timed, timed-set, within-timed, reset-waited, reset-gone, entry-low, entry-window, sender-stated, sender-entered}
+use Rattle.good.proofs.AckRuns.{Passes, Counts, counts-says, passes, moved-sending, moved-fits, moved-timers, moved-resends, moved-datas, Gone, open-book}
+
+-- ---- what a call comes to
+
+-- of the end point: nothing, opened, or a number acknowledged at Open or at Failing
+pub data Acked (ws b ws′ b′ : List ℕ) (i s : ℕ) : Type 0 where
+  ignored : ws′ ≡ ws → b′ ≡ b → ackAnswer (endOf ws i) (endOf ws i .state) s ≡ arrived.Ignored → Acked ws b ws′ b′ i s
+  opened : (t : ℕ) → endOf ws i .state ≡ Enabled t true → s ≡ 0 → endOf ws′ i ≡ turnedTo (endOf ws i) Open (openedRun (endOf ws i .run)) → Acked ws b ws′ b′ i s
+  counted : endOf ws i .state ≡ Open → counts (endOf ws i .run) s ≡ true → endOf ws′ i ≡ turnedTo (endOf ws i) Open (ackedRun (endOf ws i .run) s)
+      → Acked ws b ws′ b′ i s
+  failed : (n : ℕ) → endOf ws i .state ≡ Failing n → counts (endOf ws i .run) s ≡ true
+      → endOf ws′ i ≡ turnedTo (endOf ws i) (Failing (fewer (timerIn b (cell i (endOf ws i .run .window) s)) n)) (ackedRun (endOf ws i .run) s) → Acked ws b ws′ b′ i s
+
+record Outcome (t ws b : List ℕ) (l : Lists) (ws′ b′ : List ℕ) (i s : ℕ) : Type 0 where
+  lists : Lists
+  good : Good t ws′ b′ lists
+  apart : Apart i ws ws′
+  within : Within i b b′ l lists
+  ends : Acked ws b ws′ b′ i s
+  lengths : (c : ℕ) → c < 2048 → lengthIn b′ c ≡ lengthIn b c
+
+-- ---- the states
+
+module _ (t ws b : List ℕ) (l : Lists) (G : Good t ws b l) (i s : ℕ) (li : i < countIn ws) (kind : isSends (endOf ws i .entry .kind) ≡ true) (hs : s < 256) where
+  -- the number's cell
+  number-here : past (endOf ws i .run .window) (offsetOf (endOf ws i .run .window) s) ≡ s
+  number-here = distance-back (endOf ws i .run .window .start .0) s (entry-window t ws b l G i li .byte) hs
+
+  module _ (c : counts (endOf ws i .run) s ≡ true) where
+    says : Counts (endOf ws i .run) s
+    says = counts-says (endOf ws i .run) s c
+
+    pass : Passes i (endOf ws i .run .window) (offsetOf (endOf ws i .run .window) s) (passing (endOf ws i .run) s .run) (passing (endOf ws i .run) s .window)
+    pass = passes i (endOf ws i .run) s (entry-window t ws b l G i li) says
+
+    inside : offsetOf (endOf ws i .run .window) s < endOf ws i .run .window .size
+    inside = ltb-true (offsetOf (endOf ws i .run .window) s) (endOf ws i .run .window .size) (says .inside)
+
+    -- Open
+    module _ (o : OpenSender b l i (endOf ws i)) where
+      open-gone : Gone b (stopped b (cell i (endOf ws i .run .window) s)) l i (endOf ws i .run .window) (offsetOf (endOf ws i .run .window) s)
+      open-gone =
+          subst (λ (z : ℕ). Gone b (stopped b (cell i (endOf ws i .run .window) z)) l i (endOf ws i .run .window) (offsetOf (endOf ws i .run .window) s)) number-here
+          (open-book b l (G .lines) i (entry-low t ws b l G i li) (endOf ws i .run) (entry-window t ws b l G i li) (o .resends) (offsetOf (endOf ws i .run .window) s) (says .handed) inside (says .missing))
+
+      open-sender : OpenSender (stopped b (cell i (endOf ws i .run .window) s)) (open-gone .lists) i (turnedTo (endOf ws i) Open (ackedRun (endOf ws i .run) s))
+      unfolding ackedRun
+      open-sender =
+          let r = endOf ws i .run in
+          let b′ = stopped b (cell i (r .window) s) in
+          let k = offsetOf (r .window) s in
+          let z = open-gone in
+          record {
+            sending = moved-sending b b′ i (entry-low t ws b l G i li) r (entry-window t ws b l G i li) (run-fits ws i) (endOf ws i .entry .largest) (o .sending) k (says .handed) (passing r s) pass (z .timed);
+            share = record {
+              resets = ap (mine i) (z .others resets (omega arith) (λ e. omega arith)) ∙ o .share .resets;
+              urgents = ap (mine i) (z .others urgents (omega arith) (λ e. omega arith)) ∙ o .share .urgents;
+              datas = ap (mine i) (z .others datas (omega arith) (λ e. omega arith)) ∙ o .share .datas
+                  ∙ sym (moved-datas b b′ i (entry-low t ws b l G i li) r (entry-window t ws b l G i li) (run-fits ws i) (endOf ws i .entry .largest) (o .sending) k (says .handed) (passing r s) pass (z .timed));
+            };
+            resends = moved-resends b b′ i (entry-low t ws b l G i li) r (entry-window t ws b l G i li) (run-fits ws i) (endOf ws i .entry .largest) (o .sending) k (says .handed) (passing r s) pass (z .timed)
+                l (z .lists) (o .resends) (z .gone) (z .kept);
+          }
+
+      open-fits : RunFits (ackedRun (endOf ws i .run) s)
+      unfolding ackedRun
+      open-fits =
+          let r = endOf ws i .run in
+          moved-fits b (stopped b (cell i (r .window) s)) i (entry-low t ws b l G i li) r (entry-window t ws b l G i li) (run-fits ws i) (endOf ws i .entry .largest) (o .sending) (offsetOf (r .window) s) (says .handed) (passing r s) pass
+          (open-gone .timed)
+
+      open-outcome : endOf ws i .state ≡ Open
+          → Outcome t ws b l (saved ws i Open (ackedRun (endOf ws i .run) s)) (stopped b (cell i (endOf ws i .run .window) s)) i s
+      unfolding ackedRun
+      open-outcome q =
+          let r = ackedRun (endOf ws i .run) s in
+          let z = open-gone in
+          record {
+            lists = z .lists;
+            good = sender-turn t ws b l G i li kind Open r tt open-fits (pass .size) (stopped b (cell i (endOf ws i .run .window) s)) (z .lists) (z .within)
+                (sender-entered t ws b l G i li kind (stopped b (cell i (endOf ws i .run .window) s)) (z .lists) Open r (pass .good) open-sender);
+            apart = apart-saved i ws Open r;
+            within = z .within;
+            ends = counted q c (end-saved ws i Open r (G .long) (entry-low t ws b l G i li) tt open-fits (pass .size));
+            lengths = z .timed .lengths;
+          }
+
+    -- Failing
+    module _ (n : ℕ) (q : endOf ws i .state ≡ Failing n) (o : FailingSender b l i (endOf ws i) n) where
+      failing-timed : Timed b (set b (timerAt (cell i (endOf ws i .run .window) s)) 0) i (endOf ws i .run .window) (offsetOf (endOf ws i .run .window) s) 0
+      failing-timed =
+          let w = endOf ws i .run .window in
+          subst (λ (z : ℕ). Timed b (set b (timerAt (cell i w z)) 0) i w (offsetOf w s) 0) number-here
+          (timed-set i (entry-low t ws b l G i li) w (entry-window t ws b l G i li) (offsetOf w s) inside 0 b (G .lines .long))
+
+      failing-within : Within i b (set b (timerAt (cell i (endOf ws i .run .window) s)) 0) l l
+      failing-within =
+          let w = endOf ws i .run .window in
+          subst (λ (z : ℕ). Within i b (set b (timerAt (cell i w z)) 0) l l) number-here
+          (within-timed i (entry-low t ws b l G i li) w (entry-window t ws b l G i li) (offsetOf w s) inside 0 b l (G .lines))
+
+      failing-sender : FailingSender (set b (timerAt (cell i (endOf ws i .run .window) s)) 0) l i
+          (turnedTo (endOf ws i) (Failing (fewer (timerIn b (cell i (endOf ws i .run .window) s)) n)) (ackedRun (endOf ws i .run) s))
+          (fewer (timerIn b (cell i (endOf ws i .run .window) s)) n)
+      unfolding ackedRun
+      failing-sender =
+          let r = endOf ws i .run in
+          let b′ = set b (timerAt (cell i (r .window) s)) 0 in
+          let k = offsetOf (r .window) s in
+          record {
+            sending = moved-sending b b′ i (entry-low t ws b l G i li) r (entry-window t ws b l G i li) (run-fits ws i) (endOf ws i .entry .largest) (o .sending) k (says .handed) (passing r s) pass failing-timed;
+            urgent = o .urgent;
+            silent = o .silent;
+            timers =
+                ap (λ (x : ℕ). fewer (timerIn b (cell i (r .window) x)) n) (sym number-here)
+                ∙ moved-timers b b′ i (entry-low t ws b l G i li) r (entry-window t ws b l G i li) (run-fits ws i) (endOf ws i .entry .largest) (o .sending) k (says .handed) (passing r s) pass failing-timed n (o .timers);
+          }
+
+      failing-fits : RunFits (ackedRun (endOf ws i .run) s)
+      unfolding ackedRun
+      failing-fits =
+          let r = endOf ws i .run in
+          moved-fits b (set b (timerAt (cell i (r .window) s)) 0) i (entry-low t ws b l G i li) r (entry-window t ws b l G i li) (run-fits ws i) (endOf ws i .entry .largest) (o .sending) (offsetOf (r .window) s) (says .handed) (passing r s) pass
+          failing-timed
+
+      fewer-fits : fewer (timerIn b (cell i (endOf ws i .run .window) s)) n < 65536
+      fewer-fits = sides (eqb (timerIn b (cell i (endOf ws i .run .window) s)) 0) (subst StateFits q (state-fits ws i))
+        where
+          sides : (z : Bool) → n < 65536 → pick z n (n - 1) < 65536
+          sides true h = h
+          sides false h = omega arith
+
+      failing-outcome :
+          Outcome t ws b l (saved ws i (Failing (fewer (timerIn b (cell i (endOf ws i .run .window) s)) n)) (ackedRun (endOf ws i .run) s))
+          (set b (timerAt (cell i (endOf ws i .run .window) s)) 0) i s
+      unfolding ackedRun
+      failing-outcome =
+          let r = ackedRun (endOf ws i .run) s in
+          let b′ = set b (timerAt (cell i (endOf ws i .run .window) s)) 0 in
+          let m = fewer (timerIn b (cell i (endOf ws i .run .window) s)) n in
+          record {
+            lists = l;
+            good = sender-turn t ws b l G i li kind (Failing m) r fewer-fits failing-fits (pass .size) b′ l failing-within
+                (sender-entered t ws b l G i li kind b′ l (Failing m) r (pass .good) failing-sender);
+            apart = apart-saved i ws (Failing m) r;
+            within = failing-within;
+            ends = failed n q c (end-saved ws i (Failing m) r (G .long) (entry-low t ws b l G i li) fewer-fits failing-fits (pass .size));
+            lengths = failing-timed .lengths;
+          }
+
+  -- Enabled, opened by number 0
+  fresh-sending : (b′ : List ℕ) → Sending b′ i (openedRun (endOf ws i .run)) (endOf ws i .entry .largest)
+  unfolding openedRun
+  fresh-sending b′ =
+      let none = reset-held (endOf ws i .run .window) in
+      record {
+        taken = omega arith;
+        handed = omega arith;
+        acked = λ k h. absurd (true≢false (sym h ∙ none k));
+        first = none 0;
+        counted = refl;
+        filled = λ k h. absurd (omega arith);
+        stopped = λ k h. absurd (true≢false (sym h ∙ none k));
+        urgent = omega arith;
+      }
+
+  fresh-sender : (b′ : List ℕ) (l′ : Lists) → Silent l′ i [] → OpenSender b′ l′ i (turnedTo (endOf ws i) Open (openedRun (endOf ws i .run)))
+  unfolding openedRun ids
+  fresh-sender b′ l′ h =
+      record {
+        sending = fresh-sending b′;
+        share = h .share;
+        resends = record {
+          each = λ x m. absurd (List·Memᴰ·not-nil (subst (λ (ys : List ℕ). List·Memᴰ x ys) (h .resends) m));
+          all = λ x p. absurd (omega (arith, p .handed));
+        };
+      }
+
+  fresh-fits : RunFits (openedRun (endOf ws i .run))
+  unfolding openedRun
+  fresh-fits =
+      record { start = omega arith; taken = omega arith; handed = omega arith; accepted = omega arith; confirmed = omega arith; urgent = omega arith }
+
+  opened-outcome : (t₀ : ℕ) → endOf ws i .state ≡ Enabled t₀ true → s ≡ 0 → (b′ : List ℕ) (l′ : Lists) → Within i b b′ l l′ → ((c : ℕ) → 4224 ≤ c → getD b′ c 0 ≡ getD b c 0) → Silent l′ i []
+      → Outcome t ws b l (saved ws i Open (openedRun (endOf ws i .run))) b′ i s
+  unfolding openedRun
+  opened-outcome t₀ q z b′ l′ v same h =
+      let r = openedRun (endOf ws i .run) in
+      record {
+        lists = l′;
+        good = sender-turn t ws b l G i li kind Open r tt fresh-fits refl b′ l′ v
+            (sender-entered t ws b l G i li kind b′ l′ Open r (reset-good (endOf ws i .run .window) (entry-window t ws b l G i li)) (fresh-sender b′ l′ h));
+        apart = apart-saved i ws Open r;
+        within = v;
+        ends = opened t₀ q z (end-saved ws i Open r (G .long) (entry-low t ws b l G i li) tt fresh-fits refl);
+        lengths = λ c l. same (lengthAt c) (omega arith);
+      }
+
+  -- its Reset waited, or not
+  opened-kept : (t₀ : ℕ) → endOf ws i .state ≡ Enabled t₀ true → s ≡ 0 → (z : Bool) → Silent l i (pick z (resetId i ∷ []) [])
+      → Outcome t ws b l (saved ws i Open (openedRun (endOf ws i .run))) (pick z (unlinked b (resetId i)) b) i s
+  opened-kept t₀ q e true a =
+      opened-outcome t₀ q e (unlinked b (resetId i)) (less l (resetId i))
+      (within-unlink i b l (G .lines) resets (resetId i) (omega arith) (reset-waited b l (G .lines) i a) (reset-owner i (entry-low t ws b l G i li)))
+      (unlink-cells b l (G .lines) resets (resetId i) (omega arith) (reset-waited b l (G .lines) i a)) (reset-gone b l (G .lines) i a)
+  opened-kept t₀ q e false a = opened-outcome t₀ q e b l (within-same i b l (G .lines)) (λ c h. refl) a
+
+  -- nothing
+  nothing : ackAnswer (endOf ws i) (endOf ws i .state) s ≡ arrived.Ignored → Outcome t ws b l ws b i s
+  nothing h =
+      record {
+        lists = l;
+        good = G;
+        apart = apart-same i ws;
+        within = within-same i b l (G .lines);
+        ends = ignored refl refl h;
+        lengths = λ c g. refl;
+      }
+
+  -- ---- all of them
+
+  outcome : (st : State) → endOf ws i .state ≡ st → Outcome t ws b l (ackNode ws b i (endOf ws i) st s) (ackBook b i (endOf ws i) st s) i s
+  unfolding ackNode ackBook ackAnswer
+  outcome Closed q = nothing (rw q)
+  outcome (Enabled t₀ sent) q = sides sent (eqb s 0) q refl
+    where
+      sides : (y z : Bool) → endOf ws i .state ≡ Enabled t₀ y → eqb s 0 ≡ z
+          → Outcome t ws b l (pick (y && z) (saved ws i Open (openedRun (endOf ws i .run))) ws) (pick (y && z) (resetGone b i t₀) b) i s
+      sides true true q e = opened-kept t₀ q (eqb-true s 0 e) (eqb t₀ 0) (sender-stated t ws b l G i li kind (Enabled t₀ true) q .silent)
+      sides true false q e = nothing (rw (q, e))
+      sides false z q e = nothing (rw q)
+  outcome Open q = sides (counts (endOf ws i .run) s) refl
+    where
+      sides : (z : Bool) → counts (endOf ws i .run) s ≡ z
+          → Outcome t ws b l (pick z (saved ws i Open (ackedRun (endOf ws i .run) s)) ws) (pick z (stopped b (cell i (endOf ws i .run .window) s)) b) i s
+      sides true c = open-outcome c (sender-stated t ws b l G i li kind Open q) q
+      sides false c = nothing (rw (q, c))
+  outcome (Failing n) q = sides (counts (endOf ws i .run) s) refl
+    where
+      sides : (z : Bool) → counts (endOf ws i .run) s ≡ z
+          → Outcome t ws b l (pick z (saved ws i (Failing (fewer (timerIn b (cell i (endOf ws i .run .window) s)) n)) (ackedRun (endOf ws i .run) s)) ws)
+          (pick z (set b (timerAt (cell i (endOf ws i .run .window) s)) 0) b) i s
+      sides true c = failing-outcome c n q (sender-stated t ws b l G i li kind (Failing n) q)
+      sides false c = nothing (rw (q, c))
+
+-- ---- the call
+
+module _ (t : List ℕ) (x : Lent) (l : Lists) (i s : ℕ) (g : Good t (x .node) (x .book) l) (li : i < countIn (x .node))
+    (kind : isSends (endOf (x .node) i .entry .kind) ≡ true) (hs : s < 256) where
+  whole : Outcome t (x .node) (x .book) l (ackNode (x .node) (x .book) i (endOf (x .node) i) (endOf (x .node) i .state) s)
+      (ackBook (x .book) i (endOf (x .node) i) (endOf (x .node) i .state) s) i s
+  whole = outcome t (x .node) (x .book) l g i s li kind hs (endOf (x .node) i .state) refl
+
+  pub ack-keeps : Kept t x (ackAfter x i (endOf (x .node) i) (endOf (x .node) i .state) s) l i
+  ack-keeps = record { lists = whole .lists; good = whole .good; apart = whole .apart; within = whole .within }
+
+  -- what becomes of the end point
+  pub ack-ends : Acked (x .node) (x .book) (ackAfter x i (endOf (x .node) i) (endOf (x .node) i .state) s .node)
+      (ackAfter x i (endOf (x .node) i) (endOf (x .node) i .state) s .book) i s
+  ack-ends = whole .ends
+
+  -- the payloads' lengths are as they were
+  pub ack-lengths : (c : ℕ) → c < 2048 → lengthIn (ackAfter x i (endOf (x .node) i) (endOf (x .node) i .state) s .book) c ≡ lengthIn (x .book) c
+  ack-lengths = whole .lengths

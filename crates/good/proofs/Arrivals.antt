@@ -1,0 +1,164 @@
+-- An arrival, in two ways: refused, and then nothing alters; or taken in by the entry that fits, with what its tests have made sure of.
+-- Assumes nothing.
+use Prim.Native.Nat.{ℕ, zero, suc, _+_, _-_, _≤_, _<_}
+use mathlib.Core.Path.{_≡_, refl, sym, ap, subst, _∙_}
+use mathlib.Core.Logic.{_⊎_, inl, inr}
+use mathlib.Core.Bool.{Bool, true, false, not, _&&_, true≢false}
+use mathlib.Core.List.{List, [], _∷_}
+use native.Mathlib.Nat.{min-eq-left}
+use native.Mathlib.Omega.{arith}
+use lib.ListN.{length, getD, take, drop, length-take, length-drop}
+use lib.Dec.{eqb, leb, ltb}
+use borrow.Author.Tests.{eqb-true, leb-true, leb-false, ltb-false, not-false}
+use Rattle.units.specs.Refusals.{pick, verdict}
+use Rattle.units.specs.Bytes.{get16Of}
+use Rattle.units.specs.declared.refusals.Refusal.{Refusal}
+use Rattle.units.specs.declared.refusals.Refusal.the-variants as refusal
+use Rattle.units.specs.declared.refusals.Verdict.{Verdict}
+use Rattle.units.specs.declared.refusals.Verdict.the-variants as verdicts
+use Rattle.units.proofs.Judging.{clear}
+use Rattle.waiting.specs.Acks.{waitingOf}
+use Rattle.frame.specs.Layout.{payloadOf, typeAt}
+use Rattle.frame.specs.Reading.{soundOf, headerOf, readOf, headerAt, headerTests, readAs}
+use Rattle.frame.specs.Types.{typeOf, suits, carries, seqGiven}
+use Rattle.frame.specs.declared.Header.{Header}
+use Rattle.frame.specs.declared.Read.{Read}
+use Rattle.frame.specs.declared.Read.the-variants as read
+use Rattle.frame.specs.declared.FrameType.{FrameType}
+use Rattle.frame.specs.declared.FrameType.the-variants as type
+use Rattle.frame.proofs.ReadLaws.{Taken as Framed, taken as framed}
+use Rattle.ends.specs.Ends.{loadEntry, endOf}
+use Rattle.ends.specs.Heads.{countIn, needIn}
+use Rattle.ends.specs.States.{isClosed, isOpen}
+use Rattle.ends.specs.Lent.{Lent}
+use Rattle.ends.specs.declared.EndPoint.{EndPoint}
+use Rattle.ends.specs.declared.State.{State}
+use Rattle.ends.specs.declared.State.the-variants.{Closed, Enabled, Open, Failing}
+use Rattle.ends.specs.declared.answers.Arrived.{Arrived}
+use Rattle.ends.specs.declared.answers.Arrived.the-variants as arrived
+use Rattle.lookup.specs.Lookup.{forSender, firstFit, entryFor}
+use Rattle.arriving.specs.Arriving.{ours, delivers, answered, blockRoom, entryTests, entryOf, entryVerdict, takenAnswer, takenAfter, answerAs, afterAs, entryAnswer, entryAfter, readAnswer, readAfter, frameTests, arrivalAnswer, arrivalAfter}
+use Rattle.table.proofs.Every.{both}
+use Rattle.good.proofs.Finding.{Fitting, fitting, found-fits}
+
+-- ---- what the tests make sure of
+
+pub record Taken (x : Lent) (f : List ℕ) : Type 0 where
+  pub header : Header
+  pub entry : ℕ
+  pub read : readOf f ≡ read.Frame header
+  pub known : entry < countIn (x .node)
+  pub fit : Fitting (loadEntry (x .node) entry) (forSender (header .kind)) (header .source .0) (header .channel .0)
+  pub up : isClosed (endOf (x .node) entry .state) ≡ false
+  pub opened : delivers (header .kind) ≡ true → endOf (x .node) entry .state ≡ Open
+  pub short : delivers (header .kind) ≡ true → length (payloadOf f) ≤ endOf (x .node) entry .entry .largest
+  pub some : delivers (header .kind) ≡ true → 1 ≤ length (payloadOf f)
+  pub room : answered (header .kind) ≡ true → waitingOf (x .node) < 32
+  pub need : needIn (x .node) ≤ length (x .store)
+  pub block : delivers (header .kind) ≡ true → blockRoom (endOf (x .node) entry) ≤ length (x .out)
+  pub byte : ((k : ℕ) → getD f k 0 < 256) → header .seq .0 < 256
+  pub answer : arrivalAnswer x f ≡ takenAnswer x entry (endOf (x .node) entry) (header .kind) (header .seq .0) (payloadOf f)
+  pub after : arrivalAfter x f ≡ takenAfter x entry (endOf (x .node) entry) (header .kind) (header .seq .0) (payloadOf f)
+
+pub record Refused (x : Lent) (f : List ℕ) : Type 0 where
+  pub why : Refusal
+  pub answer : arrivalAnswer x f ≡ arrived.Refused why
+  pub after : arrivalAfter x f ≡ x
+
+is-open : (s : State) → isOpen s ≡ true → s ≡ Open
+is-open Closed h = absurd (true≢false (sym h))
+is-open (Enabled t sent) h = absurd (true≢false (sym h))
+is-open Open h = refl
+is-open (Failing n) h = absurd (true≢false (sym h))
+
+-- a test that is made of those that deliver only
+and-false : (a b : Bool) → (a && b) ≡ false → a ≡ true → b ≡ false
+and-false true b h e = h
+and-false false b h e = absurd (true≢false (sym e))
+
+-- a payload is as long as the header says, and there is one where one is delivered
+payload-size : (f : List ℕ) (h : Header) → readOf f ≡ read.Frame h → (length (payloadOf f) ≡ h .length) × (delivers (h .kind) ≡ true → 1 ≤ length (payloadOf f))
+unfolding payloadOf
+payload-size f h e =
+    let t = framed f h e in
+    let n : length (take (length f - 9) (drop 8 f)) ≡ get16Of f 4 =
+    length-take (length f - 9) (drop 8 f) ∙ (let z = length-drop 8 f in let y = t .0 .size in omega arith) in
+    let l : get16Of f 4 ≡ h .length = ap (λ (x : Header). x .length) (t .1) in
+    let q : typeOf (typeAt f) ≡ h .kind = ap (λ (x : Header). x .kind) (t .1) in
+    (n ∙ l, λ d. rw n (carried (typeOf (typeAt f)) (get16Of f 4) (rw q d) (t .0 .fits)))
+  where
+    carried : (t : FrameType) (n : ℕ) → delivers t ≡ true → suits t n ≡ true → 1 ≤ n
+    carried type.Data n d s = leb-true 1 n (both (leb 1 n) (leb n 65520) s .0)
+    carried type.Acknowledge n d s = absurd (true≢false (sym d))
+    carried type.Reset n d s = absurd (true≢false (sym d))
+    carried type.Urgent n d s = leb-true 1 n (both (leb 1 n) (leb n 65520) s .0)
+
+seq-byte : (t : FrameType) (s : ℕ) → s < 256 → seqGiven t s < 256
+seq-byte type.Data s h = h
+seq-byte type.Acknowledge s h = h
+seq-byte type.Reset s h = h
+seq-byte type.Urgent s h = omega arith
+
+header-byte : (f : List ℕ) (h : Header) → readOf f ≡ read.Frame h → ((k : ℕ) → getD f k 0 < 256) → h .seq .0 < 256
+header-byte f h e b =
+    let t = framed f h e in
+    let q : seqGiven (typeOf (typeAt f)) (getD f 7 0) ≡ h .seq .0 = ap (λ (x : Header). x .seq .0) (t .1) in
+    rw (← q) (seq-byte (typeOf (typeAt f)) (getD f 7 0) (b 7))
+
+-- ---- at the entry
+
+module _ (x : Lent) (f : List ℕ) (h : Header) (r : readOf f ≡ read.Frame h)
+    (answer : arrivalAnswer x f ≡ entryAnswer x (entryOf x h) h (payloadOf f))
+    (after : arrivalAfter x f ≡ entryAfter x (entryOf x h) h (payloadOf f)) where
+  at-entry : (v : Verdict) → entryVerdict x (entryOf x h) h ≡ v → Refused x f ⊎ Taken x f
+  unfolding entryAnswer entryAfter entryFor
+  at-entry (verdicts.Refused w) e =
+      inl (record {
+        why = w;
+        answer = answer ∙ ap (λ (v : Verdict). answerAs v (takenAnswer x (entryOf x h) (endOf (x .node) (entryOf x h)) (h .kind) (h .seq .0) (payloadOf f))) e;
+        after = after ∙ ap (λ (v : Verdict). afterAs v x (takenAfter x (entryOf x h) (endOf (x .node) (entryOf x h)) (h .kind) (h .seq .0) (payloadOf f))) e;
+      })
+  at-entry verdicts.Passed e =
+      let i = entryOf x h in
+      let c = clear (entryTests (x .node) i (endOf (x .node) i) (h .kind) (h .length) (length (x .store)) (length (x .out))) e in
+      let p = payload-size f h r in
+      let known : i < countIn (x .node) = leb-false (countIn (x .node)) i (c .0) in
+      inr (record {
+        header = h;
+        entry = i;
+        read = r;
+        known = known;
+        fit = fitting (loadEntry (x .node) i) (forSender (h .kind)) (h .source .0) (h .channel .0) (found-fits (x .node) (forSender (h .kind)) (h .source .0) (h .channel .0) (countIn (x .node)) known);
+        up = c .1 .0;
+        opened = λ d. is-open (endOf (x .node) i .state) (not-false (isOpen (endOf (x .node) i .state)) (and-false (delivers (h .kind)) _ (c .1 .1 .0) d));
+        short = λ d. rw (p .0) (ltb-false _ _ (and-false (delivers (h .kind)) _ (c .1 .1 .1 .0) d));
+        some = p .1;
+        room = λ d. leb-false 32 (waitingOf (x .node)) (and-false (answered (h .kind)) _ (c .1 .1 .1 .1 .0) d);
+        need = ltb-false (length (x .store)) (needIn (x .node)) (c .1 .1 .1 .1 .1 .0);
+        block = λ d. ltb-false _ _ (and-false (delivers (h .kind)) _ (c .1 .1 .1 .1 .1 .1 .0) d);
+        byte = header-byte f h r;
+        answer = answer ∙ ap (λ (v : Verdict). answerAs v (takenAnswer x (entryOf x h) (endOf (x .node) (entryOf x h)) (h .kind) (h .seq .0) (payloadOf f))) e;
+        after = after ∙ ap (λ (v : Verdict). afterAs v x (takenAfter x (entryOf x h) (endOf (x .node) (entryOf x h)) (h .kind) (h .seq .0) (payloadOf f))) e;
+      })
+
+-- ---- the call
+
+module _ (x : Lent) (f : List ℕ) where
+  whole-read : (h : Header) → soundOf f ≡ true → headerOf f ≡ read.Frame h → readOf f ≡ read.Frame h
+  unfolding headerOf readOf
+  whole-read h s e = rw s e
+
+  read-on : (v : Read) → headerOf f ≡ v → verdict (frameTests (x .node) f) ≡ verdicts.Passed → Refused x f ⊎ Taken x f
+  unfolding arrivalAnswer arrivalAfter readAnswer readAfter
+  read-on (read.Refused w) e p = inl (record { why = w; answer = rw (p, e); after = rw (p, e) })
+  read-on (read.Frame h) e p =
+      let c = clear (frameTests (x .node) f) p in
+      at-entry x f h (whole-read h (not-false (soundOf f) (c .0)) e) (rw (p, e)) (rw (p, e)) (entryVerdict x (entryOf x h) h) refl
+
+  judged : (v : Verdict) → verdict (frameTests (x .node) f) ≡ v → Refused x f ⊎ Taken x f
+  unfolding arrivalAnswer arrivalAfter
+  judged (verdicts.Refused w) e = inl (record { why = w; answer = rw e; after = rw e })
+  judged verdicts.Passed e = read-on (headerOf f) refl e
+
+  pub arrives : Refused x f ⊎ Taken x f
+  arrives = judged (verdict (frameTests (x .node) f)) refl

@@ -1,0 +1,204 @@
+-- Close keeps a good node good: nothing of the entry waits any more, neither a sender's frames nor a receiver's acknowledgements, and its
+-- run begins anew. Refused, it leaves everything. Assumes nothing.
+use Prim.Native.Nat.{ℕ, _/_, _%_, _≤_, _<_}
+use mathlib.Core.Path.{_≡_, refl, sym, ap, subst, _∙_}
+use mathlib.Core.Logic.{_≢_}
+use mathlib.Core.Bool.{Bool, true, false}
+use mathlib.Core.List.{List, [], _∷_, List·Memᴰ, List·Memᴰ·head}
+use native.Mathlib.Omega.{arith}
+use lib.Dec.{eqb, leb}
+use borrow.Author.Tests.{eq-eqb, le-leb, leb-false}
+use Rattle.units.specs.Refusals.{pick}
+use Rattle.units.specs.declared.refusals.Refusal.the-variants as refusal
+use Rattle.units.specs.declared.refusals.Verdict.{Verdict}
+use Rattle.units.specs.declared.refusals.Verdict.the-variants.{Passed, Refused}
+use Rattle.units.proofs.Judging.{clear}
+use Rattle.memory.specs.Layout.{resets, urgents, resends, datas, resetId}
+use Rattle.waiting.specs.Queues.{unlinked}
+use Rattle.waiting.specs.Acks.{dropped}
+use Rattle.order.specs.Order.{acksIn}
+use Rattle.order.proofs.Ringed.{Ring, drop-acks, drop-ring}
+use Rattle.window.specs.Windows.{Good as GoodWindow}
+use Rattle.ends.specs.Ends.{endOf, saved}
+use Rattle.ends.specs.Heads.{countIn}
+use Rattle.ends.specs.States.{isSends, isClosed, anew}
+use Rattle.ends.specs.Lent.{Lent}
+use Rattle.ends.specs.declared.State.{State}
+use Rattle.ends.specs.declared.State.the-variants.{Closed, Enabled, Open, Failing}
+use Rattle.ends.specs.declared.EndPoint.{EndPoint}
+use Rattle.opening.specs.Opening.{closeAnswer, silenced, closeAfter}
+use Rattle.good.specs.Good.{Lists, Lines, Silent, Stated, Entered, Good}
+use Rattle.good.proofs.Members.{without, mine-in, mine-without}
+use Rattle.good.proofs.Lined.{less}
+use Rattle.good.proofs.Framing.{Within, within-same, within-unlink, Apart, apart-then, apart-saved, framed, count-low}
+use Rattle.good.proofs.Offsets.{reset-owner}
+use Rattle.good.proofs.Turns.{run-fits, turnedTo, end-saved, owed-other, sender-turn, drop-apart, drop-end, not-in, Kept, kept-same}
+use Rattle.good.proofs.Idling.{less-nil, idle}
+use Rattle.good.proofs.OpenKeeps.{anew-fits, anew-size, anew-fresh, anew-window, free-turn}
+
+-- ---- nothing of the entry waits
+
+record Quiet (i : ℕ) (b b′ : List ℕ) (l : Lists) : Type 0 where
+  lists : Lists
+  within : Within i b b′ l lists
+  silent : Silent lists i []
+
+module _ (b : List ℕ) (l : Lists) (i : ℕ) (low : i < 16) (L : Lines b l) where
+  quiet-same : Silent l i [] → Quiet i b b l
+  quiet-same s = record { lists = l; within = within-same i b l L; silent = s }
+
+  -- its Reset, where one waits
+  quiet-reset : (t : Bool) → Silent l i (pick t (resetId i ∷ []) []) → Quiet i b (pick t (unlinked b (resetId i)) b) l
+  quiet-reset true s =
+      let x = resetId i in
+      let m = mine-in i x (l resets) (subst (λ (ys : List ℕ). List·Memᴰ x ys) (sym (s .share .resets)) (List·Memᴰ·head refl)) .0 in
+      record {
+        lists = less l x;
+        within = within-unlink i b l L resets x (omega arith) m (reset-owner i low);
+        silent =
+            record {
+              share =
+                  record {
+                    resets = mine-without i x (l resets) ∙ ap (without x) (s .share .resets) ∙ rw (eq-eqb x x refl);
+                    urgents = less-nil i l urgents x (s .share .urgents);
+                    datas = less-nil i l datas x (s .share .datas);
+                  };
+              resends = less-nil i l resends x (s .resends);
+            };
+      }
+  quiet-reset false s = quiet-same s
+
+  module _ (e : EndPoint) (g : GoodWindow (e .run .window)) where
+    quiet-sender : (s : State) → Stated b l i e true s → Quiet i b (silenced i s (e .run) b) l
+    unfolding silenced
+    quiet-sender Closed h = quiet-same (h .silent)
+    quiet-sender (Enabled t sent) h = quiet-reset (eqb t 0) (h .silent)
+    quiet-sender Open h =
+        let d = idle b l i low L e g h in
+        record { lists = d .lists; within = d .within; silent = subst (Silent (d .lists) i) (h .share .resets) (d .silent) }
+    quiet-sender (Failing n) h = quiet-same (h .silent)
+
+    quiet-receiver : (s : State) → Stated b l i e false s → Silent l i []
+    quiet-receiver Closed h = h .silent
+    quiet-receiver (Enabled t sent) h = h .0 .silent
+    quiet-receiver Open h = h .silent
+    quiet-receiver (Failing n) h = absurd h
+
+-- the entry then
+closed-entered : (b : List ℕ) (l : Lists) (i : ℕ) (e : EndPoint) → GoodWindow (e .run .window) → Silent l i [] → Entered b l i (turnedTo e Closed (anew (e .run)))
+closed-entered b l i e g s = record { window = anew-window (e .run) g; stated = record { fresh = anew-fresh (e .run); silent = s } }
+
+-- ---- a receiver's acknowledgements are dropped
+
+module _ (t ws b : List ℕ) (l : Lists) (g : Good t ws b l) (i : ℕ) (li : i < countIn ws) where
+  low : i < 16
+  low = let c = count-low t ws b l g in omega arith
+
+  ring : Ring ws
+  ring = record { long = omega (arith, g .long); most = g .acks }
+
+  apart : Apart i ws (dropped i ws)
+  apart = drop-apart i i ws ring
+
+  -- what is left is owed to others
+  left : (w : ℕ) → List·Memᴰ w (acksIn (dropped i ws)) → List·Memᴰ w (acksIn ws) × (w / 256 ≢ i)
+  left w m =
+      let p = not-in i (acksIn ws) w (subst (λ (ys : List ℕ). List·Memᴰ w ys) (drop-acks i ws ring) m) in
+      let n = p .1 in
+      (p .0, λ e. n (let h = low in omega arith))
+
+  drop-good : Good t (dropped i ws) b l
+  drop-good =
+      framed i ws (dropped i ws) apart t b b l l g (within-same i b l (g .lines)) li (drop-ring i ws ring .most)
+      (λ w m. let p = left w m in owed-other i ws (dropped i ws) apart w (g .owed w (p .0)) (p .1))
+      (subst (Entered b l i) (sym (drop-end i i ws ring)) (g .entered i li))
+
+  drop-known : i < countIn (dropped i ws)
+  drop-known = subst (λ (c : ℕ). i < c % 256) (sym (apart .head 0 (omega arith))) li
+
+  -- and is Closed
+  drop-closed : Silent l i [] → Good t (saved (dropped i ws) i Closed (anew (endOf ws i .run))) b l
+  drop-closed s =
+      let r = endOf ws i .run in
+      let h = drop-end i i ws ring in
+      free-turn t (dropped i ws) b l drop-good i drop-known (λ w m. left w m .1) Closed (anew r) tt (anew-fits r (run-fits ws i))
+      (anew-size r ∙ ap (λ (e : EndPoint). e .run .window .size) (sym h)) b l (within-same i b l (g .lines))
+      (subst (λ (e : EndPoint). Entered b l i (turnedTo e Closed (anew r))) (sym h) (closed-entered b l i (endOf ws i) (g .entered i li .window) s))
+
+  drop-end-closed : endOf (saved (dropped i ws) i Closed (anew (endOf ws i .run))) i ≡ turnedTo (endOf ws i) Closed (anew (endOf ws i .run))
+  drop-end-closed =
+      let r = endOf ws i .run in
+      let h = drop-end i i ws ring in
+      end-saved (dropped i ws) i Closed (anew r) (apart .long ∙ g .long) low tt (anew-fits r (run-fits ws i)) (anew-size r ∙ ap (λ (e : EndPoint). e .run .window .size) (sym h))
+      ∙ ap (λ (e : EndPoint). turnedTo e Closed (anew r)) h
+
+-- ---- the call
+
+-- all that was lent, for an entry that sends or not
+abbrev closedAs : Lent → ℕ → EndPoint → Bool → Lent
+closedAs x i e k =
+    record {
+      node = saved (pick k (x .node) (dropped i (x .node))) i Closed (anew (e .run));
+      book = pick k (silenced i (e .state) (e .run) (x .book)) (x .book);
+      store = x .store;
+      out = x .out;
+    }
+
+module _ (x : Lent) (i : ℕ) (t : List ℕ) (l : Lists) (g : Good t (x .node) (x .book) l) (li : i < countIn (x .node)) where
+  closed-kept : (k : Bool) → isSends (endOf (x .node) i .entry .kind) ≡ k → Kept t x (closedAs x i (endOf (x .node) i) k) l i
+  closed-kept true h =
+      let e = endOf (x .node) i in
+      let n = g .entered i li in
+      let b = silenced i (e .state) (e .run) (x .book) in
+      let q = quiet-sender (x .book) l i (low t (x .node) (x .book) l g i li) (g .lines) e (n .window) (e .state) (subst (λ (k : Bool). Stated (x .book) l i e k (e .state)) h (n .stated)) in
+      record {
+        lists = q .lists;
+        good =
+            sender-turn t (x .node) (x .book) l g i li h Closed (anew (e .run)) tt (anew-fits (e .run) (run-fits (x .node) i)) (anew-size (e .run)) b (q .lists) (q .within)
+            (closed-entered b (q .lists) i e (n .window) (q .silent));
+        apart = apart-saved i (x .node) Closed (anew (e .run));
+        within = q .within;
+      }
+  closed-kept false h =
+      let e = endOf (x .node) i in
+      let n = g .entered i li in
+      let s = quiet-receiver (x .book) l i (low t (x .node) (x .book) l g i li) (g .lines) e (n .window) (e .state) (subst (λ (k : Bool). Stated (x .book) l i e k (e .state)) h (n .stated)) in
+      record {
+        lists = l;
+        good = drop-closed t (x .node) (x .book) l g i li s;
+        apart =
+            apart-then i (x .node) (dropped i (x .node)) (saved (dropped i (x .node)) i Closed (anew (e .run))) (apart t (x .node) (x .book) l g i li)
+            (apart-saved i (dropped i (x .node)) Closed (anew (e .run)));
+        within = within-same i (x .book) l (g .lines);
+      }
+
+  closed-end : (k : Bool) → endOf (closedAs x i (endOf (x .node) i) k .node) i ≡ turnedTo (endOf (x .node) i) Closed (anew (endOf (x .node) i .run))
+  closed-end true =
+      let r = endOf (x .node) i .run in
+      end-saved (x .node) i Closed (anew r) (g .long) (low t (x .node) (x .book) l g i li) tt (anew-fits r (run-fits (x .node) i)) (anew-size r)
+  closed-end false = drop-end-closed t (x .node) (x .book) l g i li
+
+pub close-keeps : (t : List ℕ) (x : Lent) (l : Lists) (i : ℕ) → Good t (x .node) (x .book) l → i < countIn (x .node) → Kept t x (closeAfter x i (closeAnswer x i)) l i
+unfolding closeAfter
+close-keeps t x l i g li = sides (closeAnswer x i)
+  where
+    sides : (v : Verdict) → Kept t x (closeAfter x i v) l i
+    sides (Refused w) = kept-same t x l i g
+    sides Passed = closed-kept x i t l g li (isSends (endOf (x .node) i .entry .kind)) refl
+
+-- no such entry: everything stays
+pub close-refused : (x : Lent) (i : ℕ) → countIn (x .node) ≤ i → closeAfter x i (closeAnswer x i) ≡ x
+unfolding closeAnswer closeAfter
+close-refused x i h = rw (le-leb (countIn (x .node)) i h)
+
+close-known : (x : Lent) (i : ℕ) → closeAnswer x i ≡ Passed → i < countIn (x .node)
+unfolding closeAnswer
+close-known x i h =
+    leb-false (countIn (x .node)) i
+    (clear ((leb (countIn (x .node)) i, refusal.NoEntry) ∷ (isClosed (endOf (x .node) i .state), refusal.WrongState) ∷ []) h .0)
+
+-- where it went through the entry is Closed with a run begun anew
+pub close-passed : (t : List ℕ) (x : Lent) (l : Lists) (i : ℕ) → Good t (x .node) (x .book) l → closeAnswer x i ≡ Passed
+    → endOf (closeAfter x i (closeAnswer x i) .node) i ≡ turnedTo (endOf (x .node) i) Closed (anew (endOf (x .node) i .run))
+unfolding closeAfter
+close-passed t x l i g h = rw h (closed-end x i t l g (close-known x i h) (isSends (endOf (x .node) i .entry .kind)))

@@ -1,0 +1,311 @@
+-- A call's business is one entry's: whatever alters no other entry's end point, cells and share of what waits keeps the rest of a
+-- good node good. Assumes nothing.
+use Prim.Native.Nat.{ℕ, zero, suc, _+_, _-_, _*_, _/_, _%_, _≤_, _<_}
+use mathlib.Core.Path.{_≡_, refl, sym, ap, subst, _∙_}
+use mathlib.Core.Logic.{_≢_, _⊎_, inl, inr}
+use mathlib.Core.Bool.{Bool, true, false}
+use mathlib.Core.List.{List, [], _∷_, _++_, List·Memᴰ, append-nil}
+use native.Mathlib.Decide.{ℕ-discrete, decLe}
+use native.Mathlib.Nat.{mod-lt}
+use native.Mathlib.Omega.{arith}
+use lib.ListN.{length, getD, set}
+use lib.Seq.{getD-set-other, length-sets}
+use lib.Dec.{eqb}
+use borrow.Author.Tests.{ne-eqb}
+use Rattle.units.specs.Refusals.{pick}
+use Rattle.memory.specs.Layout.{resets, urgents, resends, datas, entryAt, lengthAt, timerAt, retriesAt}
+use Rattle.waiting.specs.Queues.{appended, unlinked}
+use Rattle.waiting.specs.Acks.{waitingOf}
+use Rattle.order.specs.Order.{acksIn}
+use Rattle.kept.proofs.Kept.{end-ext, saved-word, saved-head, saved-other}
+use Rattle.window.specs.Windows.{held, Good as GoodWindow}
+use Rattle.window.specs.declared.Window.{Window}
+use Rattle.window.proofs.Sizes.{size-pos, size-le}
+use Rattle.table.specs.Layout.{countOf}
+use Rattle.ends.specs.Ends.{word, loadEntry, endOf, stateWords, runWords, saved}
+use Rattle.ends.specs.Heads.{countIn, ownIn, protocolIn, needIn}
+use Rattle.ends.specs.States.{isSends}
+use Rattle.ends.specs.declared.State.{State}
+use Rattle.ends.specs.declared.State.the-variants.{Closed, Enabled, Open, Failing}
+use Rattle.ends.specs.declared.Run.{Run}
+use Rattle.ends.specs.declared.EndPoint.{EndPoint}
+use Rattle.slots.specs.Slots.{slotFor, cell, past, lengthIn, timerIn}
+use Rattle.table.proofs.Good.{good-head}
+use Rattle.good.specs.Good.{Lists, Lines, ownerOf, Ranged, mine, idAt, ids, Share, Resend, Resends, Silent, Fresh, Filled, Sending, Receiving, running, OpenSender, FailingSender, OpenReceiver, Anew, Stated, Entered, Tabled, Owed, Good}
+use Rattle.good.proofs.Members.{mine-append, mine-own, mine-other, mine-apart, without-in}
+use Rattle.good.proofs.Lined.{added, less, added-here, added-there, added-in, append-lines, append-cells, unlink-lines, unlink-cells, set-lines}
+
+-- ---- the book: only entry i's cells and share alter
+
+-- whose a word beyond the links is
+abbrev pub cellOwner : ℕ → ℕ
+cellOwner k = (k - 4224) % 2048 / 128
+
+pub record Within (i : ℕ) (b b′ : List ℕ) (l l′ : Lists) : Type 0 where
+  pub lines : Lines b′ l′
+  pub cells : (k : ℕ) → 4224 ≤ k → cellOwner k ≢ i → getD b′ k 0 ≡ getD b k 0
+  pub shares : (j : ℕ) → j ≢ i → (q : ℕ) → q < 4 → mine j (l′ q) ≡ mine j (l q)
+  pub known : (q : ℕ) → q < 4 → (x : ℕ) → List·Memᴰ x (l′ q) → List·Memᴰ x (l q) ⊎ ((ownerOf x ≡ i) × Ranged q x)
+
+pub within-same : (i : ℕ) (b : List ℕ) (l : Lists) → Lines b l → Within i b b l l
+within-same i b l L = record { lines = L; cells = λ k h n. refl; shares = λ j n q h. refl; known = λ q h x m. inl m }
+
+pub within-then : (i : ℕ) (a b c : List ℕ) (k l m : Lists) → Within i a b k l → Within i b c l m → Within i a c k m
+within-then i a b c k l m v w =
+    record {
+      lines = w .lines;
+      cells = λ x h n. w .cells x h n ∙ v .cells x h n;
+      shares = λ j n q h. w .shares j n q h ∙ v .shares j n q h;
+      known = λ q h x e. sides q x (v .known q h x) (w .known q h x e);
+    }
+  where
+    sides : (q x : ℕ) → (List·Memᴰ x (l q) → List·Memᴰ x (k q) ⊎ ((ownerOf x ≡ i) × Ranged q x)) → List·Memᴰ x (l q) ⊎ ((ownerOf x ≡ i) × Ranged q x)
+        → List·Memᴰ x (k q) ⊎ ((ownerOf x ≡ i) × Ranged q x)
+    sides q x f (inl e) = f e
+    sides q x f (inr o) = inr o
+
+-- one of entry i's more
+pub within-append : (i : ℕ) (b : List ℕ) (l : Lists) → Lines b l → (q x : ℕ) → q < 4 → 4 ≤ x → x < 2112 → ((r : ℕ) → r < 4 → List·Memᴰ x (l r) → ⊥)
+    → ownerOf x ≡ i → Ranged q x → Within i b (appended b q x) l (added l q x)
+within-append i b l L q x hq low hx none o g =
+    record {
+      lines = append-lines b l L q x hq low hx none;
+      cells = λ k h n. append-cells b l L q x hq low hx none k h;
+      shares = λ j n r hr. share j n r (ℕ-discrete r q);
+      known = λ r hr y m. sides r y (added-in l q x r y m);
+    }
+  where
+    share : (j : ℕ) → j ≢ i → (r : ℕ) → Dec (r ≡ q) → mine j (added l q x r) ≡ mine j (l r)
+    share j n r (yes e) =
+        ap (λ (k : ℕ). mine j (added l q x k)) e ∙ ap (mine j) (added-here l q x) ∙ mine-append j (l q) (x ∷ [])
+        ∙ ap (λ (ys : List ℕ). mine j (l q) ++ ys) (mine-other j x (λ h. n (sym h ∙ o))) ∙ append-nil (mine j (l q)) ∙ ap (λ (k : ℕ). mine j (l k)) (sym e)
+    share j n r (no d) = ap (mine j) (added-there l q x r d)
+
+    sides : (r y : ℕ) → List·Memᴰ y (l r) ⊎ ((r ≡ q) × (y ≡ x)) → List·Memᴰ y (l r) ⊎ ((ownerOf y ≡ i) × Ranged r y)
+    sides r y (inl m) = inl m
+    sides r y (inr e) = inr (ap ownerOf (e .1) ∙ o, subst (λ (k : ℕ). Ranged k y) (sym (e .0)) (subst (Ranged q) (sym (e .1)) g))
+
+-- one of entry i's fewer
+pub within-unlink : (i : ℕ) (b : List ℕ) (l : Lists) → Lines b l → (q x : ℕ) → q < 4 → List·Memᴰ x (l q) → ownerOf x ≡ i
+    → Within i b (unlinked b x) l (less l x)
+within-unlink i b l L q x hq m o =
+    record {
+      lines = unlink-lines b l L q x hq m;
+      cells = λ k h n. unlink-cells b l L q x hq m k h;
+      shares = λ j n r hr. mine-apart j x (l r) (λ e. n (sym e ∙ o));
+      known = λ r hr y k. inl (without-in x y (l r) k .0);
+    }
+
+-- a store in a cell of entry i's
+pub within-set : (i : ℕ) (b : List ℕ) (l : Lists) → Lines b l → (k v : ℕ) → 4224 ≤ k → cellOwner k ≡ i → Within i b (set b k v) l l
+within-set i b l L k v h o =
+    record {
+      lines = set-lines b l L k v h;
+      cells = λ j g n. getD-set-other b k j v 0 (λ e. n (ap cellOwner e ∙ o));
+      shares = λ j n q g. refl;
+      known = λ q g x m. inl m;
+    }
+
+-- ---- the node: only entry i's end point alters, and perhaps the waiting acknowledgements
+
+pub record Apart (i : ℕ) (ws ws′ : List ℕ) : Type 0 where
+  pub long : length ws′ ≡ length ws
+  pub head : (k : ℕ) → k < 4 → getD ws′ k 0 ≡ getD ws k 0
+  pub table : (j k : ℕ) → k < 8 → word ws′ j k ≡ word ws j k
+  pub others : (j : ℕ) → j ≢ i → endOf ws′ j ≡ endOf ws j
+
+pub apart-then : (i : ℕ) (a b c : List ℕ) → Apart i a b → Apart i b c → Apart i a c
+apart-then i a b c v w =
+    record {
+      long = w .long ∙ v .long;
+      head = λ k h. w .head k h ∙ v .head k h;
+      table = λ j k h. w .table j k h ∙ v .table j k h;
+      others = λ j n. w .others j n ∙ v .others j n;
+    }
+
+pub apart-same : (i : ℕ) (ws : List ℕ) → Apart i ws ws
+apart-same i ws = record { long = refl; head = λ k h. refl; table = λ j k h. refl; others = λ j n. refl }
+
+saved-long : (ws : List ℕ) (i : ℕ) (s : State) (r : Run) → length (saved ws i s r) ≡ length ws
+unfolding saved
+saved-long ws i s r = length-sets ws (entryAt i + 8) (stateWords s ++ runWords r)
+
+pub apart-saved : (i : ℕ) (ws : List ℕ) (s : State) (r : Run) → Apart i ws (saved ws i s r)
+apart-saved i ws s r =
+    record {
+      long = saved-long ws i s r;
+      head = λ k h. saved-head ws i s r k (omega arith);
+      table = λ j k h. sides j k h (decLe j i);
+      others = λ j n. saved-other ws i j s r n;
+    }
+  where
+    sides : (j k : ℕ) → k < 8 → Dec (j ≤ i) → word (saved ws i s r) j k ≡ word ws j k
+    sides j k h (yes l) = saved-word ws i s r (entryAt j + k) (inl (omega arith))
+    sides j k h (no l) = saved-word ws i s r (entryAt j + k) (inr (omega arith))
+
+-- whatever alters the waiting acknowledgements alone
+pub apart-rest : (i : ℕ) (ws ws′ : List ℕ) → length ws′ ≡ length ws → ((k : ℕ) → k < 4 → getD ws′ k 0 ≡ getD ws k 0) → ((k : ℕ) → 64 ≤ k → getD ws′ k 0 ≡ getD ws k 0)
+    → Apart i ws ws′
+apart-rest i ws ws′ l h r =
+    record {
+      long = l;
+      head = h;
+      table = λ j k g. r (entryAt j + k) (omega arith);
+      others = λ j n. end-ext ws′ ws j (λ k g. r (entryAt j + k) (omega arith));
+    }
+
+-- ---- an entry that nothing was done to
+
+pub slot-lt : (w : Window) (s : ℕ) → GoodWindow w → slotFor w s < w .size
+slot-lt w s g =
+    let p = size-pos (w .size) (g .sized) in
+    rw (ne-eqb (w .size) 0 (λ e. omega arith)) (mod-lt s p)
+
+module _ (j : ℕ) (low : j < 16) (w : Window) (g : GoodWindow w) where
+  slot-small : (s : ℕ) → slotFor w s < 128
+  slot-small s = omega (arith, slot-lt w s g, size-le (w .size) (g .sized))
+
+  pub length-owner : (s : ℕ) → cellOwner (lengthAt (cell j w s)) ≡ j
+  length-owner s = let h = slot-small s in omega arith
+
+  pub timer-owner : (s : ℕ) → cellOwner (timerAt (cell j w s)) ≡ j
+  timer-owner s = let h = slot-small s in omega arith
+
+  pub retries-owner : (s : ℕ) → cellOwner (retriesAt (cell j w s)) ≡ j
+  retries-owner s = let h = slot-small s in omega arith
+
+pub running-ext : (b b′ : List ℕ) (i : ℕ) (w : Window) (n : ℕ)
+    → ((k : ℕ) → k < n → timerIn b′ (cell i w (past w k)) ≡ timerIn b (cell i w (past w k))) → running b′ i w n ≡ running b i w n
+unfolding running
+running-ext b b′ i w zero h = refl
+running-ext b b′ i w (suc n) h = rw (h n (omega arith), running-ext b b′ i w n (λ k l. h k (omega arith)))
+
+module _ (j : ℕ) (low : j < 16) (b b′ : List ℕ) (l l′ : Lists)
+    (cells : (k : ℕ) → 4224 ≤ k → cellOwner k ≡ j → getD b′ k 0 ≡ getD b k 0)
+    (shares : (q : ℕ) → q < 4 → mine j (l′ q) ≡ mine j (l q)) where
+  module _ (r : Run) (g : GoodWindow (r .window)) where
+    same-length : (s : ℕ) → lengthIn b′ (cell j (r .window) s) ≡ lengthIn b (cell j (r .window) s)
+    same-length s = cells (lengthAt (cell j (r .window) s)) (omega arith) (length-owner j low (r .window) g s)
+
+    same-timer : (s : ℕ) → timerIn b′ (cell j (r .window) s) ≡ timerIn b (cell j (r .window) s)
+    same-timer s = cells (timerAt (cell j (r .window) s)) (omega arith) (timer-owner j low (r .window) g s)
+
+    same-filled : (largest k : ℕ) → Filled b j (r .window) largest k → Filled b′ j (r .window) largest k
+    same-filled largest k f =
+        record { some = rw (same-length (past (r .window) k)) (f .some); most = rw (same-length (past (r .window) k)) (f .most) }
+
+    same-sending : (largest : ℕ) → Sending b j r largest → Sending b′ j r largest
+    same-sending largest s =
+        record {
+          taken = s .taken;
+          handed = s .handed;
+          acked = s .acked;
+          first = s .first;
+          counted = s .counted;
+          filled = λ k h. same-filled largest k (s .filled k h);
+          stopped = λ k h. same-timer (past (r .window) k) ∙ s .stopped k h;
+          urgent = s .urgent;
+        }
+
+    same-receiving : (largest : ℕ) → Receiving b j r largest → Receiving b′ j r largest
+    same-receiving largest s =
+        record { taken = s .taken; handed = s .handed; urgent = s .urgent; first = s .first; filled = λ k h. same-filled largest k (s .filled k h) }
+
+    same-resends : Resends b l j r → Resends b′ l′ j r
+    same-resends s =
+        record {
+          each = λ x m. let p = s .each x (subst (λ (ys : List ℕ). List·Memᴰ x ys) (shares resends (omega arith)) m) in
+              record { at = p .at; handed = p .handed; missing = p .missing; idle = same-timer (past (r .window) (p .at)) ∙ p .idle; is = p .is };
+          all = λ x p. subst (λ (ys : List ℕ). List·Memᴰ x ys) (sym (shares resends (omega arith)))
+              (s .all x (record { at = p .at; handed = p .handed; missing = p .missing; idle = sym (same-timer (past (r .window) (p .at))) ∙ p .idle; is = p .is }));
+        }
+
+  same-share : (rs us ds : List ℕ) → Share l j rs us ds → Share l′ j rs us ds
+  same-share rs us ds s =
+      record {
+        resets = shares resets (omega arith) ∙ s .resets;
+        urgents = shares urgents (omega arith) ∙ s .urgents;
+        datas = shares datas (omega arith) ∙ s .datas;
+      }
+
+  same-silent : (rs : List ℕ) → Silent l j rs → Silent l′ j rs
+  same-silent rs s = record { share = same-share rs [] [] (s .share); resends = shares resends (omega arith) ∙ s .resends }
+
+  same-anew : (e : EndPoint) (rs : List ℕ) → Anew l j e rs → Anew l′ j e rs
+  same-anew e rs a = record { fresh = a .fresh; silent = same-silent rs (a .silent) }
+
+  same-stated : (e : EndPoint) → GoodWindow (e .run .window) → (sends : Bool) (s : State) → Stated b l j e sends s → Stated b′ l′ j e sends s
+  same-stated e g sends Closed a = same-anew e [] a
+  same-stated e g true (Enabled t sent) a = same-anew e (pick (eqb t 0) _ []) a
+  same-stated e g false (Enabled t sent) a = (same-anew e [] (a .0), a .1, a .2)
+  same-stated e g true Open a =
+      record {
+        sending = same-sending (e .run) g (e .entry .largest) (a .sending);
+        share = same-share _ _ _ (a .share);
+        resends = same-resends (e .run) g (a .resends);
+      }
+  same-stated e g false Open a = record { receiving = same-receiving (e .run) g (e .entry .largest) (a .receiving); silent = same-silent [] (a .silent) }
+  same-stated e g true (Failing n) a =
+      record {
+        sending = same-sending (e .run) g (e .entry .largest) (a .sending);
+        urgent = a .urgent;
+        silent = same-silent [] (a .silent);
+        timers = a .timers ∙ sym (running-ext b b′ j (e .run .window) (e .run .handed) (λ k h. same-timer (e .run) g (past (e .run .window) k)));
+      }
+  same-stated e g false (Failing n) a = a
+
+  pub same-entered : (e : EndPoint) → Entered b l j e → Entered b′ l′ j e
+  same-entered e a = record { window = a .window; stated = same-stated e (a .window) (isSends (e .entry .kind)) (e .state) (a .stated) }
+
+-- ---- the node as a whole
+
+pub count-low : (t ws b : List ℕ) (l : Lists) → Good t ws b l → countIn ws ≤ 16
+count-low t ws b l g = let h = good-head t (g .table) .count in omega (arith, g .tabled .count)
+
+module _ (i : ℕ) (ws ws′ : List ℕ) (a : Apart i ws ws′) where
+  apart-count : countIn ws′ ≡ countIn ws
+  apart-count = ap (λ (x : ℕ). x % 256) (a .head 0 (omega arith))
+
+  pub apart-entry : (j : ℕ) → loadEntry ws′ j ≡ loadEntry ws j
+  unfolding loadEntry
+  apart-entry j =
+      let z : entryAt j + 0 ≡ entryAt j = omega arith in
+      let h0 : getD ws′ (entryAt j) 0 ≡ getD ws (entryAt j) 0 = rw z at (a .table j 0 (omega arith)) in
+      rw (h0, a .table j 1 (omega arith), a .table j 2 (omega arith), a .table j 3 (omega arith), a .table j 4 (omega arith), a .table j 5 (omega arith), a .table j 6 (omega arith))
+
+  apart-tabled : (t : List ℕ) → Tabled ws t → Tabled ws′ t
+  apart-tabled t h =
+      record {
+        count = apart-count ∙ h .count;
+        own = rw (a .head 1 (omega arith)) (h .own);
+        protocol = rw (a .head 2 (omega arith)) (h .protocol);
+        need = a .head 3 (omega arith) ∙ h .need;
+        entry = λ j l. apart-entry j ∙ h .entry j l;
+        place = λ j l. rw (a .table j 7 (omega arith)) (h .place j l);
+      }
+
+  -- The framing lemma.
+  pub framed : (t b b′ : List ℕ) (l l′ : Lists) → Good t ws b l → Within i b b′ l l′ → i < countIn ws → waitingOf ws′ ≤ 32
+      → ((w : ℕ) → List·Memᴰ w (acksIn ws′) → Owed ws′ w) → Entered b′ l′ i (endOf ws′ i) → Good t ws′ b′ l′
+  framed t b b′ l l′ g v li acks owed here =
+      record {
+        table = g .table;
+        long = a .long ∙ g .long;
+        tabled = apart-tabled t (g .tabled);
+        acks = acks;
+        owed = owed;
+        lines = v .lines;
+        known = λ q h x m. known q x (g .known q h x) (v .known q h x m);
+        entered = λ j h. there j (rw (← apart-count) h) (ℕ-discrete j i);
+      }
+    where
+      known : (q x : ℕ) → (List·Memᴰ x (l q) → (ownerOf x < countIn ws) × Ranged q x) → List·Memᴰ x (l q) ⊎ ((ownerOf x ≡ i) × Ranged q x) → (ownerOf x < countIn ws′) × Ranged q x
+      known q x f (inl m) = let p = f m in (rw apart-count (p .0), p .1)
+      known q x f (inr o) = (rw (apart-count, o .0) li, o .1)
+
+      there : (j : ℕ) → j < countIn ws → Dec (j ≡ i) → Entered b′ l′ j (endOf ws′ j)
+      there j h (yes e) = subst (λ (k : ℕ). Entered b′ l′ k (endOf ws′ k)) (sym e) here
+      there j h (no n) =
+          let low : j < 16 = (let c = count-low t ws b l g in omega arith) in
+          subst (Entered b′ l′ j) (sym (a .others j n))
+          (same-entered j low b b′ l l′ (λ k m o. v .cells k m (λ e. n (sym o ∙ e))) (λ q m. v .shares j n q m) (endOf ws j) (g .entered j h))

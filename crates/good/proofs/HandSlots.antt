@@ -1,0 +1,288 @@
+-- Handing out data, again or for the first time, keeps a good node good; the number in the frame is the one that its slot holds, and
+-- the payload has 1 to P bytes. Assumes nothing.
+use Prim.Native.Nat.{ℕ, suc, _+_, _-_, _%_, _≤_, _<_}
+use mathlib.Core.Path.{_≡_, refl, sym, ap, subst, _∙_}
+use mathlib.Core.Logic.{_≢_}
+use mathlib.Core.Bool.{Bool, true, false}
+use mathlib.Core.List.{List, [], List·Memᴰ}
+use native.Mathlib.Omega.{arith}
+use lib.ListN.{set}
+use Rattle.memory.specs.Layout.{resets, urgents, resends, datas, timerAt}
+use Rattle.waiting.specs.Queues.{unlinked}
+use Rattle.order.specs.Order.{acksIn, Distinct}
+use Rattle.order.proofs.Linked.{first}
+use Rattle.window.specs.Windows.{held, Good as GoodWindow}
+use Rattle.window.proofs.Sizes.{size-le}
+use Rattle.kept.proofs.Kept.{RunFits, saved-head}
+use Rattle.ends.specs.Ends.{endOf, saved}
+use Rattle.ends.specs.States.{isSends}
+use Rattle.ends.specs.Lent.{Lent}
+use Rattle.ends.specs.declared.State.{State}
+use Rattle.ends.specs.declared.State.the-variants.{Open}
+use Rattle.ends.specs.declared.Run.{Run}
+use Rattle.slots.specs.Slots.{cell, past, lengthIn}
+use Rattle.handing.specs.declared.Next.the-variants as next
+use Rattle.handing.specs.Handing.{cellOf, slotEntry, handedRun, timed, outNode, outBook, handedOut}
+use Rattle.good.specs.Good.{Lists, mine, idAt, ids, Resend, Resends, OpenSender, Stated, Good}
+use Rattle.good.proofs.Members.{without-in, without-keeps, mine-in, mine-without}
+use Rattle.good.proofs.Lined.{less}
+use Rattle.good.proofs.Framing.{Within, within-then, Apart, apart-same, apart-saved}
+use Rattle.good.proofs.Turns.{run-fits, turnedTo, acks-ext, book-turn}
+use Rattle.good.proofs.Senders.{Timed, timed-set, timed-after, within-timed, entry-low, entry-window, sender-entered, sender-timeout}
+use Rattle.good.proofs.HandRuns.{withHanded, NextData, handed-sending, timed-sending, timed-resends, id-cell, id-slot, id-number, share-first, share-rest, next-data}
+use Rattle.good.proofs.Handed.{Went, SlotOut, HandKept, resent, handed}
+use Rattle.good.proofs.HandFirst.{First, first-in, Whose, ranged-slot, slot-owner, whose}
+use Rattle.good.proofs.HandSorts.{open-state, open-sender, open-within, open-beyond, open-share, open-good, open-end}
+
+module _ (t : List ℕ) (x : Lent) (l : Lists) (G : Good t (x .node) (x .book) l) where
+  -- a slot: the number k past the start
+  module _ (q : ℕ) (n : ℕ) (m : List·Memᴰ n (l (suc (suc q)))) (hq : suc (suc q) < 4) where
+    slot-whose : Whose (x .node) l (suc (suc q)) n (slotEntry n)
+    slot-whose =
+        let h = ranged-slot q n (G .known (suc (suc q)) hq n m .1) in
+        whose t (x .node) (x .book) l G (suc (suc q)) hq n m (slotEntry n) (slot-owner n (h .0) (h .1))
+
+    slot-low : slotEntry n < 16
+    slot-low = entry-low t (x .node) (x .book) l G (slotEntry n) (slot-whose .known)
+
+    slot-window : GoodWindow (endOf (x .node) (slotEntry n) .run .window)
+    slot-window = entry-window t (x .node) (x .book) l G (slotEntry n) (slot-whose .known)
+
+    slot-state : (isSends (endOf (x .node) (slotEntry n) .entry .kind) ≡ true) × (endOf (x .node) (slotEntry n) .state ≡ Open)
+    slot-state = open-state t x l G (suc (suc q)) hq (λ e. omega arith) n (slotEntry n) slot-whose
+
+    slot-sender : OpenSender (x .book) l (slotEntry n) (endOf (x .node) (slotEntry n))
+    slot-sender = open-sender t x l G (suc (suc q)) hq (λ e. omega arith) n (slotEntry n) slot-whose
+
+    slot-timeout : 1 ≤ endOf (x .node) (slotEntry n) .entry .timeout
+    slot-timeout = sender-timeout t (x .node) (x .book) l G (slotEntry n) (slot-whose .known) (slot-state .0)
+
+    slot-share : (r : ℕ) → r < 4 → r ≢ suc (suc q) → (xs : List ℕ) → mine (slotEntry n) (l r) ≡ xs → mine (slotEntry n) (less l n r) ≡ xs
+    slot-share = open-share t x l G (suc (suc q)) hq (λ e. omega arith) n (slotEntry n) slot-whose
+
+    module _ (k : ℕ) (is : n ≡ idAt (slotEntry n) (endOf (x .node) (slotEntry n) .run .window) k) (taken : k < endOf (x .node) (slotEntry n) .run .taken) where
+      slot-fit : k < endOf (x .node) (slotEntry n) .run .window .size
+      slot-fit = omega (arith, slot-sender .sending .taken)
+
+      slot-cell : cellOf n ≡ cell (slotEntry n) (endOf (x .node) (slotEntry n) .run .window) (past (endOf (x .node) (slotEntry n) .run .window) k)
+      slot-cell = id-cell (slotEntry n) slot-low (endOf (x .node) (slotEntry n) .run .window) slot-window n k is
+
+      slot-within : Within (slotEntry n) (x .book) (timed (x .node) (x .book) n) l (less l n)
+      slot-within =
+          let i = slotEntry n in
+          let w = endOf (x .node) i .run .window in
+          let v = endOf (x .node) i .entry .timeout in
+          let one = open-within t x l G (suc (suc q)) hq (λ e. omega arith) n i slot-whose in
+          subst (λ (c : ℕ). Within i (x .book) (set (unlinked (x .book) n) (timerAt c) v) l (less l n)) (sym slot-cell)
+          (within-then i (x .book) (unlinked (x .book) n) (set (unlinked (x .book) n) (timerAt (cell i w (past w k))) v) l (less l n) (less l n) one
+          (within-timed i slot-low w slot-window k slot-fit v (unlinked (x .book) n) (less l n) (one .lines)))
+
+      slot-timed : Timed (x .book) (timed (x .node) (x .book) n) (slotEntry n) (endOf (x .node) (slotEntry n) .run .window) k (endOf (x .node) (slotEntry n) .entry .timeout)
+      slot-timed =
+          let i = slotEntry n in
+          let w = endOf (x .node) i .run .window in
+          let v = endOf (x .node) i .entry .timeout in
+          let b′ = unlinked (x .book) n in
+          subst (λ (c : ℕ). Timed (x .book) (set b′ (timerAt c) v) i w k v) (sym slot-cell)
+          (timed-after i slot-low w slot-window k slot-fit v (x .book) b′ (set b′ (timerAt (cell i w (past w k))) v)
+          (open-beyond t x l G (suc (suc q)) hq (λ e. omega arith) n i slot-whose)
+          (timed-set i slot-low w slot-window k slot-fit v b′ (open-within t x l G (suc (suc q)) hq (λ e. omega arith) n i slot-whose .lines .long)))
+
+      slot-out : (x′ : Lent) → x′ .book ≡ timed (x .node) (x .book) n → Apart (slotEntry n) (x .node) (x′ .node) → acksIn (x′ .node) ≡ acksIn (x .node)
+          → SlotOut x x′ l (less l n) n (slotEntry n) k
+      slot-out x′ book apart acks =
+          let i = slotEntry n in
+          let w = endOf (x .node) i .run .window in
+          let f = slot-sender .sending .filled k taken in
+          record {
+            entry = refl;
+            is = is;
+            alone = record { known = slot-whose .known; apart = apart; within = rw book slot-within };
+            sends = slot-state .0;
+            opened = slot-state .1;
+            taken = taken;
+            here = slot-cell;
+            slot = id-slot i slot-low w slot-window n k is;
+            number = id-number i slot-low w slot-window n k is slot-fit;
+            some = subst (λ (c : ℕ). 1 ≤ lengthIn (x .book) c) (sym slot-cell) (f .some);
+            most = subst (λ (c : ℕ). lengthIn (x .book) c ≤ endOf (x .node) i .entry .largest) (sym slot-cell) (f .most);
+            acks = acks;
+          }
+
+  -- a retransmission
+  module _ (n : ℕ) (m : List·Memᴰ n (l resends)) where
+    again : Resend (x .book) (slotEntry n) (endOf (x .node) (slotEntry n) .run) n
+    again = slot-sender 0 n m (omega arith) .resends .each n (slot-whose 0 n m (omega arith) .share)
+
+    again-taken : again .at < endOf (x .node) (slotEntry n) .run .taken
+    again-taken = omega (arith, again .handed, slot-sender 0 n m (omega arith) .sending .handed)
+
+    again-timed : Timed (x .book) (timed (x .node) (x .book) n) (slotEntry n) (endOf (x .node) (slotEntry n) .run .window) (again .at) (endOf (x .node) (slotEntry n) .entry .timeout)
+    again-timed = slot-timed 0 n m (omega arith) (again .at) (again .is) again-taken
+
+    again-resends : Resends (timed (x .node) (x .book) n) (less l n) (slotEntry n) (endOf (x .node) (slotEntry n) .run)
+    again-resends =
+        let i = slotEntry n in
+        let r = endOf (x .node) i .run in
+        let s = slot-sender 0 n m (omega arith) .sending in
+        let same = mine-without i n (l resends) in
+        timed-resends (x .book) (timed (x .node) (x .book) n) i (slot-low 0 n m (omega arith)) r (slot-window 0 n m (omega arith)) (again .at) (endOf (x .node) i .entry .timeout)
+        (slot-timeout 0 n m (omega arith)) (slot-fit 0 n m (omega arith) (again .at) (again .is) again-taken) (again .missing) again-timed
+        (r .handed) (omega arith) (λ j h d. h) (omega (arith, s .taken, s .handed)) l (less l n) (slot-sender 0 n m (omega arith) .resends)
+        (λ y k. let d = without-in n y (mine i (l resends)) (subst (λ (ys : List ℕ). List·Memᴰ y ys) same k) in (d .0, λ e. d .1 (e ∙ sym (again .is))))
+        (λ y k d. subst (λ (ys : List ℕ). List·Memᴰ y ys) (sym same) (without-keeps n y (mine i (l resends)) k (λ e. d (e ∙ again .is))))
+
+    again-then : OpenSender (timed (x .node) (x .book) n) (less l n) (slotEntry n) (endOf (x .node) (slotEntry n))
+    again-then =
+        let i = slotEntry n in
+        let e = endOf (x .node) i in
+        let o = slot-sender 0 n m (omega arith) in
+        let kept = slot-share 0 n m (omega arith) in
+        record {
+          sending = timed-sending (x .book) (timed (x .node) (x .book) n) i (slot-low 0 n m (omega arith)) (e .run) (slot-window 0 n m (omega arith)) (again .at) (e .entry .timeout)
+              (slot-timeout 0 n m (omega arith)) (slot-fit 0 n m (omega arith) (again .at) (again .is) again-taken) (again .missing) again-timed (e .entry .largest) (o .sending);
+          share = record {
+            resets = kept resets (omega arith) (λ z. omega arith) [] (o .share .resets);
+            urgents = kept urgents (omega arith) (λ z. omega arith) _ (o .share .urgents);
+            datas = kept datas (omega arith) (λ z. omega arith) _ (o .share .datas);
+          };
+          resends = again-resends;
+        }
+
+    again-good : Good t (x .node) (timed (x .node) (x .book) n) (less l n)
+    again-good =
+        let i = slotEntry n in
+        let e = endOf (x .node) i in
+        let b′ = timed (x .node) (x .book) n in
+        let known = slot-whose 0 n m (omega arith) .known in
+        let state = slot-state 0 n m (omega arith) in
+        book-turn t (x .node) (x .book) l G i known b′ (less l n) (slot-within 0 n m (omega arith) (again .at) (again .is) again-taken)
+        (sender-entered t (x .node) (x .book) l G i known (state .0) b′ (less l n) (e .state) (e .run) (slot-window 0 n m (omega arith))
+        (subst (λ (z : State). Stated b′ (less l n) i e true z) (sym (state .1)) again-then))
+
+    pub hand-resend : Went x (handedOut x (next.Resend n)) (next.Resend n) → HandKept t x (handedOut x (next.Resend n)) l
+    unfolding outNode outBook
+    hand-resend W =
+        record {
+          lists = less l n;
+          good = again-good;
+          store = refl;
+          lengths = again-timed .lengths;
+          what = resent n W
+              (record {
+                at = slotEntry n;
+                offset = again .at;
+                slot = slot-out 0 n m (omega arith) (again .at) (again .is) again-taken (handedOut x (next.Resend n)) refl (apart-same (slotEntry n) (x .node)) refl;
+                handed = again .handed;
+                missing = again .missing;
+                node = refl;
+              });
+        }
+
+  -- data for the first time
+  module _ (n : ℕ) (f : First n (l datas)) where
+    m : List·Memᴰ n (l datas)
+    m = first-in n (l datas) f
+
+    data-sender : OpenSender (x .book) l (slotEntry n) (endOf (x .node) (slotEntry n))
+    data-sender = slot-sender 1 n m (omega arith)
+
+    data-next : NextData (slotEntry n) (endOf (x .node) (slotEntry n) .run .window) (endOf (x .node) (slotEntry n) .run .handed) (endOf (x .node) (slotEntry n) .run .taken) n
+        (mine (slotEntry n) (f .rest))
+    data-next =
+        let i = slotEntry n in
+        let r = endOf (x .node) i .run in
+        next-data i (r .window) (r .handed) (r .taken) n (mine i (f .rest))
+        (sym (share-first i n (l datas) (f .rest) (f .parts) (slot-whose 1 n m (omega arith) .own)) ∙ data-sender .share .datas)
+
+    data-missing : held (endOf (x .node) (slotEntry n) .run .window) (endOf (x .node) (slotEntry n) .run .handed) ≡ false
+    data-missing = sides (held (endOf (x .node) (slotEntry n) .run .window) (endOf (x .node) (slotEntry n) .run .handed)) refl
+      where
+        sides : (z : Bool) → held (endOf (x .node) (slotEntry n) .run .window) (endOf (x .node) (slotEntry n) .run .handed) ≡ z → z ≡ false
+        sides true e = absurd (omega (arith, data-sender .sending .acked (endOf (x .node) (slotEntry n) .run .handed) e))
+        sides false e = refl
+
+    data-count : (endOf (x .node) (slotEntry n) .run .handed + 1) % 256 ≡ suc (endOf (x .node) (slotEntry n) .run .handed)
+    data-count =
+        omega (arith, data-next .more, data-sender .sending .taken, size-le (endOf (x .node) (slotEntry n) .run .window .size) (slot-window 1 n m (omega arith) .sized))
+
+    data-timed : Timed (x .book) (timed (x .node) (x .book) n) (slotEntry n) (endOf (x .node) (slotEntry n) .run .window) (endOf (x .node) (slotEntry n) .run .handed)
+        (endOf (x .node) (slotEntry n) .entry .timeout)
+    data-timed = slot-timed 1 n m (omega arith) (endOf (x .node) (slotEntry n) .run .handed) (data-next .is) (data-next .more)
+
+    data-resends : Resends (timed (x .node) (x .book) n) (less l n) (slotEntry n) (withHanded (endOf (x .node) (slotEntry n) .run) (suc (endOf (x .node) (slotEntry n) .run .handed)))
+    data-resends =
+        let i = slotEntry n in
+        let r = endOf (x .node) i .run in
+        let s = data-sender .sending in
+        let same = slot-share 1 n m (omega arith) resends (omega arith) (λ z. omega arith) (mine i (l resends)) refl in
+        timed-resends (x .book) (timed (x .node) (x .book) n) i (slot-low 1 n m (omega arith)) r (slot-window 1 n m (omega arith)) (r .handed) (endOf (x .node) i .entry .timeout)
+        (slot-timeout 1 n m (omega arith)) (slot-fit 1 n m (omega arith) (r .handed) (data-next .is) (data-next .more)) data-missing data-timed
+        (suc (r .handed)) (omega arith) (λ j h d. omega arith) (omega (arith, s .taken, data-next .more)) l (less l n) (data-sender .resends)
+        (λ y k. let d = subst (λ (ys : List ℕ). List·Memᴰ y ys) same k in (
+          d,
+          λ e. G .lines .apart resends datas (omega arith) (omega arith) (λ z. omega arith) y (mine-in i y (l resends) d .0)
+              (subst (λ (z : ℕ). List·Memᴰ z (l datas)) (data-next .is ∙ sym e) m),
+        ))
+        (λ y k d. subst (λ (ys : List ℕ). List·Memᴰ y ys) (sym same) k)
+
+    -- the rest of them waits
+    data-rest : mine (slotEntry n) (less l n datas)
+        ≡ ids (slotEntry n) (endOf (x .node) (slotEntry n) .run .window) (suc (endOf (x .node) (slotEntry n) .run .handed)) (endOf (x .node) (slotEntry n) .run .taken - suc (endOf (x .node) (slotEntry n) .run .handed))
+    data-rest =
+        share-rest (slotEntry n) n (l datas) (f .rest) (f .parts) (subst Distinct (f .parts) (G .lines .queue datas (omega arith) .distinct .1) .0) ∙ data-next .rest
+
+    data-then : OpenSender (timed (x .node) (x .book) n) (less l n) (slotEntry n)
+        (turnedTo (endOf (x .node) (slotEntry n)) Open (withHanded (endOf (x .node) (slotEntry n) .run) (suc (endOf (x .node) (slotEntry n) .run .handed))))
+    data-then =
+        let i = slotEntry n in
+        let e = endOf (x .node) i in
+        let b′ = timed (x .node) (x .book) n in
+        let o = data-sender in
+        let kept = slot-share 1 n m (omega arith) in
+        record {
+          sending = handed-sending b′ i (e .run) (e .entry .largest) (suc (e .run .handed)) (omega arith) (data-next .more)
+              (timed-sending (x .book) b′ i (slot-low 1 n m (omega arith)) (e .run) (slot-window 1 n m (omega arith)) (e .run .handed) (e .entry .timeout)
+              (slot-timeout 1 n m (omega arith)) (slot-fit 1 n m (omega arith) (e .run .handed) (data-next .is) (data-next .more)) data-missing data-timed (e .entry .largest) (o .sending));
+          share = record {
+            resets = kept resets (omega arith) (λ z. omega arith) [] (o .share .resets);
+            urgents = kept urgents (omega arith) (λ z. omega arith) _ (o .share .urgents);
+            datas = data-rest;
+          };
+          resends = data-resends;
+        }
+
+    -- the run as it is saved
+    data-run : handedRun (endOf (x .node) (slotEntry n) .run) ≡ withHanded (endOf (x .node) (slotEntry n) .run) (suc (endOf (x .node) (slotEntry n) .run .handed))
+    unfolding handedRun
+    data-run = ap (withHanded (endOf (x .node) (slotEntry n) .run)) data-count
+
+    data-fits : RunFits (handedRun (endOf (x .node) (slotEntry n) .run))
+    unfolding handedRun
+    data-fits =
+        let f = run-fits (x .node) (slotEntry n) in
+        record { start = f .start; taken = f .taken; handed = omega arith; accepted = f .accepted; confirmed = f .confirmed; urgent = f .urgent }
+
+    pub hand-data : Went x (handedOut x (next.Data n)) (next.Data n) → HandKept t x (handedOut x (next.Data n)) l
+    unfolding outNode outBook handedRun
+    hand-data W =
+        let i = slotEntry n in
+        let e = endOf (x .node) i in
+        let r = handedRun (e .run) in
+        let b′ = timed (x .node) (x .book) n in
+        let g = slot-window 1 n m (omega arith) in
+        let w = slot-whose 1 n m (omega arith) in
+        record {
+          lists = less l n;
+          good = open-good t x l G datas (omega arith) (λ z. omega arith) n i w r data-fits g refl b′ (slot-within 1 n m (omega arith) (e .run .handed) (data-next .is) (data-next .more))
+              (subst (λ (z : Run). OpenSender b′ (less l n) i (turnedTo e Open z)) (sym data-run) data-then);
+          store = refl;
+          lengths = data-timed .lengths;
+          what = handed n W
+              (record {
+                at = i;
+                slot = slot-out 1 n m (omega arith) (e .run .handed) (data-next .is) (data-next .more) (handedOut x (next.Data n)) refl (apart-saved i (x .node) (e .state) r)
+                    (acks-ext (x .node) (saved (x .node) i (e .state) r) (λ k h. saved-head (x .node) i (e .state) r k h) .1);
+                ends = open-end t x l G datas (omega arith) (λ z. omega arith) n i w r data-fits g refl;
+              });
+        }

@@ -1,0 +1,208 @@
+-- What a call on one entry leaves: an end point saved, the book altered within that entry, the waiting acknowledgements. Each with what is
+-- to be shown of that entry alone. Assumes nothing.
+use Prim.Native.Nat.{ℕ, zero, suc, _+_, _-_, _*_, _/_, _%_, _≤_, _<_}
+use mathlib.Core.Path.{_≡_, refl, sym, ap, subst, _∙_}
+use mathlib.Core.Logic.{_≢_, _⊎_, inl, inr}
+use mathlib.Core.Bool.{Bool, true, false, true≢false}
+use mathlib.Core.List.{List, [], _∷_, _++_, List·Memᴰ, List·Memᴰ·cases-cons, List·Memᴰ·not-nil, List·Memᴰ·head, List·Memᴰ·tail, List·Memᴰ·append-cases, List·Memᴰ·eq-of-singleton}
+use native.Mathlib.Decide.{ℕ-discrete}
+use native.Mathlib.Nat.{mod-lt, mod-eq-of-lt}
+use native.Mathlib.Omega.{arith}
+use lib.ListN.{length, getD, set, length-set}
+use lib.Seq.{getD-set-same, getD-set-other}
+use lib.Dec.{eqb}
+use borrow.Author.Tests.{eqb-true, eqb-false}
+use Rattle.units.specs.Refusals.{pick}
+use Rattle.memory.specs.Layout.{oldestAt, acksAt, ackAt}
+use Rattle.waiting.specs.Acks.{placeOf, waitingOf, oldestOf, pushed, popped, turned, turns, dropped}
+use Rattle.order.specs.Order.{from, acksIn, notOf}
+use Rattle.order.proofs.Ringed.{Ring, push-acks, push-ring, push-rest, pop-acks, pop-ring, pop-rest, drop-acks, drop-ring, drop-rest}
+use Rattle.kept.proofs.Kept.{saved-head, saved-here, StateFits, RunFits}
+use Rattle.ends.specs.Ends.{stateOf, loadEntry, placeIn, loadState, loadRun, endOf, saved, word}
+use Rattle.ends.specs.Heads.{countIn}
+use Rattle.ends.specs.States.{isSends}
+use Rattle.ends.specs.Lent.{Lent}
+use Rattle.ends.specs.declared.State.{State}
+use Rattle.ends.specs.declared.State.the-variants.{Closed, Enabled, Open, Failing}
+use Rattle.ends.specs.declared.Run.{Run}
+use Rattle.ends.specs.declared.EndPoint.{EndPoint}
+use Rattle.good.specs.Good.{Lists, Entered, Owed, Good}
+use Rattle.good.proofs.Framing.{Within, within-same, Apart, apart-then, apart-same, apart-saved, apart-rest, framed, count-low}
+
+-- ---- an end point as it is loaded
+
+pub run-fits : (ws : List ℕ) (i : ℕ) → RunFits (endOf ws i .run)
+unfolding endOf loadRun
+run-fits ws i =
+    record {
+      start = mod-lt (word ws i 11) (omega arith);
+      taken = mod-lt (word ws i 14) (omega arith);
+      handed = mod-lt (word ws i 15) (omega arith);
+      accepted = mod-lt (word ws i 16) (omega arith);
+      confirmed = mod-lt (word ws i 17) (omega arith);
+      urgent = mod-lt (word ws i 18) (omega arith);
+    }
+
+pub state-fits : (ws : List ℕ) (i : ℕ) → StateFits (endOf ws i .state)
+unfolding endOf stateOf
+state-fits ws i = tag (eqb (word ws i 8 % 4) 0) (eqb (word ws i 8 % 4) 1) (eqb (word ws i 8 % 4) 2)
+  where
+    tag : (a b c : Bool) → StateFits (pick a Closed (pick b (Enabled (word ws i 9 % 65536) (eqb (word ws i 10 % 2) 1)) (pick c Open (Failing (word ws i 9 % 65536)))))
+    tag true b c = tt
+    tag false true c = mod-lt (word ws i 9) (omega arith)
+    tag false false true = tt
+    tag false false false = mod-lt (word ws i 9) (omega arith)
+
+-- end point e in another state, with another run
+abbrev pub turnedTo : EndPoint → State → Run → EndPoint
+turnedTo e s r = record { entry = e .entry; place = e .place; state = s; run = r }
+
+pub end-saved : (ws : List ℕ) (i : ℕ) (s : State) (r : Run) → length ws ≡ 576 → i < 16 → StateFits s → RunFits r → r .window .size ≡ endOf ws i .run .window .size
+    → endOf (saved ws i s r) i ≡ turnedTo (endOf ws i) s r
+unfolding endOf loadRun
+end-saved ws i s r long low sf rf e = saved-here ws i s r long low sf rf e
+
+-- ---- the waiting acknowledgements
+
+from-ext : (ws vs : List ℕ) → ((k : ℕ) → k < 64 → getD vs k 0 ≡ getD ws k 0) → (k n : ℕ) → k < 32 → from vs k n ≡ from ws k n
+unfolding from
+from-ext ws vs h k zero l = refl
+from-ext ws vs h k (suc n) l = rw (h (ackAt k) (omega arith), from-ext ws vs h ((k + 1) % 32) n (mod-lt (k + 1) (omega arith)))
+
+pub acks-ext : (ws vs : List ℕ) → ((k : ℕ) → k < 64 → getD vs k 0 ≡ getD ws k 0) → (waitingOf vs ≡ waitingOf ws) × (acksIn vs ≡ acksIn ws)
+acks-ext ws vs h =
+    let p : getD vs oldestAt 0 ≡ getD ws oldestAt 0 = h 4 (omega arith) in
+    let n : getD vs acksAt 0 ≡ getD ws acksAt 0 = h 5 (omega arith) in
+    (ap (λ (x : ℕ). x % 64) n, rw (p, n) (from-ext ws vs h (placeOf ws) (waitingOf ws) (mod-lt (getD ws oldestAt 0) (omega arith))))
+
+-- they stay owed to other entries, and to one that stays open
+pub owed-other : (i : ℕ) (ws ws′ : List ℕ) → Apart i ws ws′ → (w : ℕ) → Owed ws w → w / 256 ≢ i → Owed ws′ w
+owed-other i ws ws′ a w o n =
+    let c : countIn ws′ ≡ countIn ws = ap (λ (x : ℕ). x % 256) (a .head 0 (omega arith)) in
+    let e = a .others (w / 256) n in
+    record { known = rw c (o .known); receives = rw e (o .receives); opened = rw e (o .opened) }
+
+pub owed-open : (i : ℕ) (ws ws′ : List ℕ) → Apart i ws ws′ → isSends (endOf ws′ i .entry .kind) ≡ false → endOf ws′ i .state ≡ Open → (w : ℕ) → Owed ws w → Owed ws′ w
+owed-open i ws ws′ a k s w o = sides (ℕ-discrete (w / 256) i)
+  where
+    c : countIn ws′ ≡ countIn ws
+    c = ap (λ (x : ℕ). x % 256) (a .head 0 (omega arith))
+
+    sides : Dec (w / 256 ≡ i) → Owed ws′ w
+    sides (yes e) = record { known = rw c (o .known); receives = rw e k; opened = rw e s }
+    sides (no n) = owed-other i ws ws′ a w o n
+
+-- ---- a sender's turn: nothing is owed to it
+
+module _ (t ws b : List ℕ) (l : Lists) (g : Good t ws b l) (i : ℕ) (li : i < countIn ws) where
+  low : i < 16
+  low = let c = count-low t ws b l g in omega arith
+
+  pub book-turn : (b′ : List ℕ) (l′ : Lists) → Within i b b′ l l′ → Entered b′ l′ i (endOf ws i) → Good t ws b′ l′
+  book-turn b′ l′ v e = framed i ws ws (apart-same i ws) t b b′ l l′ g v li (g .acks) (g .owed) e
+
+  pub sender-turn : isSends (endOf ws i .entry .kind) ≡ true → (s : State) (r : Run) → StateFits s → RunFits r → r .window .size ≡ endOf ws i .run .window .size
+      → (b′ : List ℕ) (l′ : Lists) → Within i b b′ l l′ → Entered b′ l′ i (turnedTo (endOf ws i) s r) → Good t (saved ws i s r) b′ l′
+  sender-turn k s r sf rf size b′ l′ v e =
+      framed i ws (saved ws i s r) a t b b′ l l′ g v li (rw (same .0) (g .acks))
+      (λ w m. let o = g .owed w (subst (λ (ws : List ℕ). List·Memᴰ w ws) (same .1) m) in
+      owed-other i ws (saved ws i s r) a w o (λ h. true≢false (sym k ∙ subst (λ (j : ℕ). isSends (endOf ws j .entry .kind) ≡ false) h (o .receives))))
+      (subst (Entered b′ l′ i) (sym (end-saved ws i s r (g .long) low sf rf size)) e)
+    where
+      a : Apart i ws (saved ws i s r)
+      a = apart-saved i ws s r
+
+      same : (waitingOf (saved ws i s r) ≡ waitingOf ws) × (acksIn (saved ws i s r) ≡ acksIn ws)
+      same = acks-ext ws (saved ws i s r) (λ k h. saved-head ws i s r k h)
+
+-- ---- the ring: words 4, 5 and 32 to 63 alone
+
+-- a node of as many words, the same in its head
+record Ringwise (ws vs : List ℕ) : Type 0 where
+  long : length vs ≡ length ws
+  head : (k : ℕ) → k < 4 → getD vs k 0 ≡ getD ws k 0
+
+push-ringwise : (ws : List ℕ) (w : ℕ) → Ringwise ws (pushed ws w)
+unfolding pushed
+push-ringwise ws w =
+    let at = ackAt ((placeOf ws + waitingOf ws) % 32) in
+    record {
+      long = length-set (set ws at w) acksAt (waitingOf ws + 1) ∙ length-set ws at w;
+      head = λ k h. getD-set-other (set ws at w) acksAt k (waitingOf ws + 1) 0 (λ e. omega arith) ∙ getD-set-other ws at k w 0 (λ e. omega arith);
+    }
+
+pop-ringwise : (ws : List ℕ) → Ringwise ws (popped ws)
+unfolding popped
+pop-ringwise ws =
+    record {
+      long = length-set (set ws oldestAt ((placeOf ws + 1) % 32)) acksAt ((waitingOf ws + 63) % 64) ∙ length-set ws oldestAt ((placeOf ws + 1) % 32);
+      head = λ k h. getD-set-other (set ws oldestAt ((placeOf ws + 1) % 32)) acksAt k ((waitingOf ws + 63) % 64) 0 (λ e. omega arith)
+          ∙ getD-set-other ws oldestAt k ((placeOf ws + 1) % 32) 0 (λ e. omega arith);
+    }
+
+then-ringwise : (a b c : List ℕ) → Ringwise a b → Ringwise b c → Ringwise a c
+then-ringwise a b c v w = record { long = w .long ∙ v .long; head = λ k h. w .head k h ∙ v .head k h }
+
+either-ringwise : (a x y : List ℕ) (t : Bool) → Ringwise a x → Ringwise a y → Ringwise a (pick t x y)
+either-ringwise a x y true v w = v
+either-ringwise a x y false v w = w
+
+turn-ringwise : (i : ℕ) (ws : List ℕ) → Ringwise ws (turned i ws)
+unfolding turned
+turn-ringwise i ws =
+    either-ringwise ws (popped ws) (pushed (popped ws) (oldestOf ws)) (eqb (oldestOf ws / 256 % 256) i) (pop-ringwise ws)
+    (then-ringwise ws (popped ws) (pushed (popped ws) (oldestOf ws)) (pop-ringwise ws) (push-ringwise (popped ws) (oldestOf ws)))
+
+turns-ringwise : (i n : ℕ) (ws : List ℕ) → Ringwise ws (turns i n ws)
+unfolding turns
+turns-ringwise i zero ws = record { long = refl; head = λ k h. refl }
+turns-ringwise i (suc n) ws = then-ringwise ws (turns i n ws) (turned i (turns i n ws)) (turns-ringwise i n ws) (turn-ringwise i (turns i n ws))
+
+pub push-apart : (i : ℕ) (ws : List ℕ) (w : ℕ) → Ring ws → Apart i ws (pushed ws w)
+push-apart i ws w r = let p = push-ringwise ws w in apart-rest i ws (pushed ws w) (p .long) (p .head) (push-rest ws r w)
+
+pub pop-apart : (i : ℕ) (ws : List ℕ) → Ring ws → Apart i ws (popped ws)
+pop-apart i ws r = let p = pop-ringwise ws in apart-rest i ws (popped ws) (p .long) (p .head) (pop-rest ws r)
+
+pub drop-apart : (i j : ℕ) (ws : List ℕ) → Ring ws → Apart j ws (dropped i ws)
+drop-apart i j ws r = let p = turns-ringwise i (waitingOf ws) ws in apart-rest j ws (dropped i ws) (p .long) (p .head) (drop-rest i ws r)
+
+-- every end point is then as it was
+pub push-end : (i : ℕ) (ws : List ℕ) (w : ℕ) → Ring ws → endOf (pushed ws w) i ≡ endOf ws i
+push-end i ws w r = push-apart (suc i) ws w r .others i (λ e. omega arith)
+
+pub pop-end : (i : ℕ) (ws : List ℕ) → Ring ws → endOf (popped ws) i ≡ endOf ws i
+pop-end i ws r = pop-apart (suc i) ws r .others i (λ e. omega arith)
+
+pub drop-end : (i j : ℕ) (ws : List ℕ) → Ring ws → endOf (dropped i ws) j ≡ endOf ws j
+drop-end i j ws r = drop-apart i (suc j) ws r .others j (λ e. omega arith)
+
+-- none of entry i's is left
+pub not-in : (i : ℕ) (l : List ℕ) (w : ℕ) → List·Memᴰ w (notOf i l) → List·Memᴰ w l × (w / 256 % 256 ≢ i)
+not-in i [] w m = absurd (List·Memᴰ·not-nil m)
+not-in i (x ∷ xs) w m = sides (not-in i xs w) (eqb (x / 256 % 256) i) refl m
+  where
+    deeper : List·Memᴰ w xs × (w / 256 % 256 ≢ i) → List·Memᴰ w (x ∷ xs) × (w / 256 % 256 ≢ i)
+    deeper p = (List·Memᴰ·tail (p .0), p .1)
+
+    here : (List·Memᴰ w (notOf i xs) → List·Memᴰ w xs × (w / 256 % 256 ≢ i)) → eqb (x / 256 % 256) i ≡ false → (w ≡ x) ⊎ List·Memᴰ w (notOf i xs)
+        → List·Memᴰ w (x ∷ xs) × (w / 256 % 256 ≢ i)
+    here below e (inl h) = (List·Memᴰ·head h, λ k. eqb-false (x / 256 % 256) i e (ap (λ (y : ℕ). y / 256 % 256) (sym h) ∙ k))
+    here below e (inr k) = deeper (below k)
+
+    sides : (List·Memᴰ w (notOf i xs) → List·Memᴰ w xs × (w / 256 % 256 ≢ i)) → (t : Bool) → eqb (x / 256 % 256) i ≡ t → List·Memᴰ w (pick t (notOf i xs) (x ∷ notOf i xs))
+        → List·Memᴰ w (x ∷ xs) × (w / 256 % 256 ≢ i)
+    sides below true e k = deeper (below k)
+    sides below false e k = here below e (List·Memᴰ·cases-cons k)
+
+-- ---- a call on entry i
+
+-- a node that is good before it is good after it, and only entry i's business altered
+pub record Kept (t : List ℕ) (x x′ : Lent) (l : Lists) (i : ℕ) : Type 0 where
+  pub lists : Lists
+  pub good : Good t (x′ .node) (x′ .book) lists
+  pub apart : Apart i (x .node) (x′ .node)
+  pub within : Within i (x .book) (x′ .book) l lists
+
+pub kept-same : (t : List ℕ) (x : Lent) (l : Lists) (i : ℕ) → Good t (x .node) (x .book) l → Kept t x x l i
+kept-same t x l i g = record { lists = l; good = g; apart = apart-same i (x .node); within = within-same i (x .book) l (g .lines) }

@@ -1,0 +1,104 @@
+-- A node with its store, and its public calls as one: what each answers, in the paper's numbers, and what it leaves, as the contracts of
+-- crates/node have it; and the nodes that a setup and calls after it can give. Cited by what is proved of such nodes. Assumes nothing.
+use Prim.Native.Nat.{ℕ, _<_}
+use mathlib.Core.Path.{_≡_}
+use mathlib.Core.List.{List, [], _∷_}
+use lib.ListN.{length, getD}
+use Rattle.units.specs.declared.refusals.Verdict.the-variants.{Passed}
+use Rattle.ends.specs.Lent.{Lent}
+use Rattle.ends.specs.Answers.{answerOf, countedOf, arrivedOf, handedOf}
+use Rattle.opening.specs.Setup.{setupAnswer, setupAfter}
+use Rattle.opening.specs.Opening.{openAnswer, openAfter, closeAnswer, closeAfter, countsAnswer}
+use Rattle.sending.specs.Sending.{sendAnswer, sendAfter, urgentAnswer, urgentAfter}
+use Rattle.arriving.specs.Arriving.{arrivalAnswer, arrivalAfter}
+use Rattle.handing.specs.Handing.{handAnswer, handAfter}
+use Rattle.ticking.specs.Ticking.{tickAnswer, tickAfter}
+
+-- ---- the calls
+
+-- what a host keeps of a node between calls
+pub record Memory : Type 0 where
+  pub node : List ℕ
+  pub book : List ℕ
+  pub store : List ℕ
+
+-- a call with what it is given; an arrival also with its block, handing out with its frame buffer
+pub data Call : Type 0 where
+  opens : (index : ℕ) → Call
+  closes : (index : ℕ) → Call
+  counts : (index : ℕ) → Call
+  sends : (index : ℕ) (payload : List ℕ) → Call
+  urges : (index : ℕ) (payload : List ℕ) → Call
+  arrives : (block frame : List ℕ) → Call
+  hands-out : (buffer : List ℕ) → Call
+  ticks : Call
+
+-- what is lent to it: of some calls the store too, with a block or a frame buffer
+abbrev pub lent : Memory → List ℕ → Lent
+lent n out = record { node = n .node; book = n .book; store = n .store; out = out }
+
+abbrev pub bare : Memory → Lent
+bare n = record { node = n .node; book = n .book; store = []; out = [] }
+
+-- what is kept of it afterwards
+abbrev pub kept : Lent → Memory
+kept x = record { node = x .node; book = x .book; store = x .store }
+
+abbrev pub keptBare : Memory → Lent → Memory
+keptBare n x = record { node = x .node; book = x .book; store = n .store }
+
+-- what comes back: the paper's numbers, and what block or frame buffer hold then
+pub record Answer : Type 0 where
+  pub numbers : List ℕ
+  pub out : List ℕ
+
+unfoldable pub answer : Memory → Call → Answer
+answer n (opens i) = record { numbers = answerOf (openAnswer (bare n) i); out = [] }
+answer n (closes i) = record { numbers = answerOf (closeAnswer (bare n) i); out = [] }
+answer n (counts i) = record { numbers = countedOf (countsAnswer (n .node) i); out = [] }
+answer n (sends i p) = record { numbers = answerOf (sendAnswer (lent n []) i p); out = [] }
+answer n (urges i p) = record { numbers = answerOf (urgentAnswer (lent n []) i p); out = [] }
+answer n (arrives block f) = record { numbers = arrivedOf (arrivalAnswer (lent n block) f); out = arrivalAfter (lent n block) f .out }
+answer n (hands-out buffer) =
+    record { numbers = handedOf (handAnswer (lent n buffer)); out = handAfter (lent n buffer) (handAnswer (lent n buffer)) .out }
+answer n ticks = record { numbers = tickAnswer (bare n) ∷ []; out = [] }
+
+unfoldable pub after : Memory → Call → Memory
+after n (opens i) = keptBare n (openAfter (bare n) i (openAnswer (bare n) i))
+after n (closes i) = keptBare n (closeAfter (bare n) i (closeAnswer (bare n) i))
+after n (counts i) = n
+after n (sends i p) = kept (sendAfter (lent n []) i p (sendAnswer (lent n []) i p))
+after n (urges i p) = kept (urgentAfter (lent n []) i p (urgentAnswer (lent n []) i p))
+after n (arrives block f) = kept (arrivalAfter (lent n block) f)
+after n (hands-out buffer) = kept (handAfter (lent n buffer) (handAnswer (lent n buffer)))
+after n ticks = keptBare n (tickAfter (bare n))
+
+-- a frame that arrives is bytes
+abbrev pub Bytes : List ℕ → Type 0
+Bytes l = (k : ℕ) → getD l k 0 < 256
+
+abbrev pub Fed : Call → Type 0
+Fed (opens i) = Unit {0}
+Fed (closes i) = Unit {0}
+Fed (counts i) = Unit {0}
+Fed (sends i p) = Unit {0}
+Fed (urges i p) = Unit {0}
+Fed (arrives block f) = Bytes f
+Fed (hands-out buffer) = Unit {0}
+Fed ticks = Unit {0}
+
+-- ---- what setup and calls can give
+
+-- what setup leaves of any memory, with a table that it does not refuse
+pub record SetUp (t : List ℕ) (n : Memory) : Type 0 where
+  pub before : Lent
+  pub node : length (before .node) ≡ 576
+  pub book : length (before .book) ≡ 10368
+  pub bytes : Bytes t
+  pub passed : setupAnswer before t ≡ Passed
+  pub is : n ≡ kept (setupAfter before t Passed)
+
+-- and calls after it
+pub data Reach (t : List ℕ) : Memory → Type 0 where
+  at-setup : (n : Memory) → SetUp t n → Reach t n
+  by-call : (n : Memory) (c : Call) → Fed c → Reach t n → Reach t (after n c)

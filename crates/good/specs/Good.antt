@@ -1,0 +1,187 @@
+-- What holds of every node that setup and calls can give: the table's rules, windows and counts within bounds, and what waits
+-- agrees with the end points. Cited by what is proved of such nodes. Assumes nothing.
+use Prim.Native.Nat.{ℕ, zero, suc, _+_, _-_, _*_, _/_, _≤_, _<_}
+use mathlib.Core.Path.{_≡_}
+use mathlib.Core.Logic.{_≢_}
+use mathlib.Core.Bool.{Bool, true, false}
+use mathlib.Core.List.{List, [], _∷_, List·Memᴰ}
+use lib.ListN.{length, getD}
+use lib.Dec.{eqb, ltb}
+use Rattle.units.specs.Refusals.{pick}
+use Rattle.memory.specs.Layout.{resets, urgents, resends, datas, resetId, urgentId, slotId}
+use Rattle.waiting.specs.Acks.{waitingOf}
+use Rattle.order.specs.Order.{Queue, acksIn}
+use Rattle.window.specs.Windows.{newOf, held, Good as GoodWindow}
+use Rattle.window.specs.declared.Window.{Window}
+use Rattle.table.specs.Layout.{countOf, ownOf, protocolOf, entryOf}
+use Rattle.table.specs.Areas.{placeOf, storeOf}
+use Rattle.table.specs.Rules.{goodTable}
+use Rattle.ends.specs.Ends.{loadEntry, placeIn, endOf}
+use Rattle.ends.specs.Heads.{countIn, ownIn, protocolIn, needIn}
+use Rattle.ends.specs.States.{isSends}
+use Rattle.ends.specs.declared.State.{State}
+use Rattle.ends.specs.declared.State.the-variants.{Closed, Enabled, Open, Failing}
+use Rattle.ends.specs.declared.Run.{Run}
+use Rattle.ends.specs.declared.EndPoint.{EndPoint}
+use Rattle.slots.specs.Slots.{cell, past, lengthIn, timerIn}
+
+-- ---- what waits
+
+-- the four queues as lists
+abbrev pub Lists : Type 0
+Lists = ℕ → List ℕ
+
+-- the book holds four queues, and nothing waits in two of them
+pub record Lines (b : List ℕ) (l : Lists) : Type 0 where
+  pub long : length b ≡ 10368
+  pub queue : (q : ℕ) → q < 4 → Queue b q (l q)
+  pub high : (q : ℕ) → q < 4 → (x : ℕ) → List·Memᴰ x (l q) → 4 ≤ x
+  pub apart : (q r : ℕ) → q < 4 → r < 4 → q ≢ r → (x : ℕ) → List·Memᴰ x (l q) → List·Memᴰ x (l r) → ⊥
+
+-- whose a thing that waits is
+unfoldable pub ownerOf : ℕ → ℕ
+ownerOf x = pick (ltb x 32) (x - 16) (pick (ltb x 64) (x - 32) ((x - 64) / 128))
+
+-- which things wait in which queue
+unfoldable pub Ranged : ℕ → ℕ → Type 0
+Ranged zero x = (16 ≤ x) × (x < 32)
+Ranged (suc zero) x = (32 ≤ x) × (x < 48)
+Ranged (suc (suc q)) x = (64 ≤ x) × (x < 2112)
+
+-- entry i's share of a list
+abbrev pub mine : ℕ → List ℕ → List ℕ
+mine i [] = []
+mine i (x ∷ xs) = pick (eqb (ownerOf x) i) (x ∷ mine i xs) (mine i xs)
+
+-- what stands for the number k past the start of entry i's window; for n numbers from there on
+abbrev pub idAt : ℕ → Window → ℕ → ℕ
+idAt i w k = slotId (cell i w (past w k))
+
+unfoldable pub ids : ℕ → Window → ℕ → ℕ → List ℕ
+ids i w k zero = []
+ids i w k (suc n) = idAt i w k ∷ ids i w (suc k) n
+
+-- entry i's Resets, Urgents and data that wait
+pub record Share (l : Lists) (i : ℕ) (rs us ds : List ℕ) : Type 0 where
+  pub resets : mine i (l resets) ≡ rs
+  pub urgents : mine i (l urgents) ≡ us
+  pub datas : mine i (l datas) ≡ ds
+
+-- a retransmission waits for each number handed out, not acknowledged, whose timer does not run; and for no other
+pub record Resend (b : List ℕ) (i : ℕ) (r : Run) (x : ℕ) : Type 0 where
+  pub at : ℕ
+  pub handed : at < r .handed
+  pub missing : held (r .window) at ≡ false
+  pub idle : timerIn b (cell i (r .window) (past (r .window) at)) ≡ 0
+  pub is : x ≡ idAt i (r .window) at
+
+pub record Resends (b : List ℕ) (l : Lists) (i : ℕ) (r : Run) : Type 0 where
+  pub each : (x : ℕ) → List·Memᴰ x (mine i (l resends)) → Resend b i r x
+  pub all : (x : ℕ) → Resend b i r x → List·Memᴰ x (mine i (l resends))
+
+-- nothing of entry i waits, but perhaps its Reset
+pub record Silent (l : Lists) (i : ℕ) (rs : List ℕ) : Type 0 where
+  pub share : Share l i rs [] []
+  pub resends : mine i (l resends) ≡ []
+
+-- ---- runs
+
+-- start 1, nothing taken, held or acknowledged
+pub record Fresh (r : Run) : Type 0 where
+  pub window : r .window ≡ newOf (r .window .size)
+  pub taken : r .taken ≡ 0
+  pub handed : r .handed ≡ 0
+  pub urgent : r .urgent ≡ 0
+
+-- a payload of 1 to P bytes lies in the cell of the number k past the start
+pub record Filled (b : List ℕ) (i : ℕ) (w : Window) (largest k : ℕ) : Type 0 where
+  pub some : 1 ≤ lengthIn b (cell i w (past w k))
+  pub most : lengthIn b (cell i w (past w k)) ≤ largest
+
+-- a sender's, at Open and Failing: acknowledged numbers were handed out and their timers do not run
+pub record Sending (b : List ℕ) (i : ℕ) (r : Run) (largest : ℕ) : Type 0 where
+  pub taken : r .taken ≤ r .window .size
+  pub handed : r .handed ≤ r .taken
+  pub acked : (k : ℕ) → held (r .window) k ≡ true → k < r .handed
+  pub first : held (r .window) 0 ≡ false
+  pub counted : r .confirmed .0 + r .taken ≡ r .accepted .0
+  pub filled : (k : ℕ) → k < r .taken → Filled b i (r .window) largest k
+  pub stopped : (k : ℕ) → held (r .window) k ≡ true → timerIn b (cell i (r .window) (past (r .window) k)) ≡ 0
+  pub urgent : r .urgent ≤ largest
+
+-- a receiver's, at Open
+pub record Receiving (b : List ℕ) (i : ℕ) (r : Run) (largest : ℕ) : Type 0 where
+  pub taken : r .taken ≡ 0
+  pub handed : r .handed ≡ 0
+  pub urgent : r .urgent ≡ 0
+  pub first : held (r .window) 0 ≡ false
+  pub filled : (k : ℕ) → held (r .window) k ≡ true → Filled b i (r .window) largest k
+
+-- how many timers of the first n numbers run
+unfoldable pub running : List ℕ → ℕ → Window → ℕ → ℕ
+running b i w zero = 0
+running b i w (suc n) = pick (eqb (timerIn b (cell i w (past w n))) 0) (running b i w n) (suc (running b i w n))
+
+-- ---- an end point in its state
+
+-- an open sender, and what of it waits
+pub record OpenSender (b : List ℕ) (l : Lists) (i : ℕ) (e : EndPoint) : Type 0 where
+  pub sending : Sending b i (e .run) (e .entry .largest)
+  pub share : Share l i [] (pick (eqb (e .run .urgent) 0) [] (urgentId i ∷ [])) (ids i (e .run .window) (e .run .handed) (e .run .taken - e .run .handed))
+  pub resends : Resends b l i (e .run)
+
+pub record FailingSender (b : List ℕ) (l : Lists) (i : ℕ) (e : EndPoint) (n : ℕ) : Type 0 where
+  pub sending : Sending b i (e .run) (e .entry .largest)
+  pub urgent : e .run .urgent ≡ 0
+  pub silent : Silent l i []
+  pub timers : n ≡ running b i (e .run .window) (e .run .handed)
+
+pub record OpenReceiver (b : List ℕ) (l : Lists) (i : ℕ) (e : EndPoint) : Type 0 where
+  pub receiving : Receiving b i (e .run) (e .entry .largest)
+  pub silent : Silent l i []
+
+pub record Anew (l : Lists) (i : ℕ) (e : EndPoint) (rs : List ℕ) : Type 0 where
+  pub fresh : Fresh (e .run)
+  pub silent : Silent l i rs
+
+-- of entry i, which sends or not, in a state. A sender's Reset waits at Enabled while its timer does not run.
+abbrev pub Stated : List ℕ → Lists → ℕ → EndPoint → Bool → State → Type 0
+Stated b l i e sends Closed = Anew l i e []
+Stated b l i e true (Enabled t sent) = Anew l i e (pick (eqb t 0) (resetId i ∷ []) [])
+Stated b l i e false (Enabled t sent) = Anew l i e [] × (t ≡ 0) × (sent ≡ false)
+Stated b l i e true Open = OpenSender b l i e
+Stated b l i e false Open = OpenReceiver b l i e
+Stated b l i e true (Failing n) = FailingSender b l i e n
+Stated b l i e false (Failing n) = ⊥
+
+pub record Entered (b : List ℕ) (l : Lists) (i : ℕ) (e : EndPoint) : Type 0 where
+  pub window : GoodWindow (e .run .window)
+  pub stated : Stated b l i e (isSends (e .entry .kind)) (e .state)
+
+-- ---- the node
+
+-- it was set up from a table
+pub record Tabled (ws t : List ℕ) : Type 0 where
+  pub count : countIn ws ≡ countOf t
+  pub own : ownIn ws ≡ ownOf t
+  pub protocol : protocolIn ws ≡ protocolOf t
+  pub need : needIn ws ≡ storeOf t
+  pub entry : (i : ℕ) → i < countOf t → loadEntry ws i ≡ entryOf t i
+  pub place : (i : ℕ) → i < countOf t → placeIn ws i ≡ placeOf t i
+
+-- an acknowledgement waits for a receiver that is open
+pub record Owed (ws : List ℕ) (w : ℕ) : Type 0 where
+  pub known : w / 256 < countIn ws
+  pub receives : isSends (endOf ws (w / 256) .entry .kind) ≡ false
+  pub opened : endOf ws (w / 256) .state ≡ Open
+
+-- the whole: node and book, set up from a table, with what waits as lists
+pub record Good (t ws b : List ℕ) (l : Lists) : Type 0 where
+  pub table : goodTable t ≡ true
+  pub long : length ws ≡ 576
+  pub tabled : Tabled ws t
+  pub acks : waitingOf ws ≤ 32
+  pub owed : (w : ℕ) → List·Memᴰ w (acksIn ws) → Owed ws w
+  pub lines : Lines b l
+  pub known : (q : ℕ) → q < 4 → (x : ℕ) → List·Memᴰ x (l q) → (ownerOf x < countIn ws) × Ranged q x
+  pub entered : (i : ℕ) → i < countIn ws → Entered b l i (endOf ws i)
