@@ -32,14 +32,11 @@ use Rattle.ends.specs.declared.EndPoint.{EndPoint}
 use Rattle.slots.specs.Slots.{slotFor, cell, past, lengthIn, timerIn}
 use Rattle.table.proofs.Good.{good-head}
 use Rattle.good.specs.Good.{Lists, Lines, ownerOf, Ranged, mine, idAt, ids, Share, Resend, Resends, Silent, Fresh, Filled, Sending, Receiving, running, OpenSender, FailingSender, OpenReceiver, Anew, Stated, Entered, Tabled, Owed, Good}
+use Rattle.good.specs.Independence.{cellOwner}
 use Rattle.good.proofs.Members.{mine-append, mine-own, mine-other, mine-apart, without-in}
 use Rattle.good.proofs.Lined.{added, less, added-here, added-there, added-in, append-lines, append-cells, unlink-lines, unlink-cells, set-lines}
 
 -- ---- the book: only entry i's cells and share alter
-
--- whose a word beyond the links is
-abbrev pub cellOwner : ℕ → ℕ
-cellOwner k = (k - 4224) % 2048 / 128
 
 pub record Within (i : ℕ) (b b′ : List ℕ) (l l′ : Lists) : Type 0 where
   pub lines : Lines b′ l′

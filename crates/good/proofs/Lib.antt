@@ -26,3 +26,5 @@ pub mod TickSlots
 pub mod TickEntry
 pub mod TickKeeps
 pub mod ReachGood
+pub mod Independently
+pub mod NoCorners

@@ -1,0 +1,36 @@
+-- Corners of total meaning that no node from setup and calls comes to: reads and stores past the end of what is lent, windows without a
+-- size, counts that would wrap. Assumes nothing.
+use Prim.Native.Nat.{ℕ, _+_, _≤_, _<_}
+use mathlib.Core.Path.{_≡_}
+use mathlib.Core.Bool.{true}
+use mathlib.Core.List.{List, List·Memᴰ}
+use lib.ListN.{length}
+use Rattle.memory.specs.Layout.{entryAt, prevAt, lengthAt, retriesAt}
+use Rattle.waiting.specs.Acks.{waitingOf}
+use Rattle.table.specs.Layout.{entryOf}
+use Rattle.table.specs.Areas.{slotsOf, storeOf}
+use Rattle.ends.specs.Ends.{endOf}
+use Rattle.ends.specs.Heads.{countIn, needIn}
+use Rattle.ends.specs.States.{isSends}
+use Rattle.slots.specs.Slots.{cell, spot}
+use Rattle.good.specs.Good.{Lists, Good}
+
+pub record NoCorner (t ws b : List ℕ) (l : Lists) : Type 0 where
+  -- an entry's words lie in the node; so do the acknowledgements, of which no more than 32 wait
+  pub words : (i : ℕ) → i < countIn ws → (k : ℕ) → k < 32 → entryAt i + k < length ws
+  pub acks : waitingOf ws ≤ 32
+  -- what waits has its links in the book
+  pub links : (q : ℕ) → q < 4 → (x : ℕ) → List·Memᴰ x (l q) → prevAt x < lengthAt 0
+  -- every number's cell lies in the book, in its own entry's part
+  pub cells : (i : ℕ) → i < countIn ws → (s : ℕ) → retriesAt (cell i (endOf ws i .run .window) s) < length b
+  -- every slot lies in the store that is asked for
+  pub slots : (i : ℕ) → i < countIn ws → (k : ℕ) → k < slotsOf (entryOf t i .kind) (entryOf t i .window)
+      → spot (endOf ws i .place) (endOf ws i .entry .largest) k + endOf ws i .entry .largest ≤ needIn ws
+  -- a window has a size
+  pub sized : (i : ℕ) → i < countIn ws → 0 < endOf ws i .run .window .size
+  -- a sender's counts neither wrap nor fall below 0
+  pub handed : (i : ℕ) → i < countIn ws → isSends (endOf ws i .entry .kind) ≡ true → endOf ws i .run .handed ≤ endOf ws i .run .taken
+  pub taken : (i : ℕ) → i < countIn ws → isSends (endOf ws i .entry .kind) ≡ true → endOf ws i .run .taken ≤ 128
+
+unfoldable pub NoCorners : Type 0
+NoCorners = (t ws b : List ℕ) (l : Lists) → Good t ws b l → NoCorner t ws b l
