@@ -1,4 +1,4 @@
-# What the scripts share: sourced by ./test, ./run and the programs under tests/. Nothing runs when it is read.
+# What the scripts share: sourced by ./test, ./bench and the programs under tests/. Nothing runs when it is read.
 
 # need COMMAND PACKAGE..: installs Debian packages where a command is not there.
 need() {
