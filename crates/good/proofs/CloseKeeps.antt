@@ -191,7 +191,8 @@ pub close-refused : (x : Lent) (i : ℕ) → countIn (x .node) ≤ i → closeAf
 unfolding closeAnswer closeAfter
 close-refused x i h = rw (le-leb (countIn (x .node)) i h)
 
-close-known : (x : Lent) (i : ℕ) → closeAnswer x i ≡ Passed → i < countIn (x .node)
+-- where it went through there is such an entry
+pub close-known : (x : Lent) (i : ℕ) → closeAnswer x i ≡ Passed → i < countIn (x .node)
 unfolding closeAnswer
 close-known x i h =
     leb-false (countIn (x .node)) i

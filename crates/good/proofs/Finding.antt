@@ -10,6 +10,7 @@ use lib.Dec.{eqb, ltb}
 use borrow.Author.Tests.{eqb-true, ltb-true, ltb-false}
 use Rattle.units.specs.Refusals.{pick}
 use Rattle.table.specs.declared.Entry.{Entry}
+use Rattle.table.proofs.Every.{both}
 use Rattle.ends.specs.Ends.{loadEntry}
 use Rattle.ends.specs.States.{isSends}
 use Rattle.lookup.specs.Lookup.{same, fits, firstFit}
@@ -26,15 +27,11 @@ same-true true b h = h
 same-true false true h = absurd (true≢false (sym h))
 same-true false false h = refl
 
-and-true : (a b : Bool) → (a && b) ≡ true → (a ≡ true) × (b ≡ true)
-and-true true b h = (refl, h)
-and-true false b h = absurd (true≢false (sym h))
-
 pub fitting : (e : Entry) (sends : Bool) (source channel : ℕ) → fits e sends source channel ≡ true → Fitting e sends source channel
 unfolding fits
 fitting e sends source channel h =
-    let p = and-true (eqb (e .channel .0) channel) (eqb (e .remote .0) source && same sends (isSends (e .kind))) h in
-    let q = and-true (eqb (e .remote .0) source) (same sends (isSends (e .kind))) (p .1) in
+    let p = both (eqb (e .channel .0) channel) (eqb (e .remote .0) source && same sends (isSends (e .kind))) h in
+    let q = both (eqb (e .remote .0) source) (same sends (isSends (e .kind))) (p .1) in
     record { channel = eqb-true (e .channel .0) channel (p .0); source = eqb-true (e .remote .0) source (q .0); kind = same-true sends (isSends (e .kind)) (q .1) }
 
 -- ---- the search

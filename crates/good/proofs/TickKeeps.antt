@@ -18,6 +18,7 @@ use Rattle.order.specs.Order.{acksIn}
 use Rattle.kept.proofs.Kept.{RunFits}
 use Rattle.window.specs.Windows.{Good as GoodWindow}
 use Rattle.window.proofs.Resetting.{reset-good}
+use Rattle.table.specs.declared.Entry.{Entry}
 use Rattle.ends.specs.Ends.{endOf}
 use Rattle.ends.specs.Heads.{countIn}
 use Rattle.ends.specs.States.{isSends, anew, urgentGone}
@@ -33,7 +34,7 @@ use Rattle.good.specs.Good.{Lists, Silent, Stated, Entered, Good}
 use Rattle.good.proofs.Lined.{added}
 use Rattle.good.proofs.Framing.{apart-saved, count-low}
 use Rattle.good.proofs.Turns.{run-fits, turnedTo, end-saved, acks-ext, sender-turn, Kept, kept-same}
-use Rattle.good.proofs.TickEntry.{entered-as, reset-within, reset-cells, reset-silent, Ticks, closed, enabled, opened, failed, failing, EntryTicked, tick-entry-keeps}
+use Rattle.good.proofs.TickEntry.{entered-as, reset-within, reset-cells, reset-silent, Ticks, closed, enabled, opened, failed, failing, ticks-alike, EntryTicked, tick-entry-keeps}
 
 -- ---- every entry's timers
 
@@ -318,3 +319,19 @@ tick-keeps t x l g =
       store = q .store ∙ p .store;
       out = q .out ∙ p .out;
     }
+
+-- a receiver ticks and never recovers: only a sender fails
+receiver-stays : (b : List ℕ) (l : Lists) (j bit : ℕ) (e m e′ : EndPoint) → isSends (e .entry .kind) ≡ false → Entered b l j m → Ticks e m → Recovers bit m e′ → Ticks e e′
+receiver-stays b l j bit e m e′ k n h (stays z o q) = subst (Ticks e) (sym q) h
+receiver-stays b l j bit e m e′ k n h (recovers z s q) =
+    absurd (false≢true (sym k ∙ ap (λ (y : Entry). isSends (y .kind)) (sym (ticks-alike h .entry)) ∙ failing-sends b l j m (isSends (m .entry .kind)) 0 (subst (Stated b l j m (isSends (m .entry .kind))) s (n .stated)) .0))
+
+pub tick-receiver : (t : List ℕ) (x : Lent) (l : Lists) → Good t (x .node) (x .book) l → (j : ℕ) → j < countIn (x .node) → isSends (endOf (x .node) j .entry .kind) ≡ false
+    → Ticks (endOf (x .node) j) (endOf (tickAfter x .node) j)
+unfolding tickAfter tickBoth
+tick-receiver t x l g j h k =
+    let n : entries x ≡ countIn (x .node) = min-eq-left (count-low t (x .node) (x .book) l g) in
+    let y : Recovered = record { lent = tickEntries (entries x) x; bits = 0 } in
+    let p = passed t x l g (entries x) (omega arith) in
+    let q = rounds t y (p .lists) (p .good) refl (entries x) (omega (arith, p .count)) in
+    receiver-stays (y .lent .book) (p .lists) j _ _ _ _ k (p .good .entered j (omega (arith, p .count))) (p .ticks j (omega arith)) (q .fate j (omega arith))

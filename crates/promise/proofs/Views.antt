@@ -1,0 +1,300 @@
+-- An entry of a node, viewed as an end point of the channel: the relation that every call keeps, and that what is done elsewhere on the
+-- node leaves it. Assumes nothing.
+use Prim.Native.Nat.{ℕ, zero, suc, _+_, _%_, _≤_, _<_}
+use mathlib.Core.Path.{_≡_, refl, sym, ap, subst, _∙_}
+use mathlib.Core.Logic.{_≢_, _⊎_, inl, inr}
+use mathlib.Core.Bool.{Bool, true, false, true≢false}
+use mathlib.Core.List.{List, [], _∷_}
+use native.Mathlib.Omega.{arith}
+use lib.ListN.{length, take, drop}
+use lib.Seq.{sets, length-sets}
+use lib.Dec.{eqb, ltb}
+use borrow.Author.Tests.{ne-eqb}
+use Rattle.memory.specs.Layout.{lengthAt, slotOf as cellAt}
+use Rattle.order.specs.Order.{acksIn}
+use Rattle.window.specs.Numbers.{byteOf, slotOf}
+use Rattle.window.specs.Windows.{held, Good as GoodWindow}
+use Rattle.window.specs.declared.Window.{Window}
+use Rattle.window.proofs.Resetting.{new-held}
+use Rattle.window.proofs.Sizes.{size-pos}
+use Rattle.table.specs.Layout.{countOf, entryOf}
+use Rattle.table.specs.Areas.{slotsOf, storeOf}
+use Rattle.table.proofs.Places.{slot-of-window}
+use Rattle.ends.specs.Ends.{endOf}
+use Rattle.ends.specs.Heads.{countIn}
+use Rattle.ends.specs.States.{isSends}
+use Rattle.ends.specs.declared.State.{State}
+use Rattle.ends.specs.declared.State.the-variants as state
+use Rattle.ends.specs.declared.Run.{Run}
+use Rattle.ends.specs.declared.EndPoint.{EndPoint}
+use Rattle.slots.specs.Slots.{slotFor, cell, past, spot, lengthIn}
+use Rattle.blocks.specs.Blocks.{payloadAt}
+use Rattle.good.specs.Good.{Lists, Fresh, Filled, Stated, Good}
+use Rattle.good.specs.Calls.{Memory}
+use Rattle.good.proofs.Framing.{Within, Apart, count-low, slot-lt, length-owner}
+use Rattle.promise.specs.History.{Pay, SState}
+use Rattle.promise.specs.Link.{s-state-of, owedTo}
+use Rattle.promise.proofs.Stores.{end-size, areas-stay}
+use Rattle.promise.proofs.Channel.{Send, Recv, RState, r-closed, r-enabled, r-open}
+
+-- ---- the sender's
+
+-- end point e, with the payloads that its numbers taken have in the store
+pub record SEnd (W : ℕ) (e : EndPoint) (payload : ℕ → Pay) (s : Send) : Type 0 where
+  pub state : s .state ≡ s-state-of (e .state)
+  pub start : s .start ≡ e .run .window .start .0
+  pub taken : s .taken ≡ e .run .taken
+  pub handed : (k : ℕ) → s .handed k ≡ ltb k (e .run .handed)
+  pub acknowledged : (k : ℕ) → s .acknowledged k ≡ held (e .run .window) k
+  pub accepted : s .accepted ≡ e .run .accepted .0
+  pub confirmed : s .confirmed ≡ e .run .confirmed .0
+  pub slots : (k : ℕ) → k < e .run .taken → s .slots (slotOf W (byteOf (s .start + k))) ≡ payload k
+
+-- the payload of the number k past the start of entry i
+abbrev pub payloadOf : Memory → ℕ → ℕ → Pay
+payloadOf n i k = payloadAt (n .store) (n .book) i (endOf (n .node) i .place) (endOf (n .node) i .entry .largest) (endOf (n .node) i .run .window) k
+
+pub record SView (t : List ℕ) (i : ℕ) (n : Memory) (s : Send) : Type 0 where
+  pub lists : Lists
+  pub good : Good t (n .node) (n .book) lists
+  pub known : i < countIn (n .node)
+  pub sends : isSends (endOf (n .node) i .entry .kind) ≡ true
+  pub room : storeOf t ≤ length (n .store)
+  pub end : SEnd (entryOf t i .window) (endOf (n .node) i) (payloadOf n i) s
+
+-- ---- the receiver's
+
+abbrev pub r-state-of : State → RState
+r-state-of state.Closed = r-closed
+r-state-of (state.Enabled t sent) = r-enabled
+r-state-of state.Open = r-open
+r-state-of (state.Failing n) = r-closed
+
+pub record REnd (W : ℕ) (e : EndPoint) (payload : ℕ → Pay) (owed : List ℕ) (r : Recv) : Type 0 where
+  pub state : r .state ≡ r-state-of (e .state)
+  pub start : r .start ≡ e .run .window .start .0
+  pub marks : (k : ℕ) → r .held k ≡ held (e .run .window) k
+  pub slots : (k : ℕ) → held (e .run .window) k ≡ true → r .slots (slotOf W (byteOf (r .start + k))) ≡ payload k
+  pub waiting : r .waiting ≡ owed
+
+pub record RView (u : List ℕ) (j : ℕ) (n : Memory) (r : Recv) : Type 0 where
+  pub lists : Lists
+  pub good : Good u (n .node) (n .book) lists
+  pub known : j < countIn (n .node)
+  pub receives : isSends (endOf (n .node) j .entry .kind) ≡ false
+  pub room : storeOf u ≤ length (n .store)
+  pub end : REnd (entryOf u j .window) (endOf (n .node) j) (payloadOf n j) (owedTo j (acksIn (n .node))) r
+
+-- ---- what Good says of the payloads
+
+anew-taken : (r : Run) → Fresh r → (k : ℕ) → k < r .taken → ⊥
+anew-taken r f k h = let e = f .taken in omega arith
+
+s-filled-at : (b : List ℕ) (l : Lists) (i : ℕ) (e : EndPoint) (s : State) → Stated b l i e true s → (k : ℕ) → k < e .run .taken
+    → Filled b i (e .run .window) (e .entry .largest) k
+s-filled-at b l i e state.Closed a k h = absurd (anew-taken (e .run) (a .fresh) k h)
+s-filled-at b l i e (state.Enabled t sent) a k h = absurd (anew-taken (e .run) (a .fresh) k h)
+s-filled-at b l i e state.Open a k h = a .sending .filled k h
+s-filled-at b l i e (state.Failing n) a k h = a .sending .filled k h
+
+-- a sender's numbers taken have payloads of 1 to P bytes
+pub s-filled : (t ws b : List ℕ) (l : Lists) → Good t ws b l → (i : ℕ) → i < countIn ws → isSends (endOf ws i .entry .kind) ≡ true
+    → (k : ℕ) → k < endOf ws i .run .taken → Filled b i (endOf ws i .run .window) (endOf ws i .entry .largest) k
+s-filled t ws b l g i li q k h =
+    s-filled-at b l i (endOf ws i) (endOf ws i .state) (subst (λ (x : Bool). Stated b l i (endOf ws i) x (endOf ws i .state)) q (g .entered i li .stated)) k h
+
+-- and are at most W
+pub s-narrow : (t ws b : List ℕ) (l : Lists) → Good t ws b l → (i : ℕ) → i < countIn ws → isSends (endOf ws i .entry .kind) ≡ true
+    → endOf ws i .run .taken ≤ endOf ws i .run .window .size
+s-narrow t ws b l g i li q =
+    at (endOf ws i) (endOf ws i .state) (subst (λ (x : Bool). Stated b l i (endOf ws i) x (endOf ws i .state)) q (g .entered i li .stated))
+  where
+    at : (e : EndPoint) (s : State) → Stated b l i e true s → e .run .taken ≤ e .run .window .size
+    at e state.Closed a = let z = a .fresh .taken in omega arith
+    at e (state.Enabled t sent) a = let z = a .fresh .taken in omega arith
+    at e state.Open a = a .sending .taken
+    at e (state.Failing n) a = a .sending .taken
+
+anew-held : (r : Run) → Fresh r → (k : ℕ) → held (r .window) k ≡ true → ⊥
+anew-held r f k h = true≢false (sym h ∙ ap (λ (w : Window). held w k) (f .window) ∙ new-held (r .window .size) k)
+
+r-filled-at : (b : List ℕ) (l : Lists) (i : ℕ) (e : EndPoint) (s : State) → Stated b l i e false s → (k : ℕ) → held (e .run .window) k ≡ true
+    → Filled b i (e .run .window) (e .entry .largest) k
+r-filled-at b l i e state.Closed a k h = absurd (anew-held (e .run) (a .fresh) k h)
+r-filled-at b l i e (state.Enabled t sent) a k h = absurd (anew-held (e .run) (a .0 .fresh) k h)
+r-filled-at b l i e state.Open a k h = a .receiving .filled k h
+r-filled-at b l i e (state.Failing n) a k h = absurd a
+
+-- a receiver's numbers held have payloads
+pub r-filled : (t ws b : List ℕ) (l : Lists) → Good t ws b l → (i : ℕ) → i < countIn ws → isSends (endOf ws i .entry .kind) ≡ false
+    → (k : ℕ) → held (endOf ws i .run .window) k ≡ true → Filled b i (endOf ws i .run .window) (endOf ws i .entry .largest) k
+r-filled t ws b l g i li q k h =
+    r-filled-at b l i (endOf ws i) (endOf ws i .state) (subst (λ (x : Bool). Stated b l i (endOf ws i) x (endOf ws i .state)) q (g .entered i li .stated)) k h
+
+-- ---- what is done elsewhere
+
+-- a store after a call on entry j: as it was, or with a payload in one of that entry's slots
+pub data Stored (t : List ℕ) (n : Memory) (st : List ℕ) (j : ℕ) : Type 0 where
+  unaltered : st ≡ n .store → Stored t n st j
+  put : (r : ℕ) (p : List ℕ) → j < countIn (n .node) → r < slotsOf (entryOf t j .kind) (entryOf t j .window) → length p ≤ endOf (n .node) j .entry .largest
+      → st ≡ sets (n .store) (spot (endOf (n .node) j .place) (endOf (n .node) j .entry .largest) r) p → Stored t n st j
+
+pub stored-long : (t : List ℕ) (n : Memory) (st : List ℕ) (j : ℕ) → Stored t n st j → length st ≡ length (n .store)
+stored-long t n st j (unaltered e) = ap length e
+stored-long t n st j (put r p hj hr hp e) = ap length e ∙ length-sets (n .store) (spot (endOf (n .node) j .place) (endOf (n .node) j .entry .largest) r) p
+
+module _ (t : List ℕ) (n m : Memory) (l l′ : Lists) (g : Good t (n .node) (n .book) l) (room : storeOf t ≤ length (n .store)) (i j : ℕ) (li : i < countIn (n .node)) (d : i ≢ j)
+    (a : Apart j (n .node) (m .node)) (v : Within j (n .book) (m .book) l l′) (st : Stored t n (m .store) j) where
+  pub end-stays : endOf (m .node) i ≡ endOf (n .node) i
+  end-stays = a .others i d
+
+  pub count-stays : countIn (m .node) ≡ countIn (n .node)
+  count-stays = ap (λ (x : ℕ). x % 256) (a .head 0 (omega arith))
+
+  pub room-stays : storeOf t ≤ length (m .store)
+  room-stays = rw (stored-long t n (m .store) j st) room
+
+  -- the payload of a number whose cell is filled stays
+  pub payload-stays : (k : ℕ) → Filled (n .book) i (endOf (n .node) i .run .window) (endOf (n .node) i .entry .largest) k → payloadOf m i k ≡ payloadOf n i k
+  payload-stays k f = rw (end-stays, same) (read st)
+    where
+      good-w : GoodWindow (endOf (n .node) i .run .window)
+      good-w = g .entered i li .window
+
+      low : i < 16
+      low = let c = count-low t (n .node) (n .book) l g in omega arith
+
+      same : lengthIn (m .book) (cell i (endOf (n .node) i .run .window) (past (endOf (n .node) i .run .window) k)) ≡ lengthIn (n .book) (cell i (endOf (n .node) i .run .window) (past (endOf (n .node) i .run .window) k))
+      same =
+          v .cells (lengthAt (cell i (endOf (n .node) i .run .window) (past (endOf (n .node) i .run .window) k))) (omega arith)
+          (λ e. d (sym (length-owner i low (endOf (n .node) i .run .window) good-w (past (endOf (n .node) i .run .window) k)) ∙ e))
+
+      inside : slotFor (endOf (n .node) i .run .window) (past (endOf (n .node) i .run .window) k) < slotsOf (entryOf t i .kind) (entryOf t i .window)
+      inside = slot-of-window (entryOf t i) _ (rw (← end-size t (n .node) (n .book) l g i li) (slot-lt (endOf (n .node) i .run .window) (past (endOf (n .node) i .run .window) k) good-w))
+
+      read : Stored t n (m .store) j
+          → take (lengthIn (n .book) (cell i (endOf (n .node) i .run .window) (past (endOf (n .node) i .run .window) k)))
+          (drop (spot (endOf (n .node) i .place) (endOf (n .node) i .entry .largest) (slotFor (endOf (n .node) i .run .window) (past (endOf (n .node) i .run .window) k))) (m .store))
+          ≡ payloadOf n i k
+      read (unaltered e) = rw e
+      read (put r p hj hr hp e) =
+          rw e (areas-stay t (n .node) (n .book) l g i j (slotFor (endOf (n .node) i .run .window) (past (endOf (n .node) i .run .window) k)) r
+          (lengthIn (n .book) (cell i (endOf (n .node) i .run .window) (past (endOf (n .node) i .run .window) k))) (n .store) p li hj inside hr (f .most) hp room d)
+
+-- what another entry's call leaves of a sender's view, and of a receiver's
+pub s-elsewhere : (t : List ℕ) (i : ℕ) (n m : Memory) (s : Send) (v : SView t i n s) (l′ : Lists) (j : ℕ) → i ≢ j → Good t (m .node) (m .book) l′
+    → Apart j (n .node) (m .node) → Within j (n .book) (m .book) (v .lists) l′ → Stored t n (m .store) j → SView t i m s
+s-elsewhere t i n m s v l′ j d g′ a w st =
+    let e = end-stays t n m (v .lists) l′ (v .good) (v .room) i j (v .known) d a w st in
+    record {
+      lists = l′;
+      good = g′;
+      known = rw (count-stays t n m (v .lists) l′ (v .good) (v .room) i j (v .known) d a w st) (v .known);
+      sends = rw e (v .sends);
+      room = room-stays t n m (v .lists) l′ (v .good) (v .room) i j (v .known) d a w st;
+      end = rw e (record {
+        state = v .end .state;
+        start = v .end .start;
+        taken = v .end .taken;
+        handed = v .end .handed;
+        acknowledged = v .end .acknowledged;
+        accepted = v .end .accepted;
+        confirmed = v .end .confirmed;
+        slots = λ k h. v .end .slots k h ∙ sym (payload-stays t n m (v .lists) l′ (v .good) (v .room) i j (v .known) d a w st k (s-filled t (n .node) (n .book) (v .lists) (v .good) i (v .known) (v .sends) k h));
+      });
+    }
+
+pub r-elsewhere : (t : List ℕ) (i : ℕ) (n m : Memory) (r : Recv) (v : RView t i n r) (l′ : Lists) (j : ℕ) → i ≢ j → Good t (m .node) (m .book) l′
+    → Apart j (n .node) (m .node) → Within j (n .book) (m .book) (v .lists) l′ → Stored t n (m .store) j
+    → owedTo i (acksIn (m .node)) ≡ owedTo i (acksIn (n .node)) → RView t i m r
+r-elsewhere t i n m r v l′ j d g′ a w st o =
+    let e = end-stays t n m (v .lists) l′ (v .good) (v .room) i j (v .known) d a w st in
+    record {
+      lists = l′;
+      good = g′;
+      known = rw (count-stays t n m (v .lists) l′ (v .good) (v .room) i j (v .known) d a w st) (v .known);
+      receives = rw e (v .receives);
+      room = room-stays t n m (v .lists) l′ (v .good) (v .room) i j (v .known) d a w st;
+      end = rw (e, o) (record {
+        state = v .end .state;
+        start = v .end .start;
+        marks = v .end .marks;
+        slots = λ k h. v .end .slots k h ∙ sym (payload-stays t n m (v .lists) l′ (v .good) (v .room) i j (v .known) d a w st k (r-filled t (n .node) (n .book) (v .lists) (v .good) i (v .known) (v .receives) k h));
+        waiting = v .end .waiting;
+      });
+    }
+
+-- ---- a view from nothing
+
+-- the payload in slot q of entry i
+abbrev pub slotIn : Memory → ℕ → ℕ → Pay
+slotIn n i q = take (lengthIn (n .book) (cellAt i q)) (drop (spot (endOf (n .node) i .place) (endOf (n .node) i .entry .largest) q) (n .store))
+
+abbrev pub s-view : Memory → ℕ → Send
+s-view n i =
+    record {
+      state = s-state-of (endOf (n .node) i .state);
+      start = endOf (n .node) i .run .window .start .0;
+      taken = endOf (n .node) i .run .taken;
+      handed = λ k. ltb k (endOf (n .node) i .run .handed);
+      acknowledged = λ k. held (endOf (n .node) i .run .window) k;
+      slots = slotIn n i;
+      accepted = endOf (n .node) i .run .accepted .0;
+      confirmed = endOf (n .node) i .run .confirmed .0;
+    }
+
+abbrev pub r-view : Memory → ℕ → Recv
+r-view n j =
+    record {
+      state = r-state-of (endOf (n .node) j .state);
+      start = endOf (n .node) j .run .window .start .0;
+      held = λ k. held (endOf (n .node) j .run .window) k;
+      slots = slotIn n j;
+      waiting = owedTo j (acksIn (n .node));
+    }
+
+-- the slot of a number by the window in force
+pub slot-of : (t : List ℕ) (n : Memory) (l : Lists) → Good t (n .node) (n .book) l → (i : ℕ) → i < countIn (n .node) → (s : ℕ)
+    → slotFor (endOf (n .node) i .run .window) s ≡ slotOf (entryOf t i .window) s
+slot-of t n l g i li s =
+    let p = size-pos (endOf (n .node) i .run .window .size) (g .entered i li .window .sized) in
+    rw (ne-eqb (endOf (n .node) i .run .window .size) 0 (λ e. omega arith), end-size t (n .node) (n .book) l g i li)
+
+pub s-first-view : (t : List ℕ) (n : Memory) (l : Lists) → Good t (n .node) (n .book) l → (i : ℕ) → i < countIn (n .node) → isSends (endOf (n .node) i .entry .kind) ≡ true
+    → storeOf t ≤ length (n .store) → SView t i n (s-view n i)
+s-first-view t n l g i li q room =
+    record {
+      lists = l;
+      good = g;
+      known = li;
+      sends = q;
+      room = room;
+      end = record {
+        state = refl;
+        start = refl;
+        taken = refl;
+        handed = λ k. refl;
+        acknowledged = λ k. refl;
+        accepted = refl;
+        confirmed = refl;
+        slots = λ k h. ap (slotIn n i) (sym (slot-of t n l g i li (past (endOf (n .node) i .run .window) k)));
+      };
+    }
+
+pub r-first-view : (t : List ℕ) (n : Memory) (l : Lists) → Good t (n .node) (n .book) l → (i : ℕ) → i < countIn (n .node) → isSends (endOf (n .node) i .entry .kind) ≡ false
+    → storeOf t ≤ length (n .store) → RView t i n (r-view n i)
+r-first-view t n l g i li q room =
+    record {
+      lists = l;
+      good = g;
+      known = li;
+      receives = q;
+      room = room;
+      end = record {
+        state = refl;
+        start = refl;
+        marks = λ k. refl;
+        slots = λ k h. ap (slotIn n i) (sym (slot-of t n l g i li (past (endOf (n .node) i .run .window) k)));
+        waiting = refl;
+      };
+    }

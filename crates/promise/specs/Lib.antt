@@ -1,0 +1,3 @@
+pub mod History
+pub mod Promise
+pub mod Link
