@@ -28,3 +28,4 @@ pub mod TickKeeps
 pub mod ReachGood
 pub mod Independently
 pub mod NoCorners
+pub mod NewStays

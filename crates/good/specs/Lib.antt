@@ -3,3 +3,4 @@ pub mod Calls
 pub mod Reaching
 pub mod Independence
 pub mod Corners
+pub mod NewNode

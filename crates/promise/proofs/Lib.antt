@@ -37,3 +37,4 @@ pub mod ReceiverArrives
 pub mod ReceiverHands
 pub mod ReceiverTicks
 pub mod Promised
+pub mod WorkedNodes
