@@ -77,7 +77,7 @@ and-false true b h e = h
 and-false false b h e = absurd (true≢false (sym e))
 
 -- a payload is as long as the header says, and there is one where one is delivered
-payload-size : (f : List ℕ) (h : Header) → readOf f ≡ read.Frame h → (length (payloadOf f) ≡ h .length) × (delivers (h .kind) ≡ true → 1 ≤ length (payloadOf f))
+pub payload-size : (f : List ℕ) (h : Header) → readOf f ≡ read.Frame h → (length (payloadOf f) ≡ h .length) × (delivers (h .kind) ≡ true → 1 ≤ length (payloadOf f))
 unfolding payloadOf
 payload-size f h e =
     let t = framed f h e in

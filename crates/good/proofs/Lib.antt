@@ -29,3 +29,11 @@ pub mod ReachGood
 pub mod Independently
 pub mod NoCorners
 pub mod NewStays
+pub mod Coming
+pub mod Stored
+pub mod Delivering
+pub mod Confirming
+pub mod GoingOut
+pub mod TickTimers
+pub mod TickSteps
+pub mod Stepping

@@ -57,7 +57,7 @@ receiver-silent b l i e (Enabled t sent) c a = a .0 .silent
 receiver-silent b l i e Open c a = a .silent
 receiver-silent b l i e (Failing n) c a = absurd a
 
-stated-as : (b : List ℕ) (l : Lists) (i : ℕ) (e : EndPoint) (k : Bool) → isSends (e .entry .kind) ≡ k → Entered b l i e → Stated b l i e k (e .state)
+pub stated-as : (b : List ℕ) (l : Lists) (i : ℕ) (e : EndPoint) (k : Bool) → isSends (e .entry .kind) ≡ k → Entered b l i e → Stated b l i e k (e .state)
 stated-as b l i e k h a = subst (λ (x : Bool). Stated b l i e x (e .state)) h (a .stated)
 
 length-not : (i : ℕ) (l : List ℕ) → length (notOf i l) ≤ length l

@@ -39,15 +39,15 @@ use Rattle.good.proofs.TickEntry.{entered-as, reset-within, reset-cells
 -- ---- every entry's timers
 
 -- after the turns of the first n entries: those end points have ticked, the others are as they were
-record Pass (t : List ℕ) (x x′ : Lent) (n : ℕ) : Type 0 where
-  lists : Lists
-  good : Good t (x′ .node) (x′ .book) lists
-  count : countIn (x′ .node) ≡ countIn (x .node)
-  ticks : (j : ℕ) → j < n → Ticks (endOf (x .node) j) (endOf (x′ .node) j)
-  later : (j : ℕ) → n ≤ j → endOf (x′ .node) j ≡ endOf (x .node) j
-  lengths : (c : ℕ) → c < 2048 → lengthIn (x′ .book) c ≡ lengthIn (x .book) c
-  store : x′ .store ≡ x .store
-  out : x′ .out ≡ x .out
+pub record Pass (t : List ℕ) (x x′ : Lent) (n : ℕ) : Type 0 where
+  pub lists : Lists
+  pub good : Good t (x′ .node) (x′ .book) lists
+  pub count : countIn (x′ .node) ≡ countIn (x .node)
+  pub ticks : (j : ℕ) → j < n → Ticks (endOf (x .node) j) (endOf (x′ .node) j)
+  pub later : (j : ℕ) → n ≤ j → endOf (x′ .node) j ≡ endOf (x .node) j
+  pub lengths : (c : ℕ) → c < 2048 → lengthIn (x′ .book) c ≡ lengthIn (x .book) c
+  pub store : x′ .store ≡ x .store
+  pub out : x′ .out ≡ x .out
 
 pass-then : (t : List ℕ) (x x′ x″ : Lent) (n : ℕ) (p : Pass t x x′ n) → EntryTicked t x′ x″ (p .lists) n → Pass t x x″ (suc n)
 pass-then t x x′ x″ n p s =
@@ -68,7 +68,7 @@ pass-then t x x′ x″ n p s =
         (subst (λ (e : EndPoint). Ticks e (endOf (x″ .node) n)) (p .later n (omega arith)) (s .ticks))
     sides j h (no m) = subst (Ticks (endOf (x .node) j)) (sym (s .kept .apart .others j m)) (p .ticks j (omega arith))
 
-passed : (t : List ℕ) (x : Lent) (l : Lists) → Good t (x .node) (x .book) l → (n : ℕ) → n ≤ countIn (x .node) → Pass t x (tickEntries n x) n
+pub passed : (t : List ℕ) (x : Lent) (l : Lists) → Good t (x .node) (x .book) l → (n : ℕ) → n ≤ countIn (x .node) → Pass t x (tickEntries n x) n
 unfolding tickEntries
 passed t x l g zero h =
     record {
@@ -207,16 +207,16 @@ module _ (t : List ℕ) (r : Recovered) (l : Lists) (g : Good t (r .lent .node) 
       sides false o = goes-on o
 
 -- after the recovery of the first n entries
-record Round (t : List ℕ) (y r : Recovered) (n : ℕ) : Type 0 where
-  lists : Lists
-  good : Good t (r .lent .node) (r .lent .book) lists
-  count : countIn (r .lent .node) ≡ countIn (y .lent .node)
-  most : r .bits < 2 ^ n
-  fate : (j : ℕ) → j < n → Recovers (r .bits / 2 ^ j % 2) (endOf (y .lent .node) j) (endOf (r .lent .node) j)
-  later : (j : ℕ) → n ≤ j → endOf (r .lent .node) j ≡ endOf (y .lent .node) j
-  lengths : (c : ℕ) → c < 2048 → lengthIn (r .lent .book) c ≡ lengthIn (y .lent .book) c
-  store : r .lent .store ≡ y .lent .store
-  out : r .lent .out ≡ y .lent .out
+pub record Round (t : List ℕ) (y r : Recovered) (n : ℕ) : Type 0 where
+  pub lists : Lists
+  pub good : Good t (r .lent .node) (r .lent .book) lists
+  pub count : countIn (r .lent .node) ≡ countIn (y .lent .node)
+  pub most : r .bits < 2 ^ n
+  pub fate : (j : ℕ) → j < n → Recovers (r .bits / 2 ^ j % 2) (endOf (y .lent .node) j) (endOf (r .lent .node) j)
+  pub later : (j : ℕ) → n ≤ j → endOf (r .lent .node) j ≡ endOf (y .lent .node) j
+  pub lengths : (c : ℕ) → c < 2048 → lengthIn (r .lent .book) c ≡ lengthIn (y .lent .book) c
+  pub store : r .lent .store ≡ y .lent .store
+  pub out : r .lent .out ≡ y .lent .out
 
 round-then : (t : List ℕ) (y r r′ : Recovered) (n : ℕ) (p : Round t y r n) → Recovery t r r′ (p .lists) n → Round t y r′ (suc n)
 round-then t y r r′ n p s =
@@ -241,7 +241,7 @@ round-then t y r r′ n p s =
         subst (λ (b : ℕ). Recovers b (endOf (y .lent .node) j) (endOf (r′ .lent .node) j)) (sym (s .below j l))
         (subst (Recovers (r .bits / 2 ^ j % 2) (endOf (y .lent .node) j)) (sym (s .kept .apart .others j m)) (p .fate j l))
 
-rounds : (t : List ℕ) (y : Recovered) (l : Lists) → Good t (y .lent .node) (y .lent .book) l → y .bits ≡ 0 → (n : ℕ) → n ≤ countIn (y .lent .node)
+pub rounds : (t : List ℕ) (y : Recovered) (l : Lists) → Good t (y .lent .node) (y .lent .book) l → y .bits ≡ 0 → (n : ℕ) → n ≤ countIn (y .lent .node)
     → Round t y (recoverAll n y) n
 unfolding recoverAll
 rounds t y l g z zero h =

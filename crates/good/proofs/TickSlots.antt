@@ -158,7 +158,7 @@ module _ (i : ℕ) (low : i < 16) (e : EndPoint) (g : GoodWindow (e .run .window
   -- ---- what waits
 
   -- a number whose timer runs waits nowhere
-  runs-alone : (b : List ℕ) (l : Lists) → OpenSender b l i e → (k : ℕ) → k < e .run .handed → timerIn b (at k) ≢ 0
+  pub runs-alone : (b : List ℕ) (l : Lists) → OpenSender b l i e → (k : ℕ) → k < e .run .handed → timerIn b (at k) ≢ 0
       → (r : ℕ) → r < 4 → List·Memᴰ (idAt i (e .run .window) k) (l r) → ⊥
   runs-alone b l o k h runs r hr m = queue r hr (mine-all i (idAt i (e .run .window) k) (l r) m (id-owner i low (e .run .window) g k))
     where
@@ -415,7 +415,7 @@ module _ (i : ℕ) (low : i < 16) (e : EndPoint) (g : GoodWindow (e .run .window
         lives = p .lives;
       }
 
-  slots-first : (b : List ℕ) (l : Lists) → Lines b l → (f : Bool) → Lives f b l i e → (k : ℕ) → k ≤ e .run .handed
+  pub slots-first : (b : List ℕ) (l : Lists) → Lines b l → (f : Bool) → Lives f b l i e → (k : ℕ) → k ≤ e .run .handed
       → Slots b l k (tickSlots i e k (record { book = b; failing = f; running = 0 }))
   unfolding tickSlots
   slots-first b l L f o zero h = slots-start b l L f o
@@ -441,7 +441,7 @@ cell-failing i e c n t h =
     let t₂ : Ticked = record { book = set (t .book) (timerAt c) (n - 1); failing = t .failing; running = t .running + 1 } in
     pick-failing (eqb n 0) t (pick (eqb n 1) (expired i e c t) t₂) h (pick-failing (eqb n 1) (expired i e c t) t₂ (expired-failing i e c t h) h)
 
-slot-failing : (i : ℕ) (e : EndPoint) (k : ℕ) (t : Ticked) → t .failing ≡ true → tickSlot i e k t .failing ≡ true
+pub slot-failing : (i : ℕ) (e : EndPoint) (k : ℕ) (t : Ticked) → t .failing ≡ true → tickSlot i e k t .failing ≡ true
 unfolding tickSlot
 slot-failing i e k t h =
     let c = cell i (e .run .window) (past (e .run .window) k) in

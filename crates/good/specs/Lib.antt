@@ -4,3 +4,4 @@ pub mod Reaching
 pub mod Independence
 pub mod Corners
 pub mod NewNode
+pub mod Steps
