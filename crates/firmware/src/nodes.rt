@@ -11,6 +11,7 @@ ghost use mathlib.Core.Path.{_≡_};
 ghost use mathlib.Core.List.{[], _∷_};
 ghost use lib.Seq.{sets};
 ghost use Rattle.ends.specs.Answers.{answerOf, countedOf, arrivedOf, handedOf};
+ghost use Rattle.node.specs.Lending.{bare, stored, whole};
 ghost use Rattle.opening.specs.Setup.{setupAnswer, setupAfter};
 ghost use Rattle.opening.specs.Opening.{openAnswer, openAfter, closeAnswer, closeAfter, countsAnswer};
 ghost use Rattle.sending.specs.Sending.{sendAnswer, sendAfter, urgentAnswer, urgentAfter};
@@ -37,10 +38,10 @@ pub extern "C" fn shelugvar_setup(
     store: &[u8],
     table: &[u8],
 ) -> u8
-    ensures answer { λ r. ⌜ r ≡ refusalIn (answerOf (setupAnswer (record { node = now (node .entry); book = now (book .entry); store = now (store .entry); out = [] }) (now (table .entry)))) ⌝ }
-    ensures after { λ _. ⌜ record { node = now (node .exit); book = now (book .exit); store = now (store .entry); out = [] }
-        ≡ setupAfter (record { node = now (node .entry); book = now (book .entry); store = now (store .entry); out = [] }) (now (table .entry))
-        (setupAnswer (record { node = now (node .entry); book = now (book .entry); store = now (store .entry); out = [] }) (now (table .entry))) ⌝ }
+    ensures answer { λ r. ⌜ r ≡ refusalIn (answerOf (setupAnswer (stored (now (node .entry)) (now (book .entry)) (now (store .entry))) (now (table .entry)))) ⌝ }
+    ensures after { λ _. ⌜ stored (now (node .exit)) (now (book .exit)) (now (store .entry))
+        ≡ setupAfter (stored (now (node .entry)) (now (book .entry)) (now (store .entry))) (now (table .entry))
+        (setupAnswer (stored (now (node .entry)) (now (book .entry)) (now (store .entry))) (now (table .entry))) ⌝ }
 {
     told(node::setup(node, book, store, table))
 }
@@ -48,10 +49,10 @@ pub extern "C" fn shelugvar_setup(
 // Entry `index` becomes Enabled. Refuses 2, 4.
 #[no_mangle]
 pub extern "C" fn shelugvar_open(node: &mut [u64; 576], book: &mut [u16; 10368], index: usize) -> u8
-    ensures answer { λ r. ⌜ r ≡ refusalIn (answerOf (openAnswer (record { node = now (node .entry); book = now (book .entry); store = []; out = [] }) index)) ⌝ }
-    ensures after { λ _. ⌜ record { node = now (node .exit); book = now (book .exit); store = []; out = [] }
-        ≡ openAfter (record { node = now (node .entry); book = now (book .entry); store = []; out = [] }) index
-        (openAnswer (record { node = now (node .entry); book = now (book .entry); store = []; out = [] }) index) ⌝ }
+    ensures answer { λ r. ⌜ r ≡ refusalIn (answerOf (openAnswer (bare (now (node .entry)) (now (book .entry))) index)) ⌝ }
+    ensures after { λ _. ⌜ bare (now (node .exit)) (now (book .exit))
+        ≡ openAfter (bare (now (node .entry)) (now (book .entry))) index
+        (openAnswer (bare (now (node .entry)) (now (book .entry))) index) ⌝ }
 {
     told(node::open(node, book, index))
 }
@@ -63,10 +64,10 @@ pub extern "C" fn shelugvar_close(
     book: &mut [u16; 10368],
     index: usize,
 ) -> u8
-    ensures answer { λ r. ⌜ r ≡ refusalIn (answerOf (closeAnswer (record { node = now (node .entry); book = now (book .entry); store = []; out = [] }) index)) ⌝ }
-    ensures after { λ _. ⌜ record { node = now (node .exit); book = now (book .exit); store = []; out = [] }
-        ≡ closeAfter (record { node = now (node .entry); book = now (book .entry); store = []; out = [] }) index
-        (closeAnswer (record { node = now (node .entry); book = now (book .entry); store = []; out = [] }) index) ⌝ }
+    ensures answer { λ r. ⌜ r ≡ refusalIn (answerOf (closeAnswer (bare (now (node .entry)) (now (book .entry))) index)) ⌝ }
+    ensures after { λ _. ⌜ bare (now (node .exit)) (now (book .exit))
+        ≡ closeAfter (bare (now (node .entry)) (now (book .entry))) index
+        (closeAnswer (bare (now (node .entry)) (now (book .entry))) index) ⌝ }
 {
     told(node::close(node, book, index))
 }
@@ -96,10 +97,10 @@ pub extern "C" fn shelugvar_send(
     index: usize,
     payload: &[u8],
 ) -> u8
-    ensures answer { λ r. ⌜ r ≡ refusalIn (answerOf (sendAnswer (record { node = now (node .entry); book = now (book .entry); store = now (store .entry); out = [] }) index (now (payload .entry)))) ⌝ }
-    ensures after { λ _. ⌜ record { node = now (node .exit); book = now (book .exit); store = now (store .exit); out = [] }
-        ≡ sendAfter (record { node = now (node .entry); book = now (book .entry); store = now (store .entry); out = [] }) index (now (payload .entry))
-        (sendAnswer (record { node = now (node .entry); book = now (book .entry); store = now (store .entry); out = [] }) index (now (payload .entry))) ⌝ }
+    ensures answer { λ r. ⌜ r ≡ refusalIn (answerOf (sendAnswer (stored (now (node .entry)) (now (book .entry)) (now (store .entry))) index (now (payload .entry)))) ⌝ }
+    ensures after { λ _. ⌜ stored (now (node .exit)) (now (book .exit)) (now (store .exit))
+        ≡ sendAfter (stored (now (node .entry)) (now (book .entry)) (now (store .entry))) index (now (payload .entry))
+        (sendAnswer (stored (now (node .entry)) (now (book .entry)) (now (store .entry))) index (now (payload .entry))) ⌝ }
 {
     told(node::send(node, book, store, index, payload))
 }
@@ -113,10 +114,10 @@ pub extern "C" fn shelugvar_urgent(
     index: usize,
     payload: &[u8],
 ) -> u8
-    ensures answer { λ r. ⌜ r ≡ refusalIn (answerOf (urgentAnswer (record { node = now (node .entry); book = now (book .entry); store = now (store .entry); out = [] }) index (now (payload .entry)))) ⌝ }
-    ensures after { λ _. ⌜ record { node = now (node .exit); book = now (book .exit); store = now (store .exit); out = [] }
-        ≡ urgentAfter (record { node = now (node .entry); book = now (book .entry); store = now (store .entry); out = [] }) index (now (payload .entry))
-        (urgentAnswer (record { node = now (node .entry); book = now (book .entry); store = now (store .entry); out = [] }) index (now (payload .entry))) ⌝ }
+    ensures answer { λ r. ⌜ r ≡ refusalIn (answerOf (urgentAnswer (stored (now (node .entry)) (now (book .entry)) (now (store .entry))) index (now (payload .entry)))) ⌝ }
+    ensures after { λ _. ⌜ stored (now (node .exit)) (now (book .exit)) (now (store .exit))
+        ≡ urgentAfter (stored (now (node .entry)) (now (book .entry)) (now (store .entry))) index (now (payload .entry))
+        (urgentAnswer (stored (now (node .entry)) (now (book .entry)) (now (store .entry))) index (now (payload .entry))) ⌝ }
 {
     told(node::urgent(node, book, store, index, payload))
 }
@@ -158,11 +159,11 @@ pub extern "C" fn shelugvar_arrival(
     frame: &[u8],
     values: &mut [usize; 2],
 ) -> u8
-    ensures answer { λ r. ⌜ r ≡ refusalIn (arrivedOf (arrivalAnswer (record { node = now (node .entry); book = now (book .entry); store = now (store .entry); out = now (block .entry) }) (now (frame .entry)))) ⌝ }
-    ensures after { λ _. ⌜ record { node = now (node .exit); book = now (book .exit); store = now (store .exit); out = now (block .exit) }
-        ≡ arrivalAfter (record { node = now (node .entry); book = now (book .entry); store = now (store .entry); out = now (block .entry) }) (now (frame .entry)) ⌝ }
+    ensures answer { λ r. ⌜ r ≡ refusalIn (arrivedOf (arrivalAnswer (whole (now (node .entry)) (now (book .entry)) (now (store .entry)) (now (block .entry))) (now (frame .entry)))) ⌝ }
+    ensures after { λ _. ⌜ whole (now (node .exit)) (now (book .exit)) (now (store .exit)) (now (block .exit))
+        ≡ arrivalAfter (whole (now (node .entry)) (now (book .entry)) (now (store .entry)) (now (block .entry))) (now (frame .entry)) ⌝ }
     ensures values { λ _. ⌜ now (values .exit)
-        ≡ valuesIn (arrivedOf (arrivalAnswer (record { node = now (node .entry); book = now (book .entry); store = now (store .entry); out = now (block .entry) }) (now (frame .entry)))) (now (values .entry)) ⌝ }
+        ≡ valuesIn (arrivedOf (arrivalAnswer (whole (now (node .entry)) (now (book .entry)) (now (store .entry)) (now (block .entry))) (now (frame .entry)))) (now (values .entry)) ⌝ }
 {
     arrived(values, node::arrival(node, book, store, block, frame))
 }
@@ -176,12 +177,12 @@ pub extern "C" fn shelugvar_hand_out(
     frame: &mut [u8],
     length: &mut usize,
 ) -> u8
-    ensures answer { λ r. ⌜ r ≡ refusalIn (handedOf (handAnswer (record { node = now (node .entry); book = now (book .entry); store = now (store .entry); out = now (frame .entry) }))) ⌝ }
-    ensures after { λ _. ⌜ record { node = now (node .exit); book = now (book .exit); store = now (store .entry); out = now (frame .exit) }
-        ≡ handAfter (record { node = now (node .entry); book = now (book .entry); store = now (store .entry); out = now (frame .entry) })
-        (handAnswer (record { node = now (node .entry); book = now (book .entry); store = now (store .entry); out = now (frame .entry) })) ⌝ }
+    ensures answer { λ r. ⌜ r ≡ refusalIn (handedOf (handAnswer (whole (now (node .entry)) (now (book .entry)) (now (store .entry)) (now (frame .entry))))) ⌝ }
+    ensures after { λ _. ⌜ whole (now (node .exit)) (now (book .exit)) (now (store .entry)) (now (frame .exit))
+        ≡ handAfter (whole (now (node .entry)) (now (book .entry)) (now (store .entry)) (now (frame .entry)))
+        (handAnswer (whole (now (node .entry)) (now (book .entry)) (now (store .entry)) (now (frame .entry)))) ⌝ }
     ensures value { λ _. ⌜ now (length .exit)
-        ≡ valueIn (handedOf (handAnswer (record { node = now (node .entry); book = now (book .entry); store = now (store .entry); out = now (frame .entry) }))) (now (length .entry)) ⌝ }
+        ≡ valueIn (handedOf (handAnswer (whole (now (node .entry)) (now (book .entry)) (now (store .entry)) (now (frame .entry))))) (now (length .entry)) ⌝ }
 {
     match node::hand_out(node, book, store, frame) {
         HandedOut::Length(n) => {
@@ -195,9 +196,9 @@ pub extern "C" fn shelugvar_hand_out(
 // Every running timer falls by one: the entries that became Enabled, entry 0 lowest. Refuses nothing.
 #[no_mangle]
 pub extern "C" fn shelugvar_tick(node: &mut [u64; 576], book: &mut [u16; 10368]) -> u16
-    ensures answer { λ r. ⌜ r ≡ tickAnswer (record { node = now (node .entry); book = now (book .entry); store = []; out = [] }) ⌝ }
-    ensures after { λ _. ⌜ record { node = now (node .exit); book = now (book .exit); store = []; out = [] }
-        ≡ tickAfter (record { node = now (node .entry); book = now (book .entry); store = []; out = [] }) ⌝ }
+    ensures answer { λ r. ⌜ r ≡ tickAnswer (bare (now (node .entry)) (now (book .entry))) ⌝ }
+    ensures after { λ _. ⌜ bare (now (node .exit)) (now (book .exit))
+        ≡ tickAfter (bare (now (node .entry)) (now (book .entry))) ⌝ }
 {
     node::tick(node, book)
 }

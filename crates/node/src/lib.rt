@@ -9,7 +9,7 @@ use ends::answers::Counted;
 use ends::answers::HandedOut;
 use units::refusals::Verdict;
 ghost use mathlib.Core.Path.{_≡_};
-ghost use mathlib.Core.List.{[]};
+ghost use Rattle.node.specs.Lending.{bare, stored, whole};
 ghost use Rattle.opening.specs.Setup.{setupAnswer, setupAfter};
 ghost use Rattle.opening.specs.Opening.{openAnswer, openAfter, closeAnswer, closeAfter, countsAnswer};
 ghost use Rattle.sending.specs.Sending.{sendAnswer, sendAfter, urgentAnswer, urgentAfter};
@@ -24,27 +24,27 @@ pub type Book = [u16; 10368];
 
 // The table is read: every entry Closed, nothing waiting, start 1, counts 0. Refuses 1, 6.
 pub fn setup(node: &mut Node, book: &mut Book, store: &[u8], table: &[u8]) -> Verdict
-    ensures answer { λ r. ⌜ r ≡ setupAnswer (record { node = now (node .entry); book = now (book .entry); store = now (store .entry); out = [] }) (now (table .entry)) ⌝ }
-    ensures after { λ r. ⌜ record { node = now (node .exit); book = now (book .exit); store = now (store .entry); out = [] }
-        ≡ setupAfter (record { node = now (node .entry); book = now (book .entry); store = now (store .entry); out = [] }) (now (table .entry)) r ⌝ }
+    ensures answer { λ r. ⌜ r ≡ setupAnswer (stored (now (node .entry)) (now (book .entry)) (now (store .entry))) (now (table .entry)) ⌝ }
+    ensures after { λ r. ⌜ stored (now (node .exit)) (now (book .exit)) (now (store .entry))
+        ≡ setupAfter (stored (now (node .entry)) (now (book .entry)) (now (store .entry))) (now (table .entry)) r ⌝ }
 {
     opening::setup(node, book, store, table)
 }
 
 // Entry `index` becomes Enabled; a sender's Reset then waits. Refuses 2, 4.
 pub fn open(node: &mut Node, book: &mut Book, index: usize) -> Verdict
-    ensures answer { λ r. ⌜ r ≡ openAnswer (record { node = now (node .entry); book = now (book .entry); store = []; out = [] }) index ⌝ }
-    ensures after { λ r. ⌜ record { node = now (node .exit); book = now (book .exit); store = []; out = [] }
-        ≡ openAfter (record { node = now (node .entry); book = now (book .entry); store = []; out = [] }) index r ⌝ }
+    ensures answer { λ r. ⌜ r ≡ openAnswer (bare (now (node .entry)) (now (book .entry))) index ⌝ }
+    ensures after { λ r. ⌜ bare (now (node .exit)) (now (book .exit))
+        ≡ openAfter (bare (now (node .entry)) (now (book .entry))) index r ⌝ }
 {
     opening::open(node, book, index)
 }
 
 // Entry `index` becomes Closed; what it held and what of it waited goes. Refuses 2, 4.
 pub fn close(node: &mut Node, book: &mut Book, index: usize) -> Verdict
-    ensures answer { λ r. ⌜ r ≡ closeAnswer (record { node = now (node .entry); book = now (book .entry); store = []; out = [] }) index ⌝ }
-    ensures after { λ r. ⌜ record { node = now (node .exit); book = now (book .exit); store = []; out = [] }
-        ≡ closeAfter (record { node = now (node .entry); book = now (book .entry); store = []; out = [] }) index r ⌝ }
+    ensures answer { λ r. ⌜ r ≡ closeAnswer (bare (now (node .entry)) (now (book .entry))) index ⌝ }
+    ensures after { λ r. ⌜ bare (now (node .exit)) (now (book .exit))
+        ≡ closeAfter (bare (now (node .entry)) (now (book .entry))) index r ⌝ }
 {
     opening::close(node, book, index)
 }
@@ -64,9 +64,9 @@ pub fn send(
     index: usize,
     payload: &[u8],
 ) -> Verdict
-    ensures answer { λ r. ⌜ r ≡ sendAnswer (record { node = now (node .entry); book = now (book .entry); store = now (store .entry); out = [] }) index (now (payload .entry)) ⌝ }
-    ensures after { λ r. ⌜ record { node = now (node .exit); book = now (book .exit); store = now (store .exit); out = [] }
-        ≡ sendAfter (record { node = now (node .entry); book = now (book .entry); store = now (store .entry); out = [] }) index (now (payload .entry)) r ⌝ }
+    ensures answer { λ r. ⌜ r ≡ sendAnswer (stored (now (node .entry)) (now (book .entry)) (now (store .entry))) index (now (payload .entry)) ⌝ }
+    ensures after { λ r. ⌜ stored (now (node .exit)) (now (book .exit)) (now (store .exit))
+        ≡ sendAfter (stored (now (node .entry)) (now (book .entry)) (now (store .entry))) index (now (payload .entry)) r ⌝ }
 {
     sending::send(node, book, store, index, payload)
 }
@@ -79,9 +79,9 @@ pub fn urgent(
     index: usize,
     payload: &[u8],
 ) -> Verdict
-    ensures answer { λ r. ⌜ r ≡ urgentAnswer (record { node = now (node .entry); book = now (book .entry); store = now (store .entry); out = [] }) index (now (payload .entry)) ⌝ }
-    ensures after { λ r. ⌜ record { node = now (node .exit); book = now (book .exit); store = now (store .exit); out = [] }
-        ≡ urgentAfter (record { node = now (node .entry); book = now (book .entry); store = now (store .entry); out = [] }) index (now (payload .entry)) r ⌝ }
+    ensures answer { λ r. ⌜ r ≡ urgentAnswer (stored (now (node .entry)) (now (book .entry)) (now (store .entry))) index (now (payload .entry)) ⌝ }
+    ensures after { λ r. ⌜ stored (now (node .exit)) (now (book .exit)) (now (store .exit))
+        ≡ urgentAfter (stored (now (node .entry)) (now (book .entry)) (now (store .entry))) index (now (payload .entry)) r ⌝ }
 {
     sending::urgent(node, book, store, index, payload)
 }
@@ -94,27 +94,27 @@ pub fn arrival(
     block: &mut [u8],
     arrived: &[u8],
 ) -> Arrived
-    ensures answer { λ r. ⌜ r ≡ arrivalAnswer (record { node = now (node .entry); book = now (book .entry); store = now (store .entry); out = now (block .entry) }) (now (arrived .entry)) ⌝ }
-    ensures after { λ _. ⌜ record { node = now (node .exit); book = now (book .exit); store = now (store .exit); out = now (block .exit) }
-        ≡ arrivalAfter (record { node = now (node .entry); book = now (book .entry); store = now (store .entry); out = now (block .entry) }) (now (arrived .entry)) ⌝ }
+    ensures answer { λ r. ⌜ r ≡ arrivalAnswer (whole (now (node .entry)) (now (book .entry)) (now (store .entry)) (now (block .entry))) (now (arrived .entry)) ⌝ }
+    ensures after { λ _. ⌜ whole (now (node .exit)) (now (book .exit)) (now (store .exit)) (now (block .exit))
+        ≡ arrivalAfter (whole (now (node .entry)) (now (book .entry)) (now (store .entry)) (now (block .entry))) (now (arrived .entry)) ⌝ }
 {
     arriving::arrive(node, book, store, block, arrived)
 }
 
 // What goes out next is written into the frame buffer. Refuses 6; answers the length, 0 where nothing waits.
 pub fn hand_out(node: &mut Node, book: &mut Book, store: &[u8], frame: &mut [u8]) -> HandedOut
-    ensures answer { λ r. ⌜ r ≡ handAnswer (record { node = now (node .entry); book = now (book .entry); store = now (store .entry); out = now (frame .entry) }) ⌝ }
-    ensures after { λ r. ⌜ record { node = now (node .exit); book = now (book .exit); store = now (store .entry); out = now (frame .exit) }
-        ≡ handAfter (record { node = now (node .entry); book = now (book .entry); store = now (store .entry); out = now (frame .entry) }) r ⌝ }
+    ensures answer { λ r. ⌜ r ≡ handAnswer (whole (now (node .entry)) (now (book .entry)) (now (store .entry)) (now (frame .entry))) ⌝ }
+    ensures after { λ r. ⌜ whole (now (node .exit)) (now (book .exit)) (now (store .entry)) (now (frame .exit))
+        ≡ handAfter (whole (now (node .entry)) (now (book .entry)) (now (store .entry)) (now (frame .entry))) r ⌝ }
 {
     handing::hand_out(node, book, store, frame)
 }
 
 // Every running timer falls by one. Refuses nothing; answers the entries that became Enabled, entry 0 lowest.
 pub fn tick(node: &mut Node, book: &mut Book) -> u16
-    ensures answer { λ r. ⌜ r ≡ tickAnswer (record { node = now (node .entry); book = now (book .entry); store = []; out = [] }) ⌝ }
-    ensures after { λ _. ⌜ record { node = now (node .exit); book = now (book .exit); store = []; out = [] }
-        ≡ tickAfter (record { node = now (node .entry); book = now (book .entry); store = []; out = [] }) ⌝ }
+    ensures answer { λ r. ⌜ r ≡ tickAnswer (bare (now (node .entry)) (now (book .entry))) ⌝ }
+    ensures after { λ _. ⌜ bare (now (node .exit)) (now (book .exit))
+        ≡ tickAfter (bare (now (node .entry)) (now (book .entry))) ⌝ }
 {
     ticking::tick(node, book)
 }
