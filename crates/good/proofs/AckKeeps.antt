@@ -5,7 +5,7 @@ use mathlib.Core.Path.{_≡_, refl, sym, ap, subst, _∙_}
 use mathlib.Core.Bool.{Bool, true, false, _&&_, true≢false}
 use mathlib.Core.List.{List, [], _∷_, List·Memᴰ, List·Memᴰ·not-nil}
 use native.Mathlib.Omega.{arith}
-use lib.ListN.{length, getD, set}
+use lib.ListN.{getD, set}
 use lib.Dec.{eqb}
 use borrow.Author.Tests.{eqb-true, ltb-true}
 use Rattle.units.specs.Refusals.{pick}
@@ -26,10 +26,10 @@ use Rattle.slots.specs.Slots.{cell, past, lengthIn, timerIn}
 use Rattle.acking.specs.Acking.{counts, passing, ackedRun, openedRun, ackAnswer, resetGone, stopped, fewer, ackNode, ackBook, ackAfter}
 use Rattle.good.specs.Good.{Lists, mine, ids, Silent, Sending, OpenSender, FailingSender, Good}
 use Rattle.good.proofs.Lined.{less, unlink-cells}
-use Rattle.good.proofs.Framing.{Within, within-same, within-unlink, Apart, apart-same, apart-saved}
+use Rattle.good.proofs.Framing.{Within, within-same, within-unlink, Apart, apart-same, apart-saved, entry-low}
 use Rattle.good.proofs.Offsets.{reset-owner}
 use Rattle.good.proofs.Turns.{run-fits, state-fits, turnedTo, end-saved, sender-turn, Kept}
-use Rattle.good.proofs.Senders.{Timed, timed-set, within-timed, reset-waited, reset-gone, entry-low, entry-window, sender-stated, sender-entered}
+use Rattle.good.proofs.Senders.{Timed, timed-set, within-timed, reset-waited, reset-gone, entry-window, sender-stated, sender-entered}
 use Rattle.good.proofs.AckRuns.{Passes, Counts, counts-says, passes, moved-sending, moved-fits, moved-timers, moved-resends, moved-datas, Gone, open-book}
 
 -- ---- what a call comes to

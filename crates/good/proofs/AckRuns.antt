@@ -3,7 +3,7 @@
 use Prim.Native.Nat.{ℕ, zero, suc, _+_, _-_, _≤_, _<_}
 use mathlib.Core.Path.{_≡_, refl, sym, ap, subst, _∙_}
 use mathlib.Core.Logic.{_≢_, _⊎_, inl, inr}
-use mathlib.Core.Bool.{Bool, true, false, _||_, true≢false, false≢true}
+use mathlib.Core.Bool.{Bool, true, false, _||_, true≢false}
 use mathlib.Core.List.{List, _∷_, List·Memᴰ}
 use native.Mathlib.Decide.{ℕ-discrete, decLt}
 use native.Mathlib.Omega.{arith}
@@ -13,27 +13,25 @@ use borrow.Author.Tests.{eqb-true, eqb-false, ltb-true}
 use Rattle.units.specs.Refusals.{pick}
 use Rattle.memory.specs.Layout.{resends, slotId, timerAt}
 use Rattle.waiting.specs.Queues.{unlinked}
-use Rattle.window.specs.Windows.{held, offsetOf, insideOf, acceptOf, passOf, runOf, Good as GoodWindow}
+use Rattle.window.specs.Windows.{held, offsetOf, insideOf, acceptOf, Good as GoodWindow}
 use Rattle.window.specs.declared.Window.{Window}
-use Rattle.window.specs.declared.Found.{Found}
-use Rattle.window.specs.declared.Found.the-variants.{New, Held, Outside}
 use Rattle.window.specs.declared.Passed.{Passed}
-use Rattle.window.proofs.Accepting.{found-new, accept-start, accept-size, accept-good, accept-held}
+use Rattle.window.proofs.Accepting.{found-new, accept-size, accept-good, accept-held}
 use Rattle.window.proofs.Holding.{held-below}
 use Rattle.window.proofs.Passing.{run-held, pass-run, pass-size, pass-good, pass-held, pass-first}
 use Rattle.table.proofs.Every.{both}
 use Rattle.kept.proofs.Kept.{RunFits}
 use Rattle.ends.specs.States.{isNew}
-use Rattle.ends.specs.declared.State.the-variants.{Open, Failing}
 use Rattle.ends.specs.declared.Run.{Run}
 use Rattle.slots.specs.Slots.{cell, past, timerIn}
 use Rattle.acking.specs.Acking.{counts, passing, moved, stopped, fewer}
 use Rattle.good.specs.Good.{Lists, Lines, mine, idAt, ids, Resend, Resends, Filled, Sending, running}
 use Rattle.good.proofs.Members.{without-in, without-keeps, mine-in, mine-without}
 use Rattle.good.proofs.Lined.{less, unlink-lines, unlink-cells}
-use Rattle.good.proofs.Framing.{Within, within-then, within-unlink}
-use Rattle.good.proofs.Offsets.{cell-moved, id-inj}
-use Rattle.good.proofs.Senders.{cell-low, Timed, timed-set, timed-after, within-timed, running-stopped, running-moved, gone-other}
+use Rattle.good.proofs.Known.{is-new, either, neither}
+use Rattle.good.proofs.Framing.{Within, within-then, within-unlink, cell-low}
+use Rattle.good.proofs.Offsets.{cell-pass, id-inj}
+use Rattle.good.proofs.Senders.{Timed, timed-set, timed-after, within-timed, running-stopped, running-moved, gone-other}
 
 -- ---- the window once a number is acknowledged
 
@@ -47,25 +45,6 @@ pub record Passes (i : ℕ) (w : Window) (k p : ℕ) (u : Window) : Type 0 where
   pub none : (j : ℕ) → held u j ≡ false → (p + j ≢ k) × (held w (p + j) ≡ false)
   pub under : (j : ℕ) → j < p → (j ≡ k) ⊎ (held w j ≡ true)
 
-either : (j k : ℕ) (h : Bool) → (eqb j k || h) ≡ true → (j ≡ k) ⊎ (h ≡ true)
-either j k h e = sides (eqb j k) refl e
-  where
-    sides : (t : Bool) → eqb j k ≡ t → (t || h) ≡ true → (j ≡ k) ⊎ (h ≡ true)
-    sides true q e = inl (eqb-true j k q)
-    sides false q e = inr e
-
-neither : (j k : ℕ) (h : Bool) → (eqb j k || h) ≡ false → (j ≢ k) × (h ≡ false)
-neither j k h e = sides (eqb j k) refl e
-  where
-    sides : (t : Bool) → eqb j k ≡ t → (t || h) ≡ false → (j ≢ k) × (h ≡ false)
-    sides true q e = absurd (true≢false e)
-    sides false q e = (eqb-false j k q, e)
-
-new-found : (f : Found) → isNew f ≡ true → f ≡ New
-new-found New h = refl
-new-found Held h = absurd (false≢true h)
-new-found Outside h = absurd (false≢true h)
-
 -- what counts: in the window, handed out and not yet acknowledged
 pub record Counts (r : Run) (s : ℕ) : Type 0 where
   pub inside : insideOf (r .window) s ≡ true
@@ -76,17 +55,8 @@ pub counts-says : (r : Run) (s : ℕ) → counts r s ≡ true → Counts r s
 unfolding counts
 counts-says r s h =
     let p = both (ltb (offsetOf (r .window) s) (r .handed)) (isNew (acceptOf (r .window) s .found)) h in
-    let n = found-new (r .window) s (new-found (acceptOf (r .window) s .found) (p .1)) in
+    let n = found-new (r .window) s (is-new (acceptOf (r .window) s .found) (p .1)) in
     record { inside = n .0; handed = ltb-true (offsetOf (r .window) s) (r .handed) (p .0); missing = n .1 }
-
-pass-cells : (i : ℕ) (w : Window) (s j : ℕ)
-    → cell i (passOf (acceptOf w s .window) .window) (past (passOf (acceptOf w s .window) .window) j) ≡ cell i w (past w (passOf (acceptOf w s .window) .run + j))
-unfolding passOf
-pass-cells i w s j =
-    cell-moved i (acceptOf w s .window) (runOf (acceptOf w s .window)) j ∙ same (acceptOf w s .window) (runOf (acceptOf w s .window) + j) (accept-start w s) (accept-size w s)
-  where
-    same : (a : Window) (n : ℕ) → a .start ≡ w .start → a .size ≡ w .size → cell i a (past a n) ≡ cell i w (past w n)
-    same a n p q = rw (p, q)
 
 module _ (i : ℕ) (r : Run) (s : ℕ) (g : GoodWindow (r .window)) (c : Counts r s) where
   held-then : (j : ℕ) → held (passing r s .window) j ≡ (eqb (passing r s .run + j) (offsetOf (r .window) s) || held (r .window) (passing r s .run + j))
@@ -103,7 +73,7 @@ module _ (i : ℕ) (r : Run) (s : ℕ) (g : GoodWindow (r .window)) (c : Counts 
       record {
         good = pass-good a ga;
         size = pass-size a ∙ accept-size (r .window) s;
-        cells = λ j. pass-cells i (r .window) s j;
+        cells = λ j. cell-pass i (r .window) s j ∙ ap (λ (n : ℕ). cell i (r .window) (past (r .window) (n + j))) (sym (pass-run a));
         first = pass-first a ga;
         each = λ j h. either (passing r s .run + j) (offsetOf (r .window) s) (held (r .window) (passing r s .run + j)) (sym (held-then j) ∙ h);
         none = λ j h. neither (passing r s .run + j) (offsetOf (r .window) s) (held (r .window) (passing r s .run + j)) (sym (held-then j) ∙ h);
@@ -113,18 +83,22 @@ module _ (i : ℕ) (r : Run) (s : ℕ) (g : GoodWindow (r .window)) (c : Counts 
 
 -- ---- the run then
 
+-- what the start passed was handed out
+pub passed-le : (b : List ℕ) (i : ℕ) (r : Run) (largest : ℕ) → Sending b i r largest → (k : ℕ) → k < r .handed → (p : ℕ) (u : Window) → Passes i (r .window) k p u → p ≤ r .handed
+passed-le b i r largest s k hk p u P = sides (decLt (r .handed) p)
+  where
+    more : (r .handed ≡ k) ⊎ (held (r .window) (r .handed) ≡ true) → p ≤ r .handed
+    more (inl e) = absurd (omega arith)
+    more (inr e) = absurd (omega (arith, s .acked (r .handed) e))
+
+    sides : Dec (r .handed < p) → p ≤ r .handed
+    sides (yes h) = more (P .under (r .handed) h)
+    sides (no h) = omega arith
+
 module _ (b b′ : List ℕ) (i : ℕ) (low : i < 16) (r : Run) (g : GoodWindow (r .window)) (fits : RunFits r) (largest : ℕ) (S : Sending b i r largest)
     (k : ℕ) (hk : k < r .handed) (v : Passed) (P : Passes i (r .window) k (v .run) (v .window)) (T : Timed b b′ i (r .window) k 0) where
-  passed-le : v .run ≤ r .handed
-  passed-le = sides (decLt (r .handed) (v .run))
-    where
-      more : (r .handed ≡ k) ⊎ (held (r .window) (r .handed) ≡ true) → v .run ≤ r .handed
-      more (inl e) = absurd (omega arith)
-      more (inr e) = absurd (omega (arith, S .acked (r .handed) e))
-
-      sides : Dec (r .handed < v .run) → v .run ≤ r .handed
-      sides (yes h) = more (P .under (r .handed) h)
-      sides (no h) = omega arith
+  passed-most : v .run ≤ r .handed
+  passed-most = passed-le b i r largest S k hk (v .run) (v .window) P
 
   -- a number that is acknowledged was handed out, and its timer does not run
   acked-handed : (j : ℕ) → (j ≡ k) ⊎ (held (r .window) j ≡ true) → j < r .handed
@@ -147,7 +121,7 @@ module _ (b b′ : List ℕ) (i : ℕ) (low : i < 16) (r : Run) (g : GoodWindow 
 
   pub moved-sending : Sending b′ i (moved r v) largest
   moved-sending =
-      let n = passed-le in
+      let n = passed-most in
       record {
         taken = rw (P .size) (omega (arith, S .taken));
         handed = omega (arith, S .handed);
@@ -176,7 +150,7 @@ module _ (b b′ : List ℕ) (i : ℕ) (low : i < 16) (r : Run) (g : GoodWindow 
   moved-timers n e =
       let one = running-stopped b b′ i (r .window) k T (r .handed) hk (omega (arith, S .taken, S .handed)) in
       let all = running-moved b′ i (r .window) (v .window) (v .run) (λ j h. acked-stopped j (P .under j h)) (P .cells) (r .handed - v .run) in
-      let m : v .run + (r .handed - v .run) ≡ r .handed = omega (arith, passed-le) in
+      let m : v .run + (r .handed - v .run) ≡ r .handed = omega (arith, passed-most) in
       sides (eqb (timerIn b (cell i (r .window) (past (r .window) k))) 0) n (running b′ i (r .window) (r .handed)) (e ∙ one) ∙ ap (running b′ i (r .window)) (sym m) ∙ all
     where
       sides : (t : Bool) (n z : ℕ) → n ≡ z + pick t 0 1 → pick t n (n - 1) ≡ z
@@ -262,7 +236,7 @@ module _ (b b′ : List ℕ) (i : ℕ) (low : i < 16) (r : Run) (g : GoodWindow 
 
   pub moved-datas : ids i (v .window) (r .handed - v .run) ((r .taken - v .run) - (r .handed - v .run)) ≡ ids i (r .window) (r .handed) (r .taken - r .handed)
   moved-datas =
-      let n = passed-le in
+      let n = passed-most in
       let e : (r .taken - v .run) - (r .handed - v .run) ≡ r .taken - r .handed = omega arith in
       rw e (moved-ids (r .handed) (r .taken - r .handed) n)
 

@@ -1,44 +1,40 @@
 -- An arrival, in two ways: refused, and then nothing alters; or taken in by the entry that fits, with what its tests have made sure of.
 -- Assumes nothing.
-use Prim.Native.Nat.{ℕ, zero, suc, _+_, _-_, _≤_, _<_}
-use mathlib.Core.Path.{_≡_, refl, sym, ap, subst, _∙_}
+use Prim.Native.Nat.{ℕ, _-_, _≤_, _<_}
+use mathlib.Core.Path.{_≡_, refl, sym, ap, _∙_}
 use mathlib.Core.Logic.{_⊎_, inl, inr}
-use mathlib.Core.Bool.{Bool, true, false, not, _&&_, true≢false}
-use mathlib.Core.List.{List, [], _∷_}
-use native.Mathlib.Nat.{min-eq-left}
+use mathlib.Core.Bool.{Bool, true, false, _&&_, true≢false}
+use mathlib.Core.List.{List}
 use native.Mathlib.Omega.{arith}
 use lib.ListN.{length, getD, take, drop, length-take, length-drop}
-use lib.Dec.{eqb, leb, ltb}
-use borrow.Author.Tests.{eqb-true, leb-true, leb-false, ltb-false, not-false}
-use Rattle.units.specs.Refusals.{pick, verdict}
+use lib.Dec.{leb}
+use borrow.Author.Tests.{leb-true, leb-false, ltb-false, not-false}
+use Rattle.units.specs.Refusals.{verdict}
 use Rattle.units.specs.Bytes.{get16Of}
 use Rattle.units.specs.declared.refusals.Refusal.{Refusal}
-use Rattle.units.specs.declared.refusals.Refusal.the-variants as refusal
 use Rattle.units.specs.declared.refusals.Verdict.{Verdict}
 use Rattle.units.specs.declared.refusals.Verdict.the-variants as verdicts
 use Rattle.units.proofs.Judging.{clear}
 use Rattle.waiting.specs.Acks.{waitingOf}
 use Rattle.frame.specs.Layout.{payloadOf, typeAt}
-use Rattle.frame.specs.Reading.{soundOf, headerOf, readOf, headerAt, headerTests, readAs}
-use Rattle.frame.specs.Types.{typeOf, suits, carries, seqGiven}
+use Rattle.frame.specs.Reading.{soundOf, headerOf, readOf}
+use Rattle.frame.specs.Types.{typeOf, suits, seqGiven}
 use Rattle.frame.specs.declared.Header.{Header}
 use Rattle.frame.specs.declared.Read.{Read}
 use Rattle.frame.specs.declared.Read.the-variants as read
 use Rattle.frame.specs.declared.FrameType.{FrameType}
 use Rattle.frame.specs.declared.FrameType.the-variants as type
-use Rattle.frame.proofs.ReadLaws.{Taken as Framed, taken as framed}
+use Rattle.frame.proofs.ReadLaws.{taken as framed}
 use Rattle.ends.specs.Ends.{loadEntry, endOf}
 use Rattle.ends.specs.Heads.{countIn, needIn}
-use Rattle.ends.specs.States.{isClosed, isOpen}
+use Rattle.ends.specs.States.{isSends, isClosed, isOpen}
 use Rattle.ends.specs.Lent.{Lent}
-use Rattle.ends.specs.declared.EndPoint.{EndPoint}
-use Rattle.ends.specs.declared.State.{State}
-use Rattle.ends.specs.declared.State.the-variants.{Closed, Enabled, Open, Failing}
-use Rattle.ends.specs.declared.answers.Arrived.{Arrived}
+use Rattle.ends.specs.declared.State.the-variants.{Open}
 use Rattle.ends.specs.declared.answers.Arrived.the-variants as arrived
-use Rattle.lookup.specs.Lookup.{forSender, firstFit, entryFor}
-use Rattle.arriving.specs.Arriving.{ours, delivers, answered, blockRoom, entryTests, entryOf, entryVerdict, takenAnswer, takenAfter, answerAs, afterAs, entryAnswer, entryAfter, readAnswer, readAfter, frameTests, arrivalAnswer, arrivalAfter}
+use Rattle.lookup.specs.Lookup.{forSender, entryFor}
+use Rattle.arriving.specs.Arriving.{delivers, answered, blockRoom, entryTests, entryOf, entryVerdict, takenAnswer, takenAfter, answerAs, afterAs, entryAnswer, entryAfter, readAnswer, readAfter, frameTests, arrivalAnswer, arrivalAfter}
 use Rattle.table.proofs.Every.{both}
+use Rattle.good.proofs.Known.{is-open}
 use Rattle.good.proofs.Finding.{Fitting, fitting, found-fits}
 
 -- ---- what the tests make sure of
@@ -65,11 +61,10 @@ pub record Refused (x : Lent) (f : List ℕ) : Type 0 where
   pub answer : arrivalAnswer x f ≡ arrived.Refused why
   pub after : arrivalAfter x f ≡ x
 
-is-open : (s : State) → isOpen s ≡ true → s ≡ Open
-is-open Closed h = absurd (true≢false (sym h))
-is-open (Enabled t sent) h = absurd (true≢false (sym h))
-is-open Open h = refl
-is-open (Failing n) h = absurd (true≢false (sym h))
+-- the entry that takes it in is of the kind that such a frame goes to
+pub taken-kind : (x : Lent) (f : List ℕ) (a : Taken x f) → isSends (endOf (x .node) (a .entry) .entry .kind) ≡ forSender (a .header .kind)
+unfolding endOf
+taken-kind x f a = a .fit .kind
 
 -- a test that is made of those that deliver only
 and-false : (a b : Bool) → (a && b) ≡ false → a ≡ true → b ≡ false

@@ -1,19 +1,19 @@
 -- Close keeps a good node good: nothing of the entry waits any more, neither a sender's frames nor a receiver's acknowledgements, and its
 -- run begins anew. Refused, it leaves everything. Assumes nothing.
-use Prim.Native.Nat.{ℕ, _/_, _%_, _≤_, _<_}
+use Prim.Native.Nat.{ℕ, _/_, _≤_, _<_}
 use mathlib.Core.Path.{_≡_, refl, sym, ap, subst, _∙_}
 use mathlib.Core.Logic.{_≢_}
 use mathlib.Core.Bool.{Bool, true, false}
-use mathlib.Core.List.{List, [], _∷_, List·Memᴰ, List·Memᴰ·head}
+use mathlib.Core.List.{List, [], _∷_, List·Memᴰ}
 use native.Mathlib.Omega.{arith}
 use lib.Dec.{eqb, leb}
-use borrow.Author.Tests.{eq-eqb, le-leb, leb-false}
+use borrow.Author.Tests.{le-leb, leb-false}
 use Rattle.units.specs.Refusals.{pick}
 use Rattle.units.specs.declared.refusals.Refusal.the-variants as refusal
 use Rattle.units.specs.declared.refusals.Verdict.{Verdict}
 use Rattle.units.specs.declared.refusals.Verdict.the-variants.{Passed, Refused}
 use Rattle.units.proofs.Judging.{clear}
-use Rattle.memory.specs.Layout.{resets, urgents, resends, datas, resetId}
+use Rattle.memory.specs.Layout.{resets, resetId}
 use Rattle.waiting.specs.Queues.{unlinked}
 use Rattle.waiting.specs.Acks.{dropped}
 use Rattle.order.specs.Order.{acksIn}
@@ -28,13 +28,13 @@ use Rattle.ends.specs.declared.State.the-variants.{Closed, Enabled, Open, Faili
 use Rattle.ends.specs.declared.EndPoint.{EndPoint}
 use Rattle.opening.specs.Opening.{closeAnswer, silenced, closeAfter}
 use Rattle.good.specs.Good.{Lists, Lines, Silent, Stated, Entered, Good}
-use Rattle.good.proofs.Members.{without, mine-in, mine-without}
 use Rattle.good.proofs.Lined.{less}
-use Rattle.good.proofs.Framing.{Within, within-same, within-unlink, Apart, apart-then, apart-saved, framed, count-low}
+use Rattle.good.proofs.Known.{stated-as, receiver-silent}
+use Rattle.good.proofs.Framing.{Within, within-same, within-unlink, Apart, apart-then, apart-saved, framed, apart-count, entry-low}
 use Rattle.good.proofs.Offsets.{reset-owner}
-use Rattle.good.proofs.Turns.{run-fits, turnedTo, end-saved, owed-other, sender-turn, drop-apart, drop-end, not-in, Kept, kept-same}
-use Rattle.good.proofs.Idling.{less-nil, idle}
-use Rattle.good.proofs.OpenKeeps.{anew-fits, anew-size, anew-fresh, anew-window, free-turn}
+use Rattle.good.proofs.Turns.{run-fits, turnedTo, end-saved, anew-fits, anew-size, anew-fresh, anew-window, ring-of, owed-other, free-turn, sender-turn, drop-apart, drop-end, not-in, Kept, kept-same}
+use Rattle.good.proofs.Senders.{reset-waited, reset-gone}
+use Rattle.good.proofs.Idling.{idle}
 
 -- ---- nothing of the entry waits
 
@@ -50,21 +50,10 @@ module _ (b : List ℕ) (l : Lists) (i : ℕ) (low : i < 16) (L : Lines b l) whe
   -- its Reset, where one waits
   quiet-reset : (t : Bool) → Silent l i (pick t (resetId i ∷ []) []) → Quiet i b (pick t (unlinked b (resetId i)) b) l
   quiet-reset true s =
-      let x = resetId i in
-      let m = mine-in i x (l resets) (subst (λ (ys : List ℕ). List·Memᴰ x ys) (sym (s .share .resets)) (List·Memᴰ·head refl)) .0 in
       record {
-        lists = less l x;
-        within = within-unlink i b l L resets x (omega arith) m (reset-owner i low);
-        silent =
-            record {
-              share =
-                  record {
-                    resets = mine-without i x (l resets) ∙ ap (without x) (s .share .resets) ∙ rw (eq-eqb x x refl);
-                    urgents = less-nil i l urgents x (s .share .urgents);
-                    datas = less-nil i l datas x (s .share .datas);
-                  };
-              resends = less-nil i l resends x (s .resends);
-            };
+        lists = less l (resetId i);
+        within = within-unlink i b l L resets (resetId i) (omega arith) (reset-waited b l L i s) (reset-owner i low);
+        silent = reset-gone b l L i s;
       }
   quiet-reset false s = quiet-same s
 
@@ -78,12 +67,6 @@ module _ (b : List ℕ) (l : Lists) (i : ℕ) (low : i < 16) (L : Lines b l) whe
         record { lists = d .lists; within = d .within; silent = subst (Silent (d .lists) i) (h .share .resets) (d .silent) }
     quiet-sender (Failing n) h = quiet-same (h .silent)
 
-    quiet-receiver : (s : State) → Stated b l i e false s → Silent l i []
-    quiet-receiver Closed h = h .silent
-    quiet-receiver (Enabled t sent) h = h .0 .silent
-    quiet-receiver Open h = h .silent
-    quiet-receiver (Failing n) h = absurd h
-
 -- the entry then
 closed-entered : (b : List ℕ) (l : Lists) (i : ℕ) (e : EndPoint) → GoodWindow (e .run .window) → Silent l i [] → Entered b l i (turnedTo e Closed (anew (e .run)))
 closed-entered b l i e g s = record { window = anew-window (e .run) g; stated = record { fresh = anew-fresh (e .run); silent = s } }
@@ -91,11 +74,8 @@ closed-entered b l i e g s = record { window = anew-window (e .run) g; stated = 
 -- ---- a receiver's acknowledgements are dropped
 
 module _ (t ws b : List ℕ) (l : Lists) (g : Good t ws b l) (i : ℕ) (li : i < countIn ws) where
-  low : i < 16
-  low = let c = count-low t ws b l g in omega arith
-
   ring : Ring ws
-  ring = record { long = omega (arith, g .long); most = g .acks }
+  ring = ring-of t ws b l g
 
   apart : Apart i ws (dropped i ws)
   apart = drop-apart i i ws ring
@@ -105,7 +85,7 @@ module _ (t ws b : List ℕ) (l : Lists) (g : Good t ws b l) (i : ℕ) (li : i <
   left w m =
       let p = not-in i (acksIn ws) w (subst (λ (ys : List ℕ). List·Memᴰ w ys) (drop-acks i ws ring) m) in
       let n = p .1 in
-      (p .0, λ e. n (let h = low in omega arith))
+      (p .0, λ e. n (let h = entry-low t ws b l g i li in omega arith))
 
   drop-good : Good t (dropped i ws) b l
   drop-good =
@@ -114,7 +94,7 @@ module _ (t ws b : List ℕ) (l : Lists) (g : Good t ws b l) (i : ℕ) (li : i <
       (subst (Entered b l i) (sym (drop-end i i ws ring)) (g .entered i li))
 
   drop-known : i < countIn (dropped i ws)
-  drop-known = subst (λ (c : ℕ). i < c % 256) (sym (apart .head 0 (omega arith))) li
+  drop-known = rw (apart-count i ws (dropped i ws) apart) li
 
   -- and is Closed
   drop-closed : Silent l i [] → Good t (saved (dropped i ws) i Closed (anew (endOf ws i .run))) b l
@@ -129,7 +109,7 @@ module _ (t ws b : List ℕ) (l : Lists) (g : Good t ws b l) (i : ℕ) (li : i <
   drop-end-closed =
       let r = endOf ws i .run in
       let h = drop-end i i ws ring in
-      end-saved (dropped i ws) i Closed (anew r) (apart .long ∙ g .long) low tt (anew-fits r (run-fits ws i)) (anew-size r ∙ ap (λ (e : EndPoint). e .run .window .size) (sym h))
+      end-saved (dropped i ws) i Closed (anew r) (apart .long ∙ g .long) (entry-low t ws b l g i li) tt (anew-fits r (run-fits ws i)) (anew-size r ∙ ap (λ (e : EndPoint). e .run .window .size) (sym h))
       ∙ ap (λ (e : EndPoint). turnedTo e Closed (anew r)) h
 
 -- ---- the call
@@ -150,7 +130,7 @@ module _ (x : Lent) (i : ℕ) (t : List ℕ) (l : Lists) (g : Good t (x .node) (
       let e = endOf (x .node) i in
       let n = g .entered i li in
       let b = silenced i (e .state) (e .run) (x .book) in
-      let q = quiet-sender (x .book) l i (low t (x .node) (x .book) l g i li) (g .lines) e (n .window) (e .state) (subst (λ (k : Bool). Stated (x .book) l i e k (e .state)) h (n .stated)) in
+      let q = quiet-sender (x .book) l i (entry-low t (x .node) (x .book) l g i li) (g .lines) e (n .window) (e .state) (stated-as (x .book) l i e n true h (e .state) refl) in
       record {
         lists = q .lists;
         good =
@@ -162,7 +142,7 @@ module _ (x : Lent) (i : ℕ) (t : List ℕ) (l : Lists) (g : Good t (x .node) (
   closed-kept false h =
       let e = endOf (x .node) i in
       let n = g .entered i li in
-      let s = quiet-receiver (x .book) l i (low t (x .node) (x .book) l g i li) (g .lines) e (n .window) (e .state) (subst (λ (k : Bool). Stated (x .book) l i e k (e .state)) h (n .stated)) in
+      let s = receiver-silent (x .book) l i e (e .state) (stated-as (x .book) l i e n false h (e .state) refl) in
       record {
         lists = l;
         good = drop-closed t (x .node) (x .book) l g i li s;
@@ -175,7 +155,7 @@ module _ (x : Lent) (i : ℕ) (t : List ℕ) (l : Lists) (g : Good t (x .node) (
   closed-end : (k : Bool) → endOf (closedAs x i (endOf (x .node) i) k .node) i ≡ turnedTo (endOf (x .node) i) Closed (anew (endOf (x .node) i .run))
   closed-end true =
       let r = endOf (x .node) i .run in
-      end-saved (x .node) i Closed (anew r) (g .long) (low t (x .node) (x .book) l g i li) tt (anew-fits r (run-fits (x .node) i)) (anew-size r)
+      end-saved (x .node) i Closed (anew r) (g .long) (entry-low t (x .node) (x .book) l g i li) tt (anew-fits r (run-fits (x .node) i)) (anew-size r)
   closed-end false = drop-end-closed t (x .node) (x .book) l g i li
 
 pub close-keeps : (t : List ℕ) (x : Lent) (l : Lists) (i : ℕ) → Good t (x .node) (x .book) l → i < countIn (x .node) → Kept t x (closeAfter x i (closeAnswer x i)) l i

@@ -42,10 +42,11 @@ use Rattle.arriving.specs.Arriving.{blockRoom}
 use Rattle.good.specs.Good.{Lists, OpenReceiver, Stated, Good}
 use Rattle.good.specs.Calls.{Memory, Answer, lent, kept}
 use Rattle.good.specs.Steps.{at, windowAt, storedAt, storedFrom, Told, Delivers, Holds, Repeats}
+use Rattle.good.proofs.Known.{stated-as}
+use Rattle.good.proofs.Framing.{entry-low}
 use Rattle.good.proofs.Offsets.{slot-inj}
 use Rattle.good.proofs.Turns.{turnedTo, acks-ext, push-end}
-use Rattle.good.proofs.Senders.{entry-low}
-use Rattle.good.proofs.ReceiveKeeps.{stated-as, offset-lt, length-own, length-other, data-end, data-acks}
+use Rattle.good.proofs.ReceiveKeeps.{offset-lt, length-own, length-other, data-end, data-acks}
 use Rattle.good.proofs.Stored.{part-here, part-there, spots-apart, same-payload, block-le, slot-fits}
 
 -- ---- a window whose start is not held, with a number more held
@@ -103,7 +104,7 @@ module _ (t : List ℕ) (n : Memory) (l : Lists) (g : Good t (n .node) (n .book)
   good-a = accept-good w s good-w
 
   was : OpenReceiver (n .book) l i e
-  was = subst (Stated (n .book) l i e false) o (stated-as (n .book) l i e false k (g .entered i li))
+  was = stated-as (n .book) l i e (g .entered i li) false k Open o
 
   low : i < 16
   low = entry-low t (n .node) (n .book) l g i li

@@ -1,6 +1,6 @@
 -- A call's business is one entry's: whatever alters no other entry's end point, cells and share of what waits keeps the rest of a
 -- good node good. Assumes nothing.
-use Prim.Native.Nat.{ℕ, zero, suc, _+_, _-_, _*_, _/_, _%_, _≤_, _<_}
+use Prim.Native.Nat.{ℕ, zero, suc, _+_, _%_, _≤_, _<_}
 use mathlib.Core.Path.{_≡_, refl, sym, ap, subst, _∙_}
 use mathlib.Core.Logic.{_≢_, _⊎_, inl, inr}
 use mathlib.Core.Bool.{Bool, true, false}
@@ -18,12 +18,11 @@ use Rattle.waiting.specs.Queues.{appended, unlinked}
 use Rattle.waiting.specs.Acks.{waitingOf}
 use Rattle.order.specs.Order.{acksIn}
 use Rattle.kept.proofs.Kept.{end-ext, saved-word, saved-head, saved-other}
-use Rattle.window.specs.Windows.{held, Good as GoodWindow}
+use Rattle.window.specs.Windows.{Good as GoodWindow}
 use Rattle.window.specs.declared.Window.{Window}
 use Rattle.window.proofs.Sizes.{size-pos, size-le}
-use Rattle.table.specs.Layout.{countOf}
 use Rattle.ends.specs.Ends.{word, loadEntry, endOf, stateWords, runWords, saved}
-use Rattle.ends.specs.Heads.{countIn, ownIn, protocolIn, needIn}
+use Rattle.ends.specs.Heads.{countIn}
 use Rattle.ends.specs.States.{isSends}
 use Rattle.ends.specs.declared.State.{State}
 use Rattle.ends.specs.declared.State.the-variants.{Closed, Enabled, Open, Failing}
@@ -31,9 +30,9 @@ use Rattle.ends.specs.declared.Run.{Run}
 use Rattle.ends.specs.declared.EndPoint.{EndPoint}
 use Rattle.slots.specs.Slots.{slotFor, cell, past, lengthIn, timerIn}
 use Rattle.table.proofs.Good.{good-head}
-use Rattle.good.specs.Good.{Lists, Lines, ownerOf, Ranged, mine, idAt, ids, Share, Resend, Resends, Silent, Fresh, Filled, Sending, Receiving, running, OpenSender, FailingSender, OpenReceiver, Anew, Stated, Entered, Tabled, Owed, Good}
+use Rattle.good.specs.Good.{Lists, Lines, ownerOf, Ranged, mine, Share, Resends, Silent, Filled, Sending, Receiving, running, Anew, Stated, Entered, Tabled, Owed, Good}
 use Rattle.good.specs.Independence.{cellOwner}
-use Rattle.good.proofs.Members.{mine-append, mine-own, mine-other, mine-apart, without-in}
+use Rattle.good.proofs.Members.{mine-append, mine-other, mine-apart, without-in}
 use Rattle.good.proofs.Lined.{added, less, added-here, added-there, added-in, append-lines, append-cells, unlink-lines, unlink-cells, set-lines}
 
 -- ---- the book: only entry i's cells and share alter
@@ -158,6 +157,10 @@ slot-lt w s g =
     let p = size-pos (w .size) (g .sized) in
     rw (ne-eqb (w .size) 0 (λ e. omega arith)) (mod-lt s p)
 
+-- a cell is one of 2048
+pub cell-low : (i : ℕ) → i < 16 → (w : Window) → GoodWindow w → (s : ℕ) → cell i w s < 2048
+cell-low i h w g s = omega (arith, slot-lt w s g, size-le (w .size) (g .sized))
+
 module _ (j : ℕ) (low : j < 16) (w : Window) (g : GoodWindow w) where
   slot-small : (s : ℕ) → slotFor w s < 128
   slot-small s = omega (arith, slot-lt w s g, size-le (w .size) (g .sized))
@@ -259,8 +262,12 @@ module _ (j : ℕ) (low : j < 16) (b b′ : List ℕ) (l l′ : Lists)
 pub count-low : (t ws b : List ℕ) (l : Lists) → Good t ws b l → countIn ws ≤ 16
 count-low t ws b l g = let h = good-head t (g .table) .count in omega (arith, g .tabled .count)
 
+-- an entry that there is has one of 16 numbers
+pub entry-low : (t ws b : List ℕ) (l : Lists) → Good t ws b l → (i : ℕ) → i < countIn ws → i < 16
+entry-low t ws b l g i h = let c = count-low t ws b l g in omega arith
+
 module _ (i : ℕ) (ws ws′ : List ℕ) (a : Apart i ws ws′) where
-  apart-count : countIn ws′ ≡ countIn ws
+  pub apart-count : countIn ws′ ≡ countIn ws
   apart-count = ap (λ (x : ℕ). x % 256) (a .head 0 (omega arith))
 
   pub apart-entry : (j : ℕ) → loadEntry ws′ j ≡ loadEntry ws j
@@ -303,6 +310,5 @@ module _ (i : ℕ) (ws ws′ : List ℕ) (a : Apart i ws ws′) where
       there : (j : ℕ) → j < countIn ws → Dec (j ≡ i) → Entered b′ l′ j (endOf ws′ j)
       there j h (yes e) = subst (λ (k : ℕ). Entered b′ l′ k (endOf ws′ k)) (sym e) here
       there j h (no n) =
-          let low : j < 16 = (let c = count-low t ws b l g in omega arith) in
           subst (Entered b′ l′ j) (sym (a .others j n))
-          (same-entered j low b b′ l l′ (λ k m o. v .cells k m (λ e. n (sym o ∙ e))) (λ q m. v .shares j n q m) (endOf ws j) (g .entered j h))
+          (same-entered j (entry-low t ws b l g j h) b b′ l l′ (λ k m o. v .cells k m (λ e. n (sym o ∙ e))) (λ q m. v .shares j n q m) (endOf ws j) (g .entered j h))

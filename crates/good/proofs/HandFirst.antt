@@ -12,7 +12,6 @@ use Rattle.units.specs.Refusals.{pick}
 use Rattle.memory.specs.Layout.{resets, urgents, resends, datas, resetId}
 use Rattle.waiting.specs.Queues.{nextOf}
 use Rattle.waiting.specs.Acks.{waitingOf, oldestOf, ackOf}
-use Rattle.waiting.specs.declared.acks.Ack.{Ack}
 use Rattle.order.proofs.Linked.{first, queue-first}
 use Rattle.ends.specs.Heads.{countIn}
 use Rattle.ends.specs.declared.State.{State}
@@ -21,7 +20,7 @@ use Rattle.ends.specs.declared.EndPoint.{EndPoint}
 use Rattle.handing.specs.declared.Next.{Next}
 use Rattle.handing.specs.declared.Next.the-variants as next
 use Rattle.handing.specs.Handing.{nextOut, slotEntry}
-use Rattle.good.specs.Good.{Lists, Lines, ownerOf, Ranged, mine, Resend, Silent, Stated, Good}
+use Rattle.good.specs.Good.{Lists, Lines, ownerOf, Ranged, mine, Silent, Stated, Good}
 use Rattle.good.proofs.Members.{mine-all}
 
 -- ---- what waits first

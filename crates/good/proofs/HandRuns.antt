@@ -15,57 +15,21 @@ use Rattle.window.specs.Windows.{held, Good as GoodWindow}
 use Rattle.window.specs.declared.Window.{Window}
 use Rattle.window.proofs.Holding.{held-below}
 use Rattle.window.proofs.Sizes.{size-le}
-use Rattle.ends.specs.States.{urgentGone}
 use Rattle.ends.specs.declared.Run.{Run}
-use Rattle.slots.specs.Slots.{slotFor, cell, past, numberIn, lengthIn, timerIn}
+use Rattle.slots.specs.Slots.{slotFor, cell, past, numberIn, timerIn}
 use Rattle.handing.specs.Handing.{cellOf, slotIn}
-use Rattle.good.specs.Good.{Lists, Lines, ownerOf, mine, idAt, ids, Resend, Resends, Filled, Sending}
+use Rattle.good.specs.Good.{Lists, Lines, ownerOf, mine, idAt, ids, Resend, Resends, Sending}
 use Rattle.good.proofs.Members.{without, without-out}
 use Rattle.good.proofs.Lined.{less}
 use Rattle.good.proofs.Framing.{slot-lt}
 use Rattle.good.proofs.Offsets.{id-inj, number-at}
-use Rattle.good.proofs.Senders.{cell-low, Timed, gone-other}
+use Rattle.good.proofs.Senders.{sending-kept, Timed, gone-other}
 
 -- a run with h numbers handed out
 abbrev pub withHanded : Run → ℕ → Run
 withHanded r h = record { window = r .window; taken = r .taken; handed = h; accepted = r .accepted; confirmed = r .confirmed; urgent = r .urgent }
 
 -- ---- what it sends
-
--- where no length altered, nor the timer of an acknowledged number
-pub sending-kept : (b b′ : List ℕ) (i : ℕ) → i < 16 → (r : Run) → GoodWindow (r .window) → (largest : ℕ) → ((c : ℕ) → c < 2048 → lengthIn b′ c ≡ lengthIn b c)
-    → ((k : ℕ) → held (r .window) k ≡ true → timerIn b′ (cell i (r .window) (past (r .window) k)) ≡ timerIn b (cell i (r .window) (past (r .window) k)))
-    → Sending b i r largest → Sending b′ i r largest
-sending-kept b b′ i low r g largest lengths timers s =
-    record {
-      taken = s .taken;
-      handed = s .handed;
-      acked = s .acked;
-      first = s .first;
-      counted = s .counted;
-      filled = λ k h. filled k (s .filled k h);
-      stopped = λ k h. timers k h ∙ s .stopped k h;
-      urgent = s .urgent;
-    }
-  where
-    filled : (k : ℕ) → Filled b i (r .window) largest k → Filled b′ i (r .window) largest k
-    filled k f =
-        let same = lengths (cell i (r .window) (past (r .window) k)) (cell-low i low (r .window) g (past (r .window) k)) in
-        record { some = rw same (f .some); most = rw same (f .most) }
-
-pub urgent-sending : (b : List ℕ) (i : ℕ) (r : Run) (largest : ℕ) → Sending b i r largest → Sending b i (urgentGone r) largest
-unfolding urgentGone
-urgent-sending b i r largest s =
-    record {
-      taken = s .taken;
-      handed = s .handed;
-      acked = s .acked;
-      first = s .first;
-      counted = s .counted;
-      filled = s .filled;
-      stopped = s .stopped;
-      urgent = omega arith;
-    }
 
 pub handed-sending : (b : List ℕ) (i : ℕ) (r : Run) (largest h : ℕ) → r .handed ≤ h → h ≤ r .taken → Sending b i r largest → Sending b i (withHanded r h) largest
 handed-sending b i r largest h less more s =
@@ -129,19 +93,7 @@ module _ (b b′ : List ℕ) (i : ℕ) (low : i < 16) (r : Run) (g : GoodWindow 
     pub timed-resends : Resends b′ l′ i (withHanded r h)
     timed-resends = record { each = timed-each; all = timed-all }
 
--- ---- its Urgent goes out: no timer alters, and no retransmission
-
-pub urgent-resends : (b b′ : List ℕ) (l l′ : Lists) (i : ℕ) (r : Run)
-    → ((j : ℕ) → timerIn b′ (cell i (r .window) (past (r .window) j)) ≡ timerIn b (cell i (r .window) (past (r .window) j)))
-    → mine i (l′ resends) ≡ mine i (l resends) → Resends b l i r → Resends b′ l′ i (urgentGone r)
-unfolding urgentGone
-urgent-resends b b′ l l′ i r timers same R =
-    record {
-      each = λ x m. let q = R .each x (subst (λ (ys : List ℕ). List·Memᴰ x ys) same m) in
-          record { at = q .at; handed = q .handed; missing = q .missing; idle = timers (q .at) ∙ q .idle; is = q .is };
-      all = λ x q. subst (λ (ys : List ℕ). List·Memᴰ x ys) (sym same)
-          (R .all x (record { at = q .at; handed = q .handed; missing = q .missing; idle = sym (timers (q .at)) ∙ q .idle; is = q .is }));
-    }
+-- ---- its Urgent goes out
 
 -- it waited, and no other Urgent of the entry
 pub urgent-waited : (i u n : ℕ) (xs : List ℕ) → xs ≡ pick (eqb u 0) [] (urgentId i ∷ []) → List·Memᴰ n xs → (u ≢ 0) × (xs ≡ urgentId i ∷ [])

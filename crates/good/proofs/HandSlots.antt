@@ -10,11 +10,10 @@ use lib.ListN.{set}
 use Rattle.memory.specs.Layout.{resets, urgents, resends, datas, timerAt}
 use Rattle.waiting.specs.Queues.{unlinked}
 use Rattle.order.specs.Order.{acksIn, Distinct}
-use Rattle.order.proofs.Linked.{first}
 use Rattle.window.specs.Windows.{held, Good as GoodWindow}
 use Rattle.window.proofs.Sizes.{size-le}
-use Rattle.kept.proofs.Kept.{RunFits, saved-head}
-use Rattle.ends.specs.Ends.{endOf, saved}
+use Rattle.kept.proofs.Kept.{RunFits}
+use Rattle.ends.specs.Ends.{endOf}
 use Rattle.ends.specs.States.{isSends}
 use Rattle.ends.specs.Lent.{Lent}
 use Rattle.ends.specs.declared.State.{State}
@@ -26,9 +25,9 @@ use Rattle.handing.specs.Handing.{cellOf, slotEntry, handedRun, timed, outNode,
 use Rattle.good.specs.Good.{Lists, mine, idAt, ids, Resend, Resends, OpenSender, Stated, Good}
 use Rattle.good.proofs.Members.{without-in, without-keeps, mine-in, mine-without}
 use Rattle.good.proofs.Lined.{less}
-use Rattle.good.proofs.Framing.{Within, within-then, Apart, apart-same, apart-saved}
-use Rattle.good.proofs.Turns.{run-fits, turnedTo, acks-ext, book-turn}
-use Rattle.good.proofs.Senders.{Timed, timed-set, timed-after, within-timed, entry-low, entry-window, sender-entered, sender-timeout}
+use Rattle.good.proofs.Framing.{Within, within-then, Apart, apart-same, apart-saved, entry-low}
+use Rattle.good.proofs.Turns.{run-fits, turnedTo, saved-acks, book-turn}
+use Rattle.good.proofs.Senders.{Timed, timed-set, timed-after, within-timed, entry-window, sender-entered, sender-timeout}
 use Rattle.good.proofs.HandRuns.{withHanded, NextData, handed-sending, timed-sending, timed-resends, id-cell, id-slot, id-number, share-first, share-rest, next-data}
 use Rattle.good.proofs.Handed.{Went, SlotOut, HandKept, resent, handed}
 use Rattle.good.proofs.HandFirst.{First, first-in, Whose, ranged-slot, slot-owner, whose}
@@ -282,7 +281,7 @@ module _ (t : List ℕ) (x : Lent) (l : Lists) (G : Good t (x .node) (x .book) l
               (record {
                 at = i;
                 slot = slot-out 1 n m (omega arith) (e .run .handed) (data-next .is) (data-next .more) (handedOut x (next.Data n)) refl (apart-saved i (x .node) (e .state) r)
-                    (acks-ext (x .node) (saved (x .node) i (e .state) r) (λ k h. saved-head (x .node) i (e .state) r k h) .1);
+                    (saved-acks (x .node) i (e .state) r .1);
                 ends = open-end t x l G datas (omega arith) (λ z. omega arith) n i w r data-fits g refl;
               });
         }

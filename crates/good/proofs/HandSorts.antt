@@ -14,10 +14,9 @@ use Rattle.units.specs.Refusals.{pick}
 use Rattle.memory.specs.Layout.{resets, urgents, resends, datas, resetId, urgentId, lengthAt, timerAt}
 use Rattle.waiting.specs.Queues.{unlinked}
 use Rattle.waiting.specs.Acks.{waitingOf, oldestOf, ackOf, popped}
-use Rattle.waiting.specs.declared.acks.Ack.{Ack}
 use Rattle.order.proofs.Ringed.{Ring, pop-acks, pop-ring}
 use Rattle.window.specs.Windows.{Good as GoodWindow}
-use Rattle.kept.proofs.Kept.{RunFits, saved-head}
+use Rattle.kept.proofs.Kept.{RunFits}
 use Rattle.ends.specs.Ends.{endOf, saved}
 use Rattle.ends.specs.Heads.{countIn}
 use Rattle.ends.specs.States.{isSends, urgentGone}
@@ -31,11 +30,11 @@ use Rattle.handing.specs.declared.Next.the-variants as next
 use Rattle.handing.specs.Handing.{resetEntry, urgentEntry, resetNode, outNode, outBook, handedOut}
 use Rattle.good.specs.Good.{Lists, ownerOf, mine, Silent, OpenSender, Anew, Entered, Owed, Good}
 use Rattle.good.proofs.Lined.{less, unlink-cells}
-use Rattle.good.proofs.Framing.{Within, within-same, within-unlink, apart-saved, framed, count-low}
+use Rattle.good.proofs.Framing.{Within, within-same, within-unlink, apart-saved, framed, count-low, entry-low}
 use Rattle.good.proofs.Offsets.{reset-owner, urgent-owner}
-use Rattle.good.proofs.Turns.{run-fits, turnedTo, end-saved, acks-ext, owed-open, sender-turn, pop-apart, pop-end}
-use Rattle.good.proofs.Senders.{gone-one, reset-gone, entry-low, entry-window, sender-stated, sender-entered, sender-timeout, timeout-fits}
-use Rattle.good.proofs.HandRuns.{sending-kept, urgent-sending, urgent-resends, urgent-waited, share-kept}
+use Rattle.good.proofs.Turns.{run-fits, turnedTo, end-saved, gone-fits, ring-of, saved-acks, owed-open, sender-turn, pop-apart, pop-end}
+use Rattle.good.proofs.Senders.{sending-kept, urgent-sending, resends-kept, gone-one, reset-gone, entry-window, sender-stated, sender-entered, sender-timeout, timeout-fits}
+use Rattle.good.proofs.HandRuns.{urgent-waited, share-kept}
 use Rattle.good.proofs.Handed.{Went, HandKept, nothing, acked, reset, urgent}
 use Rattle.good.proofs.HandFirst.{open-only, enabled-only, Whose, ranged-reset, ranged-urgent, whose}
 
@@ -48,7 +47,7 @@ module _ (t : List ℕ) (x : Lent) (l : Lists) (G : Good t (x .node) (x .book) l
 
   -- an acknowledgement
   ring : Ring (x .node)
-  ring = record { long = omega (arith, G .long); most = G .acks }
+  ring = ring-of t (x .node) (x .book) l G
 
   module _ (some : 0 < waitingOf (x .node)) where
     oldest-owed : Owed (x .node) (oldestOf (x .node))
@@ -162,7 +161,7 @@ module _ (t : List ℕ) (x : Lent) (l : Lists) (G : Good t (x .node) (x .book) l
                 sent = reset-state .1 .0;
                 enabled = reset-state .1 .1;
                 ends = end-saved (x .node) i s (e .run) (G .long) (entry-low t (x .node) (x .book) l G i (reset-whose .known)) (timeout-fits (x .node) i) (run-fits (x .node) i) refl;
-                acks = acks-ext (x .node) (saved (x .node) i s (e .run)) (λ k h. saved-head (x .node) i s (e .run) k h) .1;
+                acks = saved-acks (x .node) i s (e .run) .1;
               });
         }
 
@@ -234,15 +233,12 @@ module _ (t : List ℕ) (x : Lent) (l : Lists) (G : Good t (x .node) (x .book) l
             urgents = gone-one i n (l urgents) (urgent-was .1 ∙ ap (λ (y : ℕ). y ∷ []) (sym urgent-is));
             datas = kept datas (omega arith) (λ z. omega arith) _ (o .share .datas);
           };
-          resends = urgent-resends (x .book) b′ l (less l n) i (e .run) (λ k. urgent-beyond (timerAt (cell i (e .run .window) (past (e .run .window) k))) (omega arith))
+          resends = resends-kept (x .book) b′ l (less l n) i (e .run) (urgentGone (e .run)) refl refl (λ k. urgent-beyond (timerAt (cell i (e .run .window) (past (e .run .window) k))) (omega arith))
               (kept resends (omega arith) (λ z. omega arith) (mine i (l resends)) refl) (o .resends);
         }
 
     urgent-fits : RunFits (urgentGone (endOf (x .node) (urgentEntry n) .run))
-    unfolding urgentGone
-    urgent-fits =
-        let f = run-fits (x .node) (urgentEntry n) in
-        record { start = f .start; taken = f .taken; handed = f .handed; accepted = f .accepted; confirmed = f .confirmed; urgent = omega arith }
+    urgent-fits = gone-fits (endOf (x .node) (urgentEntry n) .run) (run-fits (x .node) (urgentEntry n))
 
     pub hand-urgent : Went x (handedOut x (next.Urgent n)) (next.Urgent n) → HandKept t x (handedOut x (next.Urgent n)) l
     unfolding outNode outBook urgentGone
@@ -269,6 +265,6 @@ module _ (t : List ℕ) (x : Lent) (l : Lists) (G : Good t (x .node) (x .book) l
                 opened = state .1;
                 waits = urgent-was .0;
                 ends = open-end urgents (omega arith) (λ z. omega arith) n i urgent-whose r urgent-fits g refl;
-                acks = acks-ext (x .node) (saved (x .node) i (e .state) r) (λ k h. saved-head (x .node) i (e .state) r k h) .1;
+                acks = saved-acks (x .node) i (e .state) r .1;
               });
         }

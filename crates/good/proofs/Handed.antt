@@ -9,9 +9,7 @@ use lib.ListN.{length}
 use Rattle.units.specs.declared.refusals.Refusal.{Refusal}
 use Rattle.memory.specs.Layout.{resetId, urgentId}
 use Rattle.waiting.specs.Acks.{ackOf}
-use Rattle.waiting.specs.declared.acks.Ack.{Ack}
 use Rattle.order.specs.Order.{acksIn}
-use Rattle.order.proofs.Linked.{first}
 use Rattle.window.specs.Windows.{held}
 use Rattle.ends.specs.Ends.{endOf}
 use Rattle.ends.specs.Heads.{countIn}

@@ -1,6 +1,6 @@
 -- Every call but a tick is on one entry and leaves all others as they were. Assumes nothing.
-use Prim.Native.Nat.{ℕ, _≤_, _<_}
-use mathlib.Core.Path.{_≡_, refl, sym, ap, subst, _∙_}
+use Prim.Native.Nat.{ℕ, _<_}
+use mathlib.Core.Path.{_≡_, refl, sym, ap, _∙_}
 use mathlib.Core.Logic.{_≢_, _⊎_, inl, inr}
 use mathlib.Core.List.{List, []}
 use native.Mathlib.Decide.{decLt}
@@ -11,10 +11,10 @@ use Rattle.ends.specs.Lent.{Lent}
 use Rattle.waiting.specs.Acks.{ackOf}
 use Rattle.handing.specs.Handing.{handAnswer, handAfter}
 use Rattle.good.specs.Good.{Lists, Good}
-use Rattle.good.specs.Calls.{Memory, Call, opens, closes, counts, sends, urges, arrives, hands-out, ticks, lent, bare, after, Fed}
-use Rattle.good.specs.Independence.{Aside, On, OnOne, Alone, Independent}
+use Rattle.good.specs.Calls.{Memory, Call, opens, closes, counts, sends, urges, arrives, hands-out, ticks, lent, bare, after}
+use Rattle.good.specs.Independence.{Aside, On, Alone, Independent}
 use Rattle.good.proofs.Framing.{Within, Apart}
-use Rattle.good.proofs.Turns.{Kept, kept-same}
+use Rattle.good.proofs.Turns.{Kept}
 use Rattle.good.proofs.OpenKeeps.{open-keeps, open-refused}
 use Rattle.good.proofs.CloseKeeps.{close-keeps, close-refused}
 use Rattle.good.proofs.SendKeeps.{send-keeps, send-refused}

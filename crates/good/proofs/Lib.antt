@@ -1,5 +1,6 @@
 pub mod Members
 pub mod Lined
+pub mod Known
 pub mod Framing
 pub mod Offsets
 pub mod Turns
@@ -28,12 +29,12 @@ pub mod TickKeeps
 pub mod ReachGood
 pub mod Independently
 pub mod NoCorners
-pub mod NewStays
 pub mod Coming
-pub mod Stored
-pub mod Delivering
 pub mod Confirming
+pub mod Delivering
 pub mod GoingOut
-pub mod TickTimers
-pub mod TickSteps
+pub mod NewStays
 pub mod Stepping
+pub mod Stored
+pub mod TickSteps
+pub mod TickTimers

@@ -1,21 +1,21 @@
 -- The four queues together: one more at the end of one, one out of the middle of one, and a store beyond the links. Assumes nothing.
-use Prim.Native.Nat.{ℕ, _+_, _≤_, _<_}
+use Prim.Native.Nat.{ℕ, _≤_, _<_}
 use mathlib.Core.Path.{_≡_, refl, sym, ap, subst, _∙_}
 use mathlib.Core.Logic.{_≢_, _⊎_, inl, inr}
 use mathlib.Core.Bool.{Bool, true, false}
-use mathlib.Core.List.{List, [], _∷_, _++_, List·Memᴰ, List·Memᴰ·head, List·Memᴰ·tail, List·Memᴰ·append-cases, List·Memᴰ·eq-of-singleton, Memᴰ·append-left, Memᴰ·append-right, Memᴰ·cast}
+use mathlib.Core.List.{List, [], _∷_, _++_, List·Memᴰ, List·Memᴰ·tail, List·Memᴰ·append-cases, List·Memᴰ·eq-of-singleton, Memᴰ·append-left, Memᴰ·append-right, Memᴰ·cast}
 use native.Mathlib.Decide.{ℕ-discrete}
 use native.Mathlib.Omega.{arith}
 use lib.ListN.{length, getD, set, length-set}
 use lib.Dec.{eqb}
-use borrow.Author.Tests.{eq-eqb, ne-eqb, eqb-true, eqb-false}
+use borrow.Author.Tests.{eq-eqb, ne-eqb, eqb-true}
 use Rattle.units.specs.Refusals.{pick}
 use Rattle.memory.specs.Layout.{nextAt, prevAt}
 use Rattle.waiting.specs.Queues.{prevOf, nextOf, joined, appended, unlinked}
 use Rattle.order.specs.Order.{Queue, Out}
 use Rattle.order.proofs.Linked.{last, first, append-queue, append-other, append-beyond, unlink-queue, unlink-other, unlink-beyond, beyond-queue}
 use Rattle.good.specs.Good.{Lists, Lines}
-use Rattle.good.proofs.Members.{out-mem, mem-out, below-mem, last-mem, first-mem, Split, split, distinct-mid, without, without-out, without-mid, without-in, without-keeps}
+use Rattle.good.proofs.Members.{mem-out, below-mem, last-mem, first-mem, Split, split, distinct-mid, without, without-out, without-mid, without-in}
 
 -- the lists with x last in q, and without x
 abbrev pub added : Lists → ℕ → ℕ → Lists
@@ -41,13 +41,6 @@ added-in l q x r y m = sides (eqb r q) refl m
     sides : (t : Bool) → eqb r q ≡ t → List·Memᴰ y (pick t (l r ++ (x ∷ [])) (l r)) → List·Memᴰ y (l r) ⊎ ((r ≡ q) × (y ≡ x))
     sides true e k = one (eqb-true r q e) (List·Memᴰ·append-cases (l r) k)
     sides false e k = inl k
-
-pub added-keeps : (l : Lists) (q x r y : ℕ) → List·Memᴰ y (l r) → List·Memᴰ y (added l q x r)
-added-keeps l q x r y m = sides (eqb r q)
-  where
-    sides : (t : Bool) → List·Memᴰ y (pick t (l r ++ (x ∷ [])) (l r))
-    sides true = Memᴰ·append-left (x ∷ []) m
-    sides false = m
 
 module _ (b : List ℕ) (l : Lists) (L : Lines b l) where
   -- a queue's own number waits in none

@@ -1,24 +1,22 @@
 -- On a good node no corner of total meaning is used. Assumes nothing.
-use Prim.Native.Nat.{ℕ, _+_, _≤_, _<_}
-use mathlib.Core.Path.{_≡_, refl, sym, ap, subst, _∙_}
-use mathlib.Core.Bool.{Bool, true, false}
+use Prim.Native.Nat.{ℕ, _≤_, _<_}
+use mathlib.Core.Path.{_≡_, refl}
+use mathlib.Core.Bool.{true}
 use mathlib.Core.List.{List}
 use native.Mathlib.Omega.{arith}
-use lib.ListN.{length}
-use Rattle.memory.specs.Layout.{entryAt, prevAt, lengthAt, retriesAt}
 use Rattle.window.proofs.Sizes.{size-pos, size-le}
 use Rattle.table.specs.Layout.{entryOf}
-use Rattle.table.specs.Areas.{slotsOf, areaOf, storeOf, placeOf}
+use Rattle.table.specs.Areas.{placeOf}
 use Rattle.table.proofs.Places.{slot-in-store}
-use Rattle.ends.specs.Ends.{loadEntry, placeIn, endOf}
-use Rattle.ends.specs.Heads.{countIn, needIn}
+use Rattle.ends.specs.Ends.{endOf}
+use Rattle.ends.specs.Heads.{countIn}
 use Rattle.ends.specs.States.{isSends}
 use Rattle.ends.specs.declared.State.{State}
 use Rattle.ends.specs.declared.State.the-variants.{Closed, Enabled, Open, Failing}
 use Rattle.ends.specs.declared.EndPoint.{EndPoint}
-use Rattle.slots.specs.Slots.{slotFor, cell, spot}
 use Rattle.good.specs.Good.{Lists, Stated, Good}
 use Rattle.good.specs.Corners.{NoCorner, NoCorners}
+use Rattle.good.proofs.Known.{stated-as}
 use Rattle.good.proofs.Framing.{count-low, slot-lt}
 use Rattle.good.proofs.Lined.{waits-below}
 
@@ -35,7 +33,7 @@ module _ (t ws b : List ℕ) (l : Lists) (g : Good t ws b l) where
 
   counts-at : (i : ℕ) → i < countIn ws → isSends (endOf ws i .entry .kind) ≡ true → (endOf ws i .run .handed ≤ endOf ws i .run .taken) × (endOf ws i .run .taken ≤ endOf ws i .run .window .size)
   counts-at i h k =
-      sender-counts b l i (endOf ws i) (endOf ws i .state) (subst (λ (x : Bool). Stated b l i (endOf ws i) x (endOf ws i .state)) k (g .entered i h .stated))
+      sender-counts b l i (endOf ws i) (endOf ws i .state) (stated-as b l i (endOf ws i) (g .entered i h) true k (endOf ws i .state) refl)
 
   pub no-corner : NoCorner t ws b l
   no-corner =

@@ -1,20 +1,18 @@
 -- The numbers of a window as cells and as what waits: whose they are, that no two are the same, and how they move with the start.
 -- Assumes nothing.
-use Prim.Native.Nat.{ℕ, zero, suc, _+_, _-_, _*_, _/_, _%_, _^_, _≤_, _<_}
+use Prim.Native.Nat.{ℕ, zero, suc, _+_, _-_, _%_, _^_, _≤_, _<_}
 use mathlib.Core.Path.{_≡_, refl, sym, ap, subst, _∙_}
-use mathlib.Core.Logic.{_≢_, _⊎_, inl, inr}
-use mathlib.Core.Bool.{Bool, true, false}
+use mathlib.Core.Logic.{_⊎_, inl, inr}
 use mathlib.Core.List.{List, [], _∷_, _++_, List·Memᴰ, List·Memᴰ·head, List·Memᴰ·tail, List·Memᴰ·cases-cons, List·Memᴰ·not-nil}
 use native.Mathlib.Decide.{decLt}
-use native.Mathlib.Nat.{add-zero, add-suc, suc-add, mod-lt}
+use native.Mathlib.Nat.{add-zero, add-suc, suc-add}
 use native.Mathlib.Omega.{arith}
-use lib.Dec.{eqb, ltb}
-use borrow.Author.Tests.{eq-eqb, ne-eqb, lt-ltb, le-ltb}
-use Rattle.units.specs.Refusals.{pick}
+use borrow.Author.Tests.{ne-eqb, lt-ltb, le-ltb}
+use Rattle.units.specs.declared.Seq.{Seq}
 use Rattle.memory.specs.Layout.{resetId, urgentId, slotId}
-use Rattle.window.specs.Numbers.{byteOf, distanceOf, slotOf}
-use Rattle.window.specs.Windows.{movedOf, Good as GoodWindow}
+use Rattle.window.specs.Windows.{movedOf, acceptOf, passOf, runOf, Good as GoodWindow}
 use Rattle.window.specs.declared.Window.{Window}
+use Rattle.window.proofs.Accepting.{accept-start, accept-size}
 use Rattle.window.proofs.Sizes.{size-pos, size-le, size-power}
 use Rattle.window.proofs.WindowLaw.{slot-byte, slots-apart}
 use Rattle.slots.specs.Slots.{slotFor, cell, past, numberIn}
@@ -134,6 +132,15 @@ past-moved w n k = omega arith
 
 pub cell-moved : (i : ℕ) (w : Window) (n k : ℕ) → cell i (movedOf w n) (past (movedOf w n) k) ≡ cell i w (past w (n + k))
 cell-moved i w n k = ap (cell i w) (past-moved w n k)
+
+-- where the numbers of a window that took a number in and passed what it could lay before
+pub cell-pass : (i : ℕ) (w : Window) (s k : ℕ)
+    → cell i (passOf (acceptOf w s .window) .window) (past (passOf (acceptOf w s .window) .window) k) ≡ cell i w (past w (runOf (acceptOf w s .window) + k))
+unfolding passOf
+cell-pass i w s k =
+    let e : acceptOf w s .window .start .0 ≡ w .start .0 = ap (λ (q : Seq). q .0) (accept-start w s) in
+    let p : past (movedOf (acceptOf w s .window) (runOf (acceptOf w s .window))) k ≡ past w (runOf (acceptOf w s .window) + k) = rw e (omega arith) in
+    rw (p, accept-size w s)
 
 pub id-moved : (i : ℕ) (w : Window) (n k : ℕ) → idAt i (movedOf w n) k ≡ idAt i w (n + k)
 id-moved i w n k = ap slotId (cell-moved i w n k)

@@ -1,6 +1,6 @@
 -- Every node that setup and calls can give is good: setup gives it, and each call keeps it. Assumes nothing.
-use Prim.Native.Nat.{ℕ, _+_, _≤_, _<_}
-use mathlib.Core.Path.{_≡_, refl, sym, ap, subst, _∙_}
+use Prim.Native.Nat.{ℕ, _≤_, _<_}
+use mathlib.Core.Path.{_≡_, refl, sym, subst}
 use mathlib.Core.Logic.{_⊎_, inl, inr}
 use mathlib.Core.Bool.{Bool, true, false, not}
 use mathlib.Core.List.{List, [], _∷_}
@@ -19,7 +19,6 @@ use Rattle.table.specs.Areas.{storeOf}
 use Rattle.ends.specs.Heads.{countIn}
 use Rattle.ends.specs.Lent.{Lent}
 use Rattle.opening.specs.Setup.{setupAnswer, setupAfter}
-use Rattle.opening.specs.Opening.{openAnswer, openAfter, closeAnswer, closeAfter}
 use Rattle.sending.specs.Sending.{sendAnswer, sendAfter, urgentAnswer, urgentAfter}
 use Rattle.window.specs.Windows.{acceptOf}
 use Rattle.frame.specs.declared.FrameType.{FrameType}
@@ -28,13 +27,10 @@ use Rattle.ends.specs.States.{isNew}
 use Rattle.ends.specs.declared.EndPoint.{EndPoint}
 use Rattle.receiving.specs.Receiving.{resetAfter, taken, repeated, dataAfter, urgentAfter as receivedUrgent}
 use Rattle.units.specs.Refusals.{pick}
-use Rattle.arriving.specs.Arriving.{takenAfter, arrivalAfter}
-use Rattle.handing.specs.Handing.{handAnswer, handAfter}
-use Rattle.ticking.specs.Ticking.{tickAfter}
+use Rattle.arriving.specs.Arriving.{takenAfter}
 use Rattle.good.specs.Good.{Lists, Good}
-use Rattle.good.specs.Calls.{Memory, Call, opens, closes, counts, sends, urges, arrives, hands-out, ticks, lent, bare, after, Fed, SetUp, Reach, at-setup, by-call}
+use Rattle.good.specs.Calls.{Memory, Call, opens, closes, counts, sends, urges, arrives, hands-out, ticks, lent, bare, after, Fed, SetUp, at-setup, by-call}
 use Rattle.good.specs.Reaching.{ReachIsGood}
-use Rattle.good.proofs.Turns.{Kept}
 use Rattle.good.proofs.SetupGood.{setup-good}
 use Rattle.good.proofs.OpenKeeps.{open-keeps, open-refused}
 use Rattle.good.proofs.CloseKeeps.{close-keeps, close-refused}

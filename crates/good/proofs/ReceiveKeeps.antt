@@ -1,64 +1,45 @@
 -- A Reset and Data taken in by a receiver keep a good node good. Assumes nothing.
-use Prim.Native.Nat.{ℕ, zero, suc, _+_, _-_, _*_, _/_, _%_, _≤_, _<_}
+use Prim.Native.Nat.{ℕ, suc, _+_, _*_, _/_, _%_, _≤_, _<_}
 use mathlib.Core.Path.{_≡_, refl, sym, ap, subst, _∙_}
 use mathlib.Core.Logic.{_≢_, _⊎_, inl, inr}
-use mathlib.Core.Bool.{Bool, true, false, _||_, true≢false}
+use mathlib.Core.Bool.{Bool, true, false, true≢false}
 use mathlib.Core.List.{List, [], _∷_, _++_, List·Memᴰ, List·Memᴰ·append-cases, List·Memᴰ·eq-of-singleton}
 use native.Mathlib.Decide.{ℕ-discrete}
-use native.Mathlib.Nat.{mod-lt}
 use native.Mathlib.Omega.{arith}
-use lib.ListN.{length, getD, set, length-set}
+use lib.ListN.{length, set}
 use lib.Seq.{getD-set-same, getD-set-other}
 use lib.Dec.{eqb}
-use borrow.Author.Tests.{eq-eqb, ne-eqb, ltb-true, eqb-true}
+use borrow.Author.Tests.{ltb-true}
 use Rattle.units.specs.Refusals.{pick}
 use Rattle.memory.specs.Layout.{lengthAt}
-use Rattle.waiting.specs.Acks.{placeOf, waitingOf, pushed, dropped}
-use Rattle.order.specs.Order.{from, acksIn, notOf}
+use Rattle.waiting.specs.Acks.{placeOf, waitingOf, dropped}
+use Rattle.order.specs.Order.{acksIn, notOf}
 use Rattle.order.proofs.Ringed.{Ring, from-length, push-acks, push-ring, drop-acks, drop-ring}
-use Rattle.kept.proofs.Kept.{saved-head, StateFits, RunFits}
-use Rattle.window.specs.Numbers.{byteOf}
-use Rattle.window.specs.Windows.{offsetOf, insideOf, held, newOf, acceptOf, passOf, runOf, movedOf, Good as GoodWindow}
-use Rattle.units.specs.declared.Seq.{Seq}
+use Rattle.kept.proofs.Kept.{RunFits}
+use Rattle.window.specs.Windows.{offsetOf, insideOf, held, acceptOf, passOf, runOf, Good as GoodWindow}
 use Rattle.window.specs.declared.Window.{Window}
-use Rattle.window.specs.declared.Found.{Found}
-use Rattle.window.specs.declared.Found.the-variants.{New, Held, Outside}
-use Rattle.window.proofs.Accepting.{found-new, accept-start, accept-size, accept-good, accept-held}
+use Rattle.window.proofs.Accepting.{found-new, accept-size, accept-good, accept-held}
 use Rattle.window.proofs.Passing.{pass-good, pass-held, pass-first, pass-size}
 use Rattle.window.proofs.Holding.{held-below}
 use Rattle.window.proofs.Resetting.{new-held, reset-good}
 use Rattle.window.proofs.WindowLaw.{distance-back}
-use Rattle.window.proofs.Sizes.{size-le}
 use Rattle.ends.specs.Ends.{endOf, saved}
 use Rattle.ends.specs.Heads.{countIn}
-use Rattle.ends.specs.States.{isSends, isClosed, isNew, anew}
+use Rattle.ends.specs.States.{isSends, isNew, anew}
 use Rattle.ends.specs.Lent.{Lent}
-use Rattle.ends.specs.declared.State.{State}
-use Rattle.ends.specs.declared.State.the-variants.{Closed, Enabled, Open, Failing}
+use Rattle.ends.specs.declared.State.the-variants.{Open}
 use Rattle.ends.specs.declared.Run.{Run}
 use Rattle.ends.specs.declared.EndPoint.{EndPoint}
-use Rattle.slots.specs.Slots.{cell, past, slotFor, lengthIn}
-use Rattle.receiving.specs.Receiving.{acknowledged, resetAfter, resetNode, withWindow, passing, putBook, taken, repeated, dataAfter}
+use Rattle.slots.specs.Slots.{cell, past, lengthIn}
+use Rattle.receiving.specs.Receiving.{acknowledged, resetAfter, resetNode, withWindow, putBook, taken, repeated, dataAfter}
 use Rattle.receiving.proofs.Taking.{dataAfter-new, dataAfter-other}
-use Rattle.good.specs.Good.{Lists, Silent, Filled, Receiving, OpenReceiver, Anew, Stated, Entered, Owed, Good}
-use Rattle.good.proofs.Framing.{Within, within-same, within-set, Apart, apart-then, apart-saved, framed, count-low, slot-lt, length-owner}
-use Rattle.good.proofs.Offsets.{cell-inj}
-use Rattle.good.proofs.Turns.{run-fits, turnedTo, end-saved, acks-ext, owed-other, owed-open, push-apart, push-end, drop-apart, drop-end, not-in, Kept}
+use Rattle.good.specs.Good.{Lists, Filled, OpenReceiver, Entered, Owed, Good}
+use Rattle.good.proofs.Known.{is-new, either, stated-as, entered-as, receiver-silent}
+use Rattle.good.proofs.Framing.{Within, within-same, within-set, Apart, apart-then, apart-saved, framed, apart-count, count-low, entry-low, cell-low, length-owner}
+use Rattle.good.proofs.Offsets.{cell-inj, cell-pass}
+use Rattle.good.proofs.Turns.{run-fits, turnedTo, end-saved, anew-fits, anew-size, ring-of, saved-acks, owed-other, owed-open, push-apart, push-end, drop-apart, drop-end, not-in, Kept}
 
 -- ---- general
-
-ring-of : (t ws b : List ℕ) (l : Lists) → Good t ws b l → Ring ws
-ring-of t ws b l g = record { long = omega (arith, g .long); most = g .acks }
-
--- a receiver that is not Closed has nothing waiting in the queues
-receiver-silent : (b : List ℕ) (l : Lists) (i : ℕ) (e : EndPoint) (s : State) → isClosed s ≡ false → Stated b l i e false s → Silent l i []
-receiver-silent b l i e Closed c a = absurd (true≢false c)
-receiver-silent b l i e (Enabled t sent) c a = a .0 .silent
-receiver-silent b l i e Open c a = a .silent
-receiver-silent b l i e (Failing n) c a = absurd a
-
-pub stated-as : (b : List ℕ) (l : Lists) (i : ℕ) (e : EndPoint) (k : Bool) → isSends (e .entry .kind) ≡ k → Entered b l i e → Stated b l i e k (e .state)
-stated-as b l i e k h a = subst (λ (x : Bool). Stated b l i e x (e .state)) h (a .stated)
 
 length-not : (i : ℕ) (l : List ℕ) → length (notOf i l) ≤ length l
 length-not i [] = omega arith
@@ -71,9 +52,6 @@ length-not i (x ∷ xs) = sides (length-not i xs) (eqb (x / 256 % 256) i)
 -- ---- a receiver is put back Open, with acknowledgements that are others' or its own
 
 module _ (t ws b : List ℕ) (l : Lists) (g : Good t ws b l) (i : ℕ) (li : i < countIn ws) (k : isSends (endOf ws i .entry .kind) ≡ false) where
-  low : i < 16
-  low = let c = count-low t ws b l g in omega arith
-
   pub receiver-turn : (vs : List ℕ) → Apart i ws vs → length vs ≡ 576 → endOf vs i ≡ endOf ws i → waitingOf vs ≤ 32
       → ((w : ℕ) → List·Memᴰ w (acksIn vs) → (Owed ws w × (w / 256 ≢ i)) ⊎ (w / 256 ≡ i))
       → (r : Run) → RunFits r → r .window .size ≡ endOf ws i .run .window .size
@@ -86,17 +64,14 @@ module _ (t ws b : List ℕ) (l : Lists) (g : Good t ws b l) (i : ℕ) (li : i <
       whole = apart-then i ws vs (saved vs i Open r) a (apart-saved i vs Open r)
 
       ring : (waitingOf (saved vs i Open r) ≡ waitingOf vs) × (acksIn (saved vs i Open r) ≡ acksIn vs)
-      ring = acks-ext vs (saved vs i Open r) (λ k h. saved-head vs i Open r k h)
+      ring = saved-acks vs i Open r
 
       now : endOf (saved vs i Open r) i ≡ turnedTo (endOf ws i) Open r
-      now = end-saved vs i Open r long low tt rf (rw same size) ∙ ap (λ (e : EndPoint). turnedTo e Open r) same
-
-      c : countIn (saved vs i Open r) ≡ countIn ws
-      c = ap (λ (x : ℕ). x % 256) (whole .head 0 (omega arith))
+      now = end-saved vs i Open r long (entry-low t ws b l g i li) tt rf (rw same size) ∙ ap (λ (e : EndPoint). turnedTo e Open r) same
 
       owed : (w : ℕ) → (Owed ws w × (w / 256 ≢ i)) ⊎ (w / 256 ≡ i) → Owed (saved vs i Open r) w
       owed w (inl o) = owed-other i ws (saved vs i Open r) whole w (o .0) (o .1)
-      owed w (inr h) = record { known = rw (h, c) li; receives = rw (h, now) k; opened = rw (h, now) }
+      owed w (inr h) = record { known = rw (h, apart-count i ws (saved vs i Open r) whole) li; receives = rw (h, now) k; opened = rw (h, now) }
 
 -- ---- a Reset
 
@@ -120,28 +95,17 @@ module _ (t : List ℕ) (x : Lent) (l : Lists) (g : Good t (x .node) (x .book) l
       let c = count-low t (x .node) (x .book) l g in
       (o, λ h. p .1 (let z = o .known in omega arith))
 
-  pub reset-run-fits : RunFits (anew (endOf (x .node) i .run))
+  reset-entered : Entered (x .book) l i (turnedTo (endOf (x .node) i) Open (anew (endOf (x .node) i .run)))
   unfolding anew
-  reset-run-fits =
-      let f = run-fits (x .node) i in
-      record { start = omega arith; taken = omega arith; handed = omega arith; accepted = f .accepted; confirmed = f .confirmed; urgent = omega arith }
-
-  anew-size : anew (endOf (x .node) i .run) .window .size ≡ endOf (x .node) i .run .window .size
-  unfolding anew
-  anew-size = refl
-
-  reset-entered : isClosed (endOf (x .node) i .state) ≡ false → Entered (x .book) l i (turnedTo (endOf (x .node) i) Open (anew (endOf (x .node) i .run)))
-  unfolding anew
-  reset-entered c =
+  reset-entered =
       let e = endOf (x .node) i in
       let a = g .entered i li in
-      record {
-        window = reset-good (e .run .window) (a .window);
-        stated = subst (λ (s : Bool). Stated (x .book) l i (turnedTo e Open (anew (e .run))) s Open) (sym k) (record {
-          receiving = record { taken = refl; handed = refl; urgent = refl; first = new-held (e .run .window .size) 0; filled = λ n h. absurd (true≢false (sym h ∙ new-held (e .run .window .size) n)) };
-          silent = receiver-silent (x .book) l i e (e .state) c (stated-as (x .book) l i e false k a);
-        });
-      }
+      let none = new-held (e .run .window .size) in
+      entered-as (x .book) l i (turnedTo e Open (anew (e .run))) (reset-good (e .run .window) (a .window)) false k Open refl
+      (record {
+        receiving = record { taken = refl; handed = refl; urgent = refl; first = none 0; filled = λ n h. absurd (true≢false (sym h ∙ none n)) };
+        silent = receiver-silent (x .book) l i e (e .state) (stated-as (x .book) l i e a false k (e .state) refl);
+      })
 
   -- the node before the end point is put back
   pub reset-acks : waitingOf (x .node) < 32 → acksIn (acknowledged (dropped i (x .node)) i 0) ≡ notOf i (acksIn (x .node)) ++ ((i * 256 + 0) ∷ [])
@@ -160,19 +124,20 @@ module _ (t : List ℕ) (x : Lent) (l : Lists) (g : Good t (x .node) (x .book) l
   unfolding resetAfter resetNode
   reset-end =
       end-saved (acknowledged (dropped i (x .node)) i 0) i Open (anew (endOf (x .node) i .run)) (reset-apart .long ∙ g .long)
-      (low t (x .node) (x .book) l g i li k) tt reset-run-fits (rw reset-same anew-size)
+      (entry-low t (x .node) (x .book) l g i li) tt (anew-fits (endOf (x .node) i .run) (run-fits (x .node) i)) (rw reset-same (anew-size (endOf (x .node) i .run)))
       ∙ ap (λ (e : EndPoint). turnedTo e Open (anew (endOf (x .node) i .run))) reset-same
 
-  pub reset-keeps : isClosed (endOf (x .node) i .state) ≡ false → waitingOf (x .node) < 32 → Kept t x (resetAfter x i (endOf (x .node) i)) l i
+  pub reset-keeps : waitingOf (x .node) < 32 → Kept t x (resetAfter x i (endOf (x .node) i)) l i
   unfolding resetAfter resetNode
-  reset-keeps c h =
+  reset-keeps h =
       record {
         lists = l;
         good =
             receiver-turn t (x .node) (x .book) l g i li k vs reset-apart (reset-apart .long ∙ g .long) reset-same
             (push-ring (dropped i (x .node)) (drop-ring i (x .node) ring) (i * 256 + 0) (omega (arith, shorter)) .most)
             (λ w m. sides w (List·Memᴰ·append-cases (notOf i (acksIn (x .node))) (subst (λ (ws : List ℕ). List·Memᴰ w ws) (reset-acks h) m)))
-            (anew (endOf (x .node) i .run)) reset-run-fits anew-size (x .book) (within-same i (x .book) l (g .lines)) (reset-entered c);
+            (anew (endOf (x .node) i .run)) (anew-fits (endOf (x .node) i .run) (run-fits (x .node) i)) (anew-size (endOf (x .node) i .run))
+            (x .book) (within-same i (x .book) l (g .lines)) reset-entered;
         apart = apart-then i (x .node) vs (saved vs i Open (anew (endOf (x .node) i .run))) reset-apart (apart-saved i vs Open (anew (endOf (x .node) i .run)));
         within = within-same i (x .book) l (g .lines);
       }
@@ -185,24 +150,6 @@ module _ (t : List ℕ) (x : Lent) (l : Lists) (g : Good t (x .node) (x .book) l
       sides w (inr m) = inr (let e = List·Memᴰ·eq-of-singleton m in omega arith)
 
 -- ---- Data
-
-is-new : (f : Found) → isNew f ≡ true → f ≡ New
-is-new New h = refl
-is-new Held h = absurd (true≢false (sym h))
-is-new Outside h = absurd (true≢false (sym h))
-
-or-cases : (a b : Bool) → (a || b) ≡ true → (a ≡ true) ⊎ (b ≡ true)
-or-cases true b h = inl refl
-or-cases false b h = inr h
-
--- where the numbers of the window as it is after Data lay before
-pub cell-pass : (i : ℕ) (w : Window) (s k : ℕ)
-    → cell i (passOf (acceptOf w s .window) .window) (past (passOf (acceptOf w s .window) .window) k) ≡ cell i w (past w (runOf (acceptOf w s .window) + k))
-unfolding passOf
-cell-pass i w s k =
-    let e : acceptOf w s .window .start .0 ≡ w .start .0 = ap (λ (q : Seq). q .0) (accept-start w s) in
-    let p : past (movedOf (acceptOf w s .window) (runOf (acceptOf w s .window))) k ≡ past w (runOf (acceptOf w s .window) + k) = rw e (omega arith) in
-    rw (p, accept-size w s)
 
 -- a number in the window and new, as the book has the numbers then
 module _ (b : List ℕ) (long : length b ≡ 10368) (i : ℕ) (low : i < 16) (w : Window) (g : GoodWindow w) (s : ℕ) (byte : s < 256) (new : isNew (acceptOf w s .found) ≡ true) where
@@ -219,7 +166,7 @@ module _ (b : List ℕ) (long : length b ≡ 10368) (i : ℕ) (low : i < 16) (w 
   pub length-own : (n : ℕ) → lengthIn (set b (lengthAt (cell i w s)) n) (cell i w (past w (offsetOf w s))) ≡ n
   length-own n =
       ap (λ (c : ℕ). lengthIn (set b (lengthAt (cell i w s)) n) c) (sym own-cell)
-      ∙ getD-set-same b (lengthAt (cell i w s)) n 0 (let h = slot-lt w s g in let z = size-le (w .size) (g .sized) in omega arith)
+      ∙ getD-set-same b (lengthAt (cell i w s)) n 0 (omega (arith, cell-low i low w g s))
 
   pub length-other : (n m : ℕ) → m < w .size → m ≢ offsetOf w s → lengthIn (set b (lengthAt (cell i w s)) n) (cell i w (past w m)) ≡ lengthIn b (cell i w (past w m))
   length-other n m h d =
@@ -229,12 +176,12 @@ module _ (b : List ℕ) (long : length b ≡ 10368) (i : ℕ) (low : i < 16) (w 
   -- those held then have their payloads
   filled-then : (n largest : ℕ) → 1 ≤ n → n ≤ largest → ((k : ℕ) → held w k ≡ true → Filled b i w largest k) → (m : ℕ) → held (acceptOf w s .window) m ≡ true
       → (1 ≤ lengthIn (set b (lengthAt (cell i w s)) n) (cell i w (past w m))) × (lengthIn (set b (lengthAt (cell i w s)) n) (cell i w (past w m)) ≤ largest)
-  filled-then n largest some most f m h = sides (ℕ-discrete m (offsetOf w s)) (or-cases (eqb m (offsetOf w s)) (held w m) (sym (accept-held w s g inside m) ∙ h))
+  filled-then n largest some most f m h = sides (ℕ-discrete m (offsetOf w s)) (either m (offsetOf w s) (held w m) (sym (accept-held w s g inside m) ∙ h))
     where
-      sides : Dec (m ≡ offsetOf w s) → (eqb m (offsetOf w s) ≡ true) ⊎ (held w m ≡ true)
+      sides : Dec (m ≡ offsetOf w s) → (m ≡ offsetOf w s) ⊎ (held w m ≡ true)
           → (1 ≤ lengthIn (set b (lengthAt (cell i w s)) n) (cell i w (past w m))) × (lengthIn (set b (lengthAt (cell i w s)) n) (cell i w (past w m)) ≤ largest)
       sides (yes e) q = rw (e, length-own n) (some, most)
-      sides (no d) (inl q) = absurd (d (eqb-true m (offsetOf w s) q))
+      sides (no d) (inl q) = absurd (d q)
       sides (no d) (inr q) = rw (length-other n m (held-below w g m q) d) (f m q .some, f m q .most)
 
 module _ (t : List ℕ) (x : Lent) (l : Lists) (g : Good t (x .node) (x .book) l) (i : ℕ) (li : i < countIn (x .node))
@@ -259,13 +206,19 @@ module _ (t : List ℕ) (x : Lent) (l : Lists) (g : Good t (x .node) (x .book) l
   good-a = accept-good w s good-w
 
   was : OpenReceiver (x .book) l i e
-  was = subst (Stated (x .book) l i e false) o (stated-as (x .book) l i e false k (g .entered i li))
+  was = stated-as (x .book) l i e (g .entered i li) false k Open o
 
-  low′ : i < 16
-  low′ = low t (x .node) (x .book) l g i li k
+  small : i < 16
+  small = entry-low t (x .node) (x .book) l g i li
 
-  ring′ : Ring (x .node)
-  ring′ = ring-of t (x .node) (x .book) l g
+  acks-ring : Ring (x .node)
+  acks-ring = ring-of t (x .node) (x .book) l g
+
+  apart-acked : Apart i (x .node) (acknowledged (x .node) i s)
+  apart-acked = push-apart i (x .node) (i * 256 + s) acks-ring
+
+  end-acked : endOf (acknowledged (x .node) i s) i ≡ endOf (x .node) i
+  end-acked = push-end i (x .node) (i * 256 + s) acks-ring
 
   v-size : v .size ≡ w .size
   v-size = pass-size a ∙ accept-size w s
@@ -283,30 +236,27 @@ module _ (t : List ℕ) (x : Lent) (l : Lists) (g : Good t (x .node) (x .book) l
   data-entered : isNew (acceptOf w s .found) ≡ true → Entered (putBook (x .book) i e s p) l i (turnedTo e Open (withWindow (e .run) v))
   unfolding withWindow
   data-entered new =
-      record {
-        window = pass-good a good-a;
-        stated = subst (λ (s′ : Bool). Stated (putBook (x .book) i e s p) l i (turnedTo e Open (withWindow (e .run) v)) s′ Open) (sym k) (record {
-          receiving = record {
-            taken = was .receiving .taken;
-            handed = was .receiving .handed;
-            urgent = was .receiving .urgent;
-            first = pass-first a good-a;
-            filled = λ m h. let q = filled-then (x .book) (g .lines .long) i low′ w good-w s byte new (length p) (e .entry .largest) some most (was .receiving .filled) (runOf a + m) (sym (pass-held a good-a m) ∙ h) in
-                record { some = rw (cell-pass i w s m) (q .0); most = rw (cell-pass i w s m) (q .1) };
-          };
-          silent = was .silent;
-        });
-      }
+      entered-as (putBook (x .book) i e s p) l i (turnedTo e Open (withWindow (e .run) v)) (pass-good a good-a) false k Open refl (record {
+        receiving = record {
+          taken = was .receiving .taken;
+          handed = was .receiving .handed;
+          urgent = was .receiving .urgent;
+          first = pass-first a good-a;
+          filled = λ m h. let q = filled-then (x .book) (g .lines .long) i small w good-w s byte new (length p) (e .entry .largest) some most (was .receiving .filled) (runOf a + m) (sym (pass-held a good-a m) ∙ h) in
+              record { some = rw (cell-pass i w s m) (q .0); most = rw (cell-pass i w s m) (q .1) };
+        };
+        silent = was .silent;
+      })
 
   pub data-end : endOf (saved (acknowledged (x .node) i s) i Open (withWindow (e .run) v)) i ≡ turnedTo e Open (withWindow (e .run) v)
   data-end =
-      end-saved (acknowledged (x .node) i s) i Open (withWindow (e .run) v) (push-apart i (x .node) (i * 256 + s) ring′ .long ∙ g .long) low′ tt data-run-fits
-      (rw (push-end i (x .node) (i * 256 + s) ring′) data-size)
-      ∙ ap (λ (q : EndPoint). turnedTo q Open (withWindow (e .run) v)) (push-end i (x .node) (i * 256 + s) ring′)
+      end-saved (acknowledged (x .node) i s) i Open (withWindow (e .run) v) (apart-acked .long ∙ g .long) small tt data-run-fits
+      (rw end-acked data-size)
+      ∙ ap (λ (q : EndPoint). turnedTo q Open (withWindow (e .run) v)) end-acked
 
   -- an acknowledgement more
   pub data-acks : acksIn (acknowledged (x .node) i s) ≡ acksIn (x .node) ++ ((i * 256 + s) ∷ [])
-  data-acks = push-acks (x .node) ring′ (i * 256 + s) room
+  data-acks = push-acks (x .node) acks-ring (i * 256 + s) room
 
   acks-owed : (m : ℕ) → List·Memᴰ m (acksIn (acknowledged (x .node) i s)) → (Owed (x .node) m) ⊎ (m / 256 ≡ i)
   acks-owed m h = sides (List·Memᴰ·append-cases (acksIn (x .node)) (subst (λ (ws : List ℕ). List·Memᴰ m ws) data-acks h))
@@ -319,16 +269,16 @@ module _ (t : List ℕ) (x : Lent) (l : Lists) (g : Good t (x .node) (x .book) l
   taken-keeps new = rw o (record {
     lists = l;
     good =
-        receiver-turn t (x .node) (x .book) l g i li k (acknowledged (x .node) i s) (push-apart i (x .node) (i * 256 + s) ring′)
-        (push-apart i (x .node) (i * 256 + s) ring′ .long ∙ g .long) (push-end i (x .node) (i * 256 + s) ring′) (push-ring (x .node) ring′ (i * 256 + s) room .most)
+        receiver-turn t (x .node) (x .book) l g i li k (acknowledged (x .node) i s) apart-acked
+        (apart-acked .long ∙ g .long) end-acked (push-ring (x .node) acks-ring (i * 256 + s) room .most)
         (λ m h. sides m (ℕ-discrete (m / 256) i) (acks-owed m h))
         (withWindow (e .run) v) data-run-fits data-size (putBook (x .book) i e s p) within (data-entered new);
-    apart = apart-then i (x .node) (acknowledged (x .node) i s) _ (push-apart i (x .node) (i * 256 + s) ring′) (apart-saved i (acknowledged (x .node) i s) Open (withWindow (e .run) v));
+    apart = apart-then i (x .node) (acknowledged (x .node) i s) _ apart-acked (apart-saved i (acknowledged (x .node) i s) Open (withWindow (e .run) v));
     within = within;
   })
     where
       within : Within i (x .book) (putBook (x .book) i e s p) l l
-      within = within-set i (x .book) l (g .lines) (lengthAt (cell i w s)) (length p) (omega arith) (length-owner i low′ w good-w s)
+      within = within-set i (x .book) l (g .lines) (lengthAt (cell i w s)) (length p) (omega arith) (length-owner i small w good-w s)
 
       sides : (m : ℕ) → Dec (m / 256 ≡ i) → (Owed (x .node) m) ⊎ (m / 256 ≡ i) → (Owed (x .node) m × (m / 256 ≢ i)) ⊎ (m / 256 ≡ i)
       sides m (yes h) q = inr h
@@ -337,26 +287,22 @@ module _ (t : List ℕ) (x : Lent) (l : Lists) (g : Good t (x .node) (x .book) l
 
   repeated-keeps : Kept t x (repeated x i s) l i
   repeated-keeps =
-      let a′ = push-apart i (x .node) (i * 256 + s) ring′ in
-      let same = push-end i (x .node) (i * 256 + s) ring′ in
-      let c : countIn (acknowledged (x .node) i s) ≡ countIn (x .node) = ap (λ (n : ℕ). n % 256) (a′ .head 0 (omega arith)) in
       record {
         lists = l;
         good =
-            framed i (x .node) (acknowledged (x .node) i s) a′ t (x .book) (x .book) l l g (within-same i (x .book) l (g .lines)) li
-            (push-ring (x .node) ring′ (i * 256 + s) room .most) (λ m h. owed m (acks-owed m h)) (subst (Entered (x .book) l i) (sym same) (g .entered i li));
-        apart = a′;
+            framed i (x .node) (acknowledged (x .node) i s) apart-acked t (x .book) (x .book) l l g (within-same i (x .book) l (g .lines)) li
+            (push-ring (x .node) acks-ring (i * 256 + s) room .most) (λ m h. owed m (acks-owed m h)) (subst (Entered (x .book) l i) (sym end-acked) (g .entered i li));
+        apart = apart-acked;
         within = within-same i (x .book) l (g .lines);
       }
     where
       owed : (m : ℕ) → (Owed (x .node) m) ⊎ (m / 256 ≡ i) → Owed (acknowledged (x .node) i s) m
-      owed m (inl q) = owed-open i (x .node) (acknowledged (x .node) i s) (push-apart i (x .node) (i * 256 + s) ring′) (rw (push-end i (x .node) (i * 256 + s) ring′) k) (rw (push-end i (x .node) (i * 256 + s) ring′) o) m q
+      owed m (inl q) = owed-open i (x .node) (acknowledged (x .node) i s) apart-acked (rw end-acked k) (rw end-acked o) m q
       owed m (inr h) =
-          let a′ = push-apart i (x .node) (i * 256 + s) ring′ in
           record {
-            known = rw (h, a′ .head 0 (omega arith)) li;
-            receives = rw (h, push-end i (x .node) (i * 256 + s) ring′) k;
-            opened = rw (h, push-end i (x .node) (i * 256 + s) ring′) o;
+            known = rw (h, apart-count i (x .node) (acknowledged (x .node) i s) apart-acked) li;
+            receives = rw (h, end-acked) k;
+            opened = rw (h, end-acked) o;
           }
 
   pub data-keeps : Kept t x (dataAfter x i e s p) l i

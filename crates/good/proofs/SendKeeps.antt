@@ -3,7 +3,7 @@
 use Prim.Native.Nat.{ℕ, zero, suc, _+_, _-_, _≤_, _<_}
 use mathlib.Core.Path.{_≡_, refl, sym, ap, subst, _∙_}
 use mathlib.Core.Logic.{_≢_}
-use mathlib.Core.Bool.{Bool, true}
+use mathlib.Core.Bool.{true}
 use mathlib.Core.List.{List, [], _∷_, _++_, List·Memᴰ}
 use native.Mathlib.Decide.{decLt}
 use native.Mathlib.Omega.{arith}
@@ -24,42 +24,24 @@ use Rattle.window.specs.declared.Window.{Window}
 use Rattle.window.proofs.Sizes.{size-le}
 use Rattle.ends.specs.Ends.{endOf}
 use Rattle.ends.specs.Heads.{countIn, needIn}
-use Rattle.ends.specs.States.{isSends, isOpen}
+use Rattle.ends.specs.States.{isSends}
 use Rattle.ends.specs.Lent.{Lent}
 use Rattle.ends.specs.declared.State.{State}
-use Rattle.ends.specs.declared.State.the-variants.{Closed, Enabled, Open, Failing}
+use Rattle.ends.specs.declared.State.the-variants.{Open}
 use Rattle.ends.specs.declared.Run.{Run}
 use Rattle.ends.specs.declared.EndPoint.{EndPoint}
 use Rattle.slots.specs.Slots.{slotFor, cell, spot, past, lengthIn, timerIn}
 use Rattle.sending.specs.Sending.{sendTests, sendAnswer, nextNumber, sentRun, sentBook, sent, sendAfter}
-use Rattle.good.specs.Good.{Lists, Lines, Ranged, mine, idAt, ids, Share, Resends, Filled, Sending, OpenSender, Stated, Entered, Good}
+use Rattle.good.specs.Good.{Lists, Lines, Ranged, mine, idAt, ids, Share, Resends, Filled, Sending, OpenSender, Entered, Good}
 use Rattle.good.proofs.Members.{mine-all, mine-append, mine-own}
 use Rattle.good.proofs.Lined.{added, append-cells}
-use Rattle.good.proofs.Framing.{Within, within-then, within-append, within-set, count-low, slot-lt, length-owner, retries-owner, apart-saved}
+use Rattle.good.proofs.Known.{is-open, stated-as, entered-as}
+use Rattle.good.proofs.Framing.{Within, within-then, within-append, within-set, entry-low, cell-low, length-owner, retries-owner, apart-saved}
 use Rattle.good.proofs.Offsets.{id-high, id-owner, data-ranged, cell-inj, id-inj, ids-more, ids-in}
 use Rattle.good.proofs.Turns.{run-fits, state-fits, turnedTo, end-saved, sender-turn, Kept, kept-same}
+use Rattle.good.proofs.Senders.{resends-kept}
 
--- ---- general
-
--- an entry that sends and is Open is an open sender, and the other way round
-pub open-sender : (b : List ℕ) (l : Lists) (i : ℕ) (e : EndPoint) → isSends (e .entry .kind) ≡ true → e .state ≡ Open → Entered b l i e → OpenSender b l i e
-open-sender b l i e k s a = subst (Stated b l i e true) s (subst (λ (x : Bool). Stated b l i e x (e .state)) k (a .stated))
-
-pub sender-open : (b : List ℕ) (l : Lists) (i : ℕ) (e : EndPoint) → isSends (e .entry .kind) ≡ true → e .state ≡ Open → GoodWindow (e .run .window)
-    → OpenSender b l i e → Entered b l i e
-sender-open b l i e k s w o =
-    record { window = w; stated = subst (λ (x : Bool). Stated b l i e x (e .state)) (sym k) (subst (Stated b l i e true) (sym s) o) }
-
--- a state that passes for Open is Open
-pub is-open : (s : State) → isOpen s ≡ true → s ≡ Open
-is-open Closed h = let z : _≡_ {A = ℕ} 0 1 = cc in absurd (omega arith)
-is-open (Enabled t f) h = let z : _≡_ {A = ℕ} 0 1 = cc in absurd (omega arith)
-is-open Open h = refl
-is-open (Failing n) h = let z : _≡_ {A = ℕ} 0 1 = cc in absurd (omega arith)
-
--- an entry that there is has one of 16 numbers
-pub entry-low : (t ws b : List ℕ) (l : Lists) → Good t ws b l → (i : ℕ) → i < countIn ws → i < 16
-entry-low t ws b l g i h = let c = count-low t ws b l g in omega arith
+-- ---- what waits
 
 -- the number after the last one taken waits nowhere
 pub next-waits : (t ws b : List ℕ) (l : Lists) → Good t ws b l → (i : ℕ) → i < countIn ws → OpenSender b l i (endOf ws i)
@@ -97,10 +79,6 @@ next-waits t ws b l g i li o room q hq m = queue q hq m
 
 -- ---- the book
 
--- a cell is one of 2048
-pub cell-small : (i : ℕ) → i < 16 → (w : Window) → GoodWindow w → (s : ℕ) → cell i w s < 2048
-cell-small i low w g s = omega (arith, slot-lt w s g, size-le (w .size) (g .sized))
-
 -- the next payload of entry i has n bytes, and waits as data
 module _ (b : List ℕ) (l : Lists) (L : Lines b l) (i : ℕ) (low : i < 16) (w : Window) (g : GoodWindow w) (taken n : ℕ)
     (none : (q : ℕ) → q < 4 → List·Memᴰ (idAt i w taken) (l q) → ⊥) where
@@ -108,7 +86,7 @@ module _ (b : List ℕ) (l : Lists) (L : Lines b l) (i : ℕ) (low : i < 16) (w 
   at = cell i w (past w taken)
 
   small : (s : ℕ) → cell i w s < 2048
-  small = cell-small i low w g
+  small = cell-low i low w g
 
   abbrev sized : List ℕ
   sized = set b (lengthAt at) n
@@ -175,11 +153,11 @@ module _ (b : List ℕ) (l : Lists) (L : Lines b l) (i : ℕ) (low : i < 16) (e 
   lists = added l datas (idAt i w (e .run .taken))
 
   timer : (k : ℕ) → timerIn book (cell i w (past w k)) ≡ timerIn b (cell i w (past w k))
-  timer k = sent-timer b l L i low w g (e .run .taken) n none (cell i w (past w k)) (cell-small i low w g (past w k))
+  timer k = sent-timer b l L i low w g (e .run .taken) n none (cell i w (past w k)) (cell-low i low w g (past w k))
 
   others : (k : ℕ) → k < e .run .taken → lengthIn book (cell i w (past w k)) ≡ lengthIn b (cell i w (past w k))
   others k h =
-      sent-there b l L i low w g (e .run .taken) n none (cell i w (past w k)) (cell-small i low w g (past w k))
+      sent-there b l L i low w g (e .run .taken) n none (cell i w (past w k)) (cell-low i low w g (past w k))
       (λ c. let z = cell-inj w g i k (e .run .taken) (omega arith) room c in omega arith)
 
   filled : (k : ℕ) → k < e .run .taken + 1 → Filled book i w (e .entry .largest) k
@@ -222,12 +200,7 @@ module _ (b : List ℕ) (l : Lists) (L : Lines b l) (i : ℕ) (low : i < 16) (e 
   sent-resends : Resends book lists i (sentRun (e .run))
   unfolding sentRun
   sent-resends =
-      record {
-        each = λ x m. let p = o .resends .each x m in
-            record { at = p .at; handed = p .handed; missing = p .missing; idle = timer (p .at) ∙ p .idle; is = p .is };
-        all = λ x p. o .resends .all x
-            (record { at = p .at; handed = p .handed; missing = p .missing; idle = sym (timer (p .at)) ∙ p .idle; is = p .is });
-      }
+      resends-kept b book l lists i (e .run) (sentRun (e .run)) refl refl timer refl (o .resends)
 
   sent-open : (s : State) → OpenSender book lists i (turnedTo e s (sentRun (e .run)))
   unfolding sentRun
@@ -312,7 +285,7 @@ module _ (t : List ℕ) (x : Lent) (l : Lists) (i : ℕ) (p : List ℕ) (g : Goo
   window = g .entered i (d .known) .window
 
   was : OpenSender (x .book) l i e
-  was = open-sender (x .book) l i e (d .sends) (d .opened) (g .entered i (d .known))
+  was = stated-as (x .book) l i e (g .entered i (d .known)) true (d .sends) Open (d .opened)
 
   none : (q : ℕ) → q < 4 → List·Memᴰ (idAt i (e .run .window) (e .run .taken)) (l q) → ⊥
   none = next-waits t (x .node) (x .book) l g i (d .known) was (d .room)
@@ -327,8 +300,8 @@ module _ (t : List ℕ) (x : Lent) (l : Lists) (i : ℕ) (p : List ℕ) (g : Goo
 
   now : Entered (sent x i e p .book) (added l datas (idAt i (e .run .window) (e .run .taken))) i (turnedTo e (e .state) (sentRun (e .run)))
   now =
-      sender-open (sent x i e p .book) (added l datas (idAt i (e .run .window) (e .run .taken))) i (turnedTo e (e .state) (sentRun (e .run))) (d .sends) (d .opened)
-      (rw (sent-size (e .run)) window)
+      entered-as (sent x i e p .book) (added l datas (idAt i (e .run .window) (e .run .taken))) i (turnedTo e (e .state) (sentRun (e .run)))
+      (rw (sent-size (e .run)) window) true (d .sends) Open (d .opened)
       (sent-open (x .book) l (g .lines) i low e window was (length p) (d .some) (d .most) (d .room) none (e .state))
 
   within : Within i (x .book) (sent x i e p .book) l (added l datas (idAt i (e .run .window) (e .run .taken)))

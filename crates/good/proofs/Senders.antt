@@ -3,7 +3,7 @@
 use Prim.Native.Nat.{ℕ, zero, suc, _+_, _≤_, _<_}
 use mathlib.Core.Path.{_≡_, refl, sym, ap, subst, _∙_}
 use mathlib.Core.Logic.{_≢_}
-use mathlib.Core.Bool.{Bool, true, false, false≢true}
+use mathlib.Core.Bool.{Bool, true, false}
 use mathlib.Core.List.{List, [], _∷_, List·Memᴰ, List·Memᴰ·head}
 use native.Mathlib.Decide.{ℕ-discrete}
 use native.Mathlib.Nat.{mod-lt}
@@ -14,30 +14,28 @@ use lib.Dec.{eqb}
 use borrow.Author.Tests.{eq-eqb}
 use Rattle.units.specs.Refusals.{pick}
 use Rattle.memory.specs.Layout.{resets, urgents, resends, datas, resetId, lengthAt, timerAt}
-use Rattle.window.specs.Windows.{Good as GoodWindow}
+use Rattle.waiting.specs.Queues.{appended}
+use Rattle.window.specs.Windows.{held, Good as GoodWindow}
 use Rattle.window.specs.declared.Window.{Window}
-use Rattle.window.proofs.Sizes.{size-le}
-use Rattle.table.specs.declared.Kind.{Kind}
-use Rattle.table.specs.declared.Kind.the-variants.{Sends, Receives}
 use Rattle.table.specs.Layout.{countOf}
 use Rattle.table.proofs.Good.{GoodEntry, good-entry}
 use Rattle.ends.specs.Ends.{word, loadEntry, endOf}
 use Rattle.ends.specs.Heads.{countIn}
-use Rattle.ends.specs.States.{isSends}
+use Rattle.ends.specs.States.{isSends, anew, urgentGone}
 use Rattle.ends.specs.declared.State.{State}
+use Rattle.ends.specs.declared.State.the-variants.{Enabled}
 use Rattle.ends.specs.declared.Run.{Run}
+use Rattle.ends.specs.declared.EndPoint.{EndPoint}
 use Rattle.slots.specs.Slots.{cell, past, lengthIn, timerIn}
-use Rattle.good.specs.Good.{Lists, Lines, mine, Silent, running, Stated, Entered, Good}
-use Rattle.good.proofs.Members.{mem-out, without, without-out, mine-in, mine-without}
-use Rattle.good.proofs.Lined.{less}
-use Rattle.good.proofs.Framing.{Within, within-set, slot-lt, timer-owner, running-ext, count-low}
-use Rattle.good.proofs.Offsets.{cell-inj}
-use Rattle.good.proofs.Turns.{turnedTo}
+use Rattle.good.specs.Good.{Lists, Lines, mine, Resends, Silent, Filled, Sending, running, Stated, Entered, Good}
+use Rattle.good.proofs.Members.{mem-out, without, without-out, mine-in, mine-append, mine-own, mine-without}
+use Rattle.good.proofs.Lined.{added, less, added-here, added-there, append-cells}
+use Rattle.good.proofs.Known.{is-sends, stated-as, entered-as, silent-out}
+use Rattle.good.proofs.Framing.{Within, within-append, within-set, cell-low, timer-owner, running-ext}
+use Rattle.good.proofs.Offsets.{reset-owner, reset-ranged, cell-inj}
+use Rattle.good.proofs.Turns.{turnedTo, anew-fresh, anew-window}
 
 -- ---- the timer of one number
-
-pub cell-low : (i : ℕ) → i < 16 → (w : Window) → GoodWindow w → (s : ℕ) → cell i w s < 2048
-cell-low i h w g s = omega (arith, slot-lt w s g, size-le (w .size) (g .sized))
 
 -- the timer of the number k past the start is at v, and no other timer of the window and no length altered
 pub record Timed (b b′ : List ℕ) (i : ℕ) (w : Window) (k v : ℕ) : Type 0 where
@@ -65,11 +63,86 @@ module _ (i : ℕ) (low : i < 16) (w : Window) (g : GoodWindow w) (k : ℕ) (hk 
         there = λ j l n. d .there j l n ∙ same (timerAt (cell i w (past w j))) (omega arith);
       }
 
+  -- before something that alters what is beyond the timers
+  pub timed-then : (b c b′ : List ℕ) → Timed b c i w k v → ((x : ℕ) → 4224 ≤ x → x < 8320 → getD b′ x 0 ≡ getD c x 0) → Timed b b′ i w k v
+  timed-then b c b′ d same =
+      record {
+        lengths = λ x l. same (lengthAt x) (omega arith) (omega arith) ∙ d .lengths x l;
+        here = same (timerAt (cell i w (past w k))) (omega arith) (omega (arith, cell-low i low w g (past w k))) ∙ d .here;
+        there = λ j l n. same (timerAt (cell i w (past w j))) (omega arith) (omega (arith, cell-low i low w g (past w j))) ∙ d .there j l n;
+      }
+
   -- as a turn of the book
   pub within-timed : (b : List ℕ) (l : Lists) → Lines b l → Within i b (set b (timerAt (cell i w (past w k))) v) l l
   within-timed b l L = within-set i b l L (timerAt (cell i w (past w k))) v (omega arith) (timer-owner i low w g (past w k))
 
+-- ---- what it sends
+
+-- where no length altered, nor the timer of an acknowledged number
+pub sending-kept : (b b′ : List ℕ) (i : ℕ) → i < 16 → (r : Run) → GoodWindow (r .window) → (largest : ℕ) → ((c : ℕ) → c < 2048 → lengthIn b′ c ≡ lengthIn b c)
+    → ((k : ℕ) → held (r .window) k ≡ true → timerIn b′ (cell i (r .window) (past (r .window) k)) ≡ timerIn b (cell i (r .window) (past (r .window) k)))
+    → Sending b i r largest → Sending b′ i r largest
+sending-kept b b′ i low r g largest lengths timers s =
+    record {
+      taken = s .taken;
+      handed = s .handed;
+      acked = s .acked;
+      first = s .first;
+      counted = s .counted;
+      filled = λ k h. filled k (s .filled k h);
+      stopped = λ k h. timers k h ∙ s .stopped k h;
+      urgent = s .urgent;
+    }
+  where
+    filled : (k : ℕ) → Filled b i (r .window) largest k → Filled b′ i (r .window) largest k
+    filled k f =
+        let same = lengths (cell i (r .window) (past (r .window) k)) (cell-low i low (r .window) g (past (r .window) k)) in
+        record { some = rw same (f .some); most = rw same (f .most) }
+
+-- its Urgent is gone
+pub urgent-sending : (b : List ℕ) (i : ℕ) (r : Run) (largest : ℕ) → Sending b i r largest → Sending b i (urgentGone r) largest
+unfolding urgentGone
+urgent-sending b i r largest s =
+    record {
+      taken = s .taken;
+      handed = s .handed;
+      acked = s .acked;
+      first = s .first;
+      counted = s .counted;
+      filled = s .filled;
+      stopped = s .stopped;
+      urgent = omega arith;
+    }
+
+-- where no timer of it altered, and its share is the same, the same retransmissions wait
+pub resends-kept : (b b′ : List ℕ) (l l′ : Lists) (i : ℕ) (r r′ : Run) → r′ .window ≡ r .window → r′ .handed ≡ r .handed
+    → ((j : ℕ) → timerIn b′ (cell i (r .window) (past (r .window) j)) ≡ timerIn b (cell i (r .window) (past (r .window) j)))
+    → mine i (l′ resends) ≡ mine i (l resends) → Resends b l i r → Resends b′ l′ i r′
+resends-kept b b′ l l′ i r r′ w h timers same R =
+    record {
+      each = λ x m. let q = R .each x (subst (λ (ys : List ℕ). List·Memᴰ x ys) same m) in
+          record { at = q .at; handed = rw h (q .handed); missing = rw w (q .missing); idle = rw w (timers (q .at) ∙ q .idle); is = rw w (q .is) };
+      all = λ x q. subst (λ (ys : List ℕ). List·Memᴰ x ys) (sym same)
+          (R .all x (record {
+            at = q .at;
+            handed = rw (← h) (q .handed);
+            missing = rw (← w) (q .missing);
+            idle = sym (timers (q .at)) ∙ rw (← w) (q .idle);
+            is = rw (← w) (q .is);
+          }));
+    }
+
 -- ---- how many timers run
+
+-- no more timers run than there are
+pub running-le : (b : List ℕ) (i : ℕ) (w : Window) (n : ℕ) → running b i w n ≤ n
+unfolding running
+running-le b i w zero = omega arith
+running-le b i w (suc n) = sides (running-le b i w n) (eqb (timerIn b (cell i w (past w n))) 0)
+  where
+    sides : running b i w n ≤ n → (t : Bool) → pick t (running b i w n) (suc (running b i w n)) ≤ suc n
+    sides h true = omega arith
+    sides h false = omega arith
 
 -- one that stops is one fewer
 pub running-stopped : (b b′ : List ℕ) (i : ℕ) (w : Window) (k : ℕ) → Timed b b′ i w k 0 → (n : ℕ) → k < n → n ≤ w .size
@@ -138,12 +211,42 @@ module _ (b : List ℕ) (l : Lists) (L : Lines b l) (i : ℕ) (a : Silent l i (r
         resends = ap (mine i) (other resends (omega arith) (λ e. omega arith)) ∙ a .resends;
       }
 
+-- ---- its Reset is one more, where nothing of it waited
+
+module _ (b : List ℕ) (l : Lists) (L : Lines b l) (i : ℕ) (low : i < 16) (s : Silent l i []) where
+  pub reset-within : Within i b (appended b resets (resetId i)) l (added l resets (resetId i))
+  reset-within =
+      within-append i b l L resets (resetId i) (omega arith) (omega arith) (omega arith)
+      (silent-out l i s (resetId i) (reset-owner i low)) (reset-owner i low) (reset-ranged i low)
+
+  pub reset-cells : (k : ℕ) → 4224 ≤ k → getD (appended b resets (resetId i)) k 0 ≡ getD b k 0
+  reset-cells k h =
+      append-cells b l L resets (resetId i) (omega arith) (omega arith) (omega arith) (silent-out l i s (resetId i) (reset-owner i low)) k h
+
+  pub reset-silent : Silent (added l resets (resetId i)) i (resetId i ∷ [])
+  reset-silent =
+      record {
+        share =
+            record {
+              resets =
+                  ap (mine i) (added-here l resets (resetId i)) ∙ mine-append i (l resets) (resetId i ∷ [])
+                  ∙ rw (s .share .resets) (mine-own i (resetId i) (reset-owner i low));
+              urgents = ap (mine i) (added-there l resets (resetId i) urgents (λ e. omega arith)) ∙ s .share .urgents;
+              datas = ap (mine i) (added-there l resets (resetId i) datas (λ e. omega arith)) ∙ s .share .datas;
+            };
+        resends = ap (mine i) (added-there l resets (resetId i) resends (λ e. omega arith)) ∙ s .resends;
+      }
+
+-- it is Enabled then, with a run begun anew
+pub enabled-sender : (b : List ℕ) (l : Lists) (i : ℕ) (e : EndPoint) → isSends (e .entry .kind) ≡ true → GoodWindow (e .run .window) → Silent l i (resetId i ∷ [])
+    → Entered b l i (turnedTo e (Enabled 0 false) (anew (e .run)))
+enabled-sender b l i e k w s =
+    entered-as b l i (turnedTo e (Enabled 0 false) (anew (e .run))) (anew-window (e .run) w) true k (Enabled 0 false) refl
+    (record { fresh = anew-fresh (e .run); silent = s })
+
 -- ---- the end point of a sender
 
 module _ (t ws b : List ℕ) (l : Lists) (G : Good t ws b l) (i : ℕ) (li : i < countIn ws) where
-  pub entry-low : i < 16
-  entry-low = let c = count-low t ws b l G in omega arith
-
   pub entry-window : GoodWindow (endOf ws i .run .window)
   entry-window = G .entered i li .window
 
@@ -156,23 +259,16 @@ module _ (t ws b : List ℕ) (l : Lists) (G : Good t ws b l) (i : ℕ) (li : i <
 
   module _ (kind : isSends (endOf ws i .entry .kind) ≡ true) where
     pub sender-stated : (st : State) → endOf ws i .state ≡ st → Stated b l i (endOf ws i) true st
-    sender-stated st q =
-        subst (λ (z : State). Stated b l i (endOf ws i) true z) q
-        (subst (λ (z : Bool). Stated b l i (endOf ws i) z (endOf ws i .state)) kind (G .entered i li .stated))
+    sender-stated st q = stated-as b l i (endOf ws i) (G .entered i li) true kind st q
 
     -- back to a kind that is not computed yet
     pub sender-entered : (b′ : List ℕ) (l′ : Lists) (st : State) (r : Run) → GoodWindow (r .window) → Stated b′ l′ i (turnedTo (endOf ws i) st r) true st
         → Entered b′ l′ i (turnedTo (endOf ws i) st r)
-    sender-entered b′ l′ st r g h =
-        record { window = g; stated = subst (λ (z : Bool). Stated b′ l′ i (turnedTo (endOf ws i) st r) z st) (sym kind) h }
+    sender-entered b′ l′ st r g h = entered-as b′ l′ i (turnedTo (endOf ws i) st r) g true kind st refl h
 
     -- its timers start at 1 at least
     pub sender-timeout : 1 ≤ endOf ws i .entry .timeout
     sender-timeout = entry-good .sender (is-sends (endOf ws i .entry .kind) kind)
-      where
-        is-sends : (z : Kind) → isSends z ≡ true → z ≡ Sends
-        is-sends Sends h = refl
-        is-sends Receives h = absurd (false≢true h)
 
 -- they fit their word
 pub timeout-fits : (ws : List ℕ) (i : ℕ) → endOf ws i .entry .timeout < 65536

@@ -268,39 +268,39 @@ stays b long q r hq hr n a = joined-there b long q q (omega arith) (omega arith)
 
 -- each queue is followed by itself
 module _ (b : List ℕ) (long : length b ≡ 10368) where
-  abbrev b0 : List ℕ
-  b0 = joined b 0 0
+  abbrev resetsJoined : List ℕ
+  resetsJoined = joined b 0 0
 
-  abbrev b1 : List ℕ
-  b1 = joined b0 1 1
+  abbrev urgentsJoined : List ℕ
+  urgentsJoined = joined resetsJoined 1 1
 
-  abbrev b2 : List ℕ
-  b2 = joined b1 2 2
+  abbrev resendsJoined : List ℕ
+  resendsJoined = joined urgentsJoined 2 2
 
-  long0 : length b0 ≡ 10368
-  long0 = joined-long b long 0 0 (omega arith) (omega arith)
+  resets-long : length resetsJoined ≡ 10368
+  resets-long = joined-long b long 0 0 (omega arith) (omega arith)
 
-  long1 : length b1 ≡ 10368
-  long1 = joined-long b0 long0 1 1 (omega arith) (omega arith)
+  urgents-long : length urgentsJoined ≡ 10368
+  urgents-long = joined-long resetsJoined resets-long 1 1 (omega arith) (omega arith)
 
-  long2 : length b2 ≡ 10368
-  long2 = joined-long b1 long1 2 2 (omega arith) (omega arith)
+  resends-long : length resendsJoined ≡ 10368
+  resends-long = joined-long urgentsJoined urgents-long 2 2 (omega arith) (omega arith)
 
   emptied-long : length (emptied b) ≡ 10368
   unfolding emptied
-  emptied-long = joined-long b2 long2 3 3 (omega arith) (omega arith)
+  emptied-long = joined-long resendsJoined resends-long 3 3 (omega arith) (omega arith)
 
   emptied-each : (q : ℕ) → q < 4 → Adjacent (emptied b) q q
   unfolding emptied
   emptied-each zero h =
-      stays b2 long2 3 0 (omega arith) h (λ e. omega arith)
-      (stays b1 long1 2 0 (omega arith) h (λ e. omega arith)
-      (stays b0 long0 1 0 (omega arith) h (λ e. omega arith) (joined-here b long 0 0 (omega arith) (omega arith))))
+      stays resendsJoined resends-long 3 0 (omega arith) h (λ e. omega arith)
+      (stays urgentsJoined urgents-long 2 0 (omega arith) h (λ e. omega arith)
+      (stays resetsJoined resets-long 1 0 (omega arith) h (λ e. omega arith) (joined-here b long 0 0 (omega arith) (omega arith))))
   emptied-each (suc zero) h =
-      stays b2 long2 3 1 (omega arith) h (λ e. omega arith)
-      (stays b1 long1 2 1 (omega arith) h (λ e. omega arith) (joined-here b0 long0 1 1 (omega arith) (omega arith)))
-  emptied-each (suc (suc zero)) h = stays b2 long2 3 2 (omega arith) h (λ e. omega arith) (joined-here b1 long1 2 2 (omega arith) (omega arith))
-  emptied-each (suc (suc (suc zero))) h = joined-here b2 long2 3 3 (omega arith) (omega arith)
+      stays resendsJoined resends-long 3 1 (omega arith) h (λ e. omega arith)
+      (stays urgentsJoined urgents-long 2 1 (omega arith) h (λ e. omega arith) (joined-here resetsJoined resets-long 1 1 (omega arith) (omega arith)))
+  emptied-each (suc (suc zero)) h = stays resendsJoined resends-long 3 2 (omega arith) h (λ e. omega arith) (joined-here urgentsJoined urgents-long 2 2 (omega arith) (omega arith))
+  emptied-each (suc (suc (suc zero))) h = joined-here resendsJoined resends-long 3 3 (omega arith) (omega arith)
   emptied-each (suc (suc (suc (suc q)))) h = absurd (omega arith)
 
   emptied-lines : Lines (emptied b) (λ q. [])

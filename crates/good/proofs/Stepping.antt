@@ -36,13 +36,14 @@ use Rattle.arriving.specs.Arriving.{blockRoom, takenAnswer, takenAfter}
 use Rattle.good.specs.Good.{Lists, mine, ids, idAt, Stated, Good}
 use Rattle.good.specs.Calls.{Memory, Answer, sends, arrives, lent, bare, kept, answer, after}
 use Rattle.good.specs.Steps.{at, windowAt, storedAt, MayUrge, CloseCloses, CountsTold, UrgentTakes, UrgentDelivers, Comes, Ready, Delivers, Holds, Repeats, Opens, Runs, Confirms, Begins, MaySend, Takes, StartDelivers, LaterHeld, OtherAcked, AckOpens, AckConfirms, ResetBegins, SendTakes, OpenEnables, WaitingGoesOut, TimersFall, ExpiredResends, ExpiredFails, ResetTimerFalls}
+use Rattle.good.proofs.Known.{stated-as, silent-nil}
 use Rattle.good.proofs.Offsets.{ids-more}
 use Rattle.good.proofs.Turns.{turnedTo, acks-ext}
-use Rattle.good.proofs.OpenKeeps.{silent-nil, open-keeps, open-passed}
+use Rattle.good.proofs.OpenKeeps.{open-keeps, open-passed}
 use Rattle.good.proofs.CloseKeeps.{close-keeps, close-passed}
-use Rattle.good.proofs.SendKeeps.{SendPassed, open-sender, send-passed, send-keeps}
+use Rattle.good.proofs.SendKeeps.{SendPassed, send-passed, send-keeps}
 use Rattle.good.proofs.UrgentKeeps.{UrgentPassed, urgent-passed, urgent-keeps}
-use Rattle.good.proofs.ReceiveKeeps.{stated-as, reset-end, reset-acks}
+use Rattle.good.proofs.ReceiveKeeps.{reset-end, reset-acks}
 use Rattle.good.proofs.Coming.{May, come-answer, come-after, come-some}
 use Rattle.good.proofs.Stored.{part-here, slot-fits, urgent-fits}
 use Rattle.good.proofs.Delivering.{data-delivers, data-holds, data-repeats}
@@ -229,9 +230,9 @@ module _ (t : List ℕ) (n : Memory) (l : Lists) (g : Good t (n .node) (n .book)
   sent-waits l′ h =
       let r = at n i .run in
       let m = at (kept sentTo) i in
-      let was = open-sender (n .book) l i (at n i) (d .sends) (d .opened) (g .entered i (d .known)) in
+      let was = stated-as (n .book) l i (at n i) (g .entered i (d .known)) true (d .sends) Open (d .opened) in
       let kind : isSends (m .entry .kind) ≡ true = ap (λ (z : EndPoint). isSends (z .entry .kind)) (passed .end) ∙ d .sends in
-      let now = open-sender (sentTo .book) l′ i m kind (ap (λ (z : EndPoint). z .state) (passed .end)) (h .entered i still) in
+      let now = stated-as (sentTo .book) l′ i m (h .entered i still) true kind Open (ap (λ (z : EndPoint). z .state) (passed .end)) in
       let more : r .taken + 1 - r .handed ≡ suc (r .taken - r .handed) = omega (arith, was .sending .handed) in
       let last : r .handed + (r .taken - r .handed) ≡ r .taken = omega (arith, was .sending .handed) in
       now .share .datas
@@ -275,7 +276,7 @@ module _ (n : Memory) (i : ℕ) (li : i < countIn (n .node)) (shut : at n i .sta
     open-waits l′ h k =
         let m = endOf (openTo .node) i in
         let kind : isSends (m .entry .kind) ≡ true = ap (λ (z : EndPoint). isSends (z .entry .kind)) open-end ∙ k in
-        subst (Stated (openTo .book) l′ i m true) (ap (λ (z : EndPoint). z .state) open-end) (stated-as (openTo .book) l′ i m true kind (h .entered i still)) .silent .share .resets
+        stated-as (openTo .book) l′ i m (h .entered i still) true kind (Enabled 0 false) (ap (λ (z : EndPoint). z .state) open-end) .silent .share .resets
       where
         still : i < countIn (openTo .node)
         still = let c = h .tabled .count in let b = g .tabled .count in omega arith
@@ -358,7 +359,7 @@ module _ (t : List ℕ) (n : Memory) (l : Lists) (g : Good t (n .node) (n .book)
   urged-waits l′ h =
       let m = at (kept urgedTo) i in
       let kind : isSends (m .entry .kind) ≡ true = ap (λ (z : EndPoint). isSends (z .entry .kind)) (urged .end) ∙ d .sends in
-      let now = open-sender (urgedTo .book) l′ i m kind (ap (λ (z : EndPoint). z .state) (urged .end)) (h .entered i still) in
+      let now = stated-as (urgedTo .book) l′ i m (h .entered i still) true kind Open (ap (λ (z : EndPoint). z .state) (urged .end)) in
       now .share .urgents ∙ rw (ne-eqb (m .run .urgent) 0 (λ z. let q = urged-length in let s = d .some in omega arith))
     where
       still : i < countIn (urgedTo .node)

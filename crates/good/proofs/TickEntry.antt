@@ -1,16 +1,15 @@
 -- A tick's turn of one entry keeps a good node good, and what it makes of that entry's end point. No other entry's business alters.
 -- Assumes nothing.
-use Prim.Native.Nat.{ℕ, zero, suc, _-_, _≤_, _<_}
-use mathlib.Core.Path.{_≡_, refl, sym, ap, subst, _∙_}
+use Prim.Native.Nat.{ℕ, _-_, _<_}
+use mathlib.Core.Path.{_≡_, refl, sym, ap, subst}
 use mathlib.Core.Logic.{_≢_}
 use mathlib.Core.Bool.{Bool, true, false, true≢false}
-use mathlib.Core.List.{List, [], _∷_, _++_, List·Memᴰ, List·Memᴰ·not-nil}
+use mathlib.Core.List.{List, [], _∷_}
 use native.Mathlib.Omega.{arith}
-use lib.ListN.{length, getD}
 use lib.Dec.{eqb}
 use borrow.Author.Tests.{eq-eqb, ne-eqb, eqb-true, eqb-false}
 use Rattle.units.specs.Refusals.{pick}
-use Rattle.memory.specs.Layout.{resets, urgents, resends, datas, resetId, lengthAt}
+use Rattle.memory.specs.Layout.{resets, resetId, lengthAt}
 use Rattle.waiting.specs.Queues.{appended}
 use Rattle.kept.proofs.Kept.{StateFits, RunFits}
 use Rattle.window.specs.Windows.{Good as GoodWindow}
@@ -24,62 +23,13 @@ use Rattle.ends.specs.declared.Run.{Run}
 use Rattle.ends.specs.declared.EndPoint.{EndPoint}
 use Rattle.slots.specs.Slots.{lengthIn}
 use Rattle.ticking.specs.Ticking.{tickSlots, ticked, both, tickEnabled, tickOpen, tickFailing, tickState, tickEntry}
-use Rattle.good.specs.Good.{Lists, Lines, ownerOf, mine, Silent, Sending, running, Anew, Stated, Entered, Good}
-use Rattle.good.proofs.Members.{mine-append, mine-own, mine-all}
-use Rattle.good.proofs.Lined.{added, added-here, added-there, append-cells}
-use Rattle.good.proofs.Framing.{Within, within-same, within-append, apart-same, apart-saved, count-low}
-use Rattle.good.proofs.Offsets.{reset-owner, reset-ranged}
-use Rattle.good.proofs.Turns.{run-fits, state-fits, turnedTo, end-saved, book-turn, sender-turn, Kept, kept-same}
-use Rattle.good.proofs.TickSlots.{running-le, Slots, slots-all, stays-failing}
-
--- ---- general
-
--- an end point whose kind and state are known
-pub entered-as : (b : List ℕ) (l : Lists) (i : ℕ) (e : EndPoint) → GoodWindow (e .run .window) → (k : Bool) → isSends (e .entry .kind) ≡ k → (s : State) → e .state ≡ s
-    → Stated b l i e k s → Entered b l i e
-entered-as b l i e g k ke s se h =
-    record {
-      window = g;
-      stated = subst (λ (x : Bool). Stated b l i e x (e .state)) (sym ke) (subst (Stated b l i e k) (sym se) h);
-    }
-
--- where nothing of entry i waits, no one thing of its does
-pub silent-alone : (l : Lists) (i : ℕ) → Silent l i [] → (x : ℕ) → ownerOf x ≡ i → (r : ℕ) → r < 4 → List·Memᴰ x (l r) → ⊥
-silent-alone l i s x o r h m = List·Memᴰ·not-nil (subst (λ (ys : List ℕ). List·Memᴰ x ys) (queue r h) (mine-all i x (l r) m o))
-  where
-    queue : (r : ℕ) → r < 4 → mine i (l r) ≡ []
-    queue zero h = s .share .resets
-    queue (suc zero) h = s .share .urgents
-    queue (suc (suc zero)) h = s .resends
-    queue (suc (suc (suc zero))) h = s .share .datas
-    queue (suc (suc (suc (suc r)))) h = absurd (omega arith)
-
--- its Reset waits, and nothing else of it
-module _ (b : List ℕ) (l : Lists) (L : Lines b l) (i : ℕ) (low : i < 16) (s : Silent l i []) where
-  pub reset-within : Within i b (appended b resets (resetId i)) l (added l resets (resetId i))
-  reset-within =
-      within-append i b l L resets (resetId i) (omega arith) (omega arith) (omega arith)
-      (silent-alone l i s (resetId i) (reset-owner i low)) (reset-owner i low) (reset-ranged i low)
-
-  pub reset-cells : (k : ℕ) → 4224 ≤ k → getD (appended b resets (resetId i)) k 0 ≡ getD b k 0
-  reset-cells k h =
-      append-cells b l L resets (resetId i) (omega arith) (omega arith) (omega arith) (silent-alone l i s (resetId i) (reset-owner i low)) k h
-
-  pub reset-silent : Silent (added l resets (resetId i)) i (resetId i ∷ [])
-  reset-silent =
-      record {
-        share =
-            record {
-              resets =
-                  ap (mine i) (added-here l resets (resetId i))
-                  ∙ mine-append i (l resets) (resetId i ∷ [])
-                  ∙ ap (λ (ys : List ℕ). ys ++ mine i (resetId i ∷ [])) (s .share .resets)
-                  ∙ mine-own i (resetId i) (reset-owner i low);
-              urgents = ap (mine i) (added-there l resets (resetId i) urgents (λ z. omega arith)) ∙ s .share .urgents;
-              datas = ap (mine i) (added-there l resets (resetId i) datas (λ z. omega arith)) ∙ s .share .datas;
-            };
-        resends = ap (mine i) (added-there l resets (resetId i) resends (λ z. omega arith)) ∙ s .resends;
-      }
+use Rattle.good.specs.Good.{Lists, Silent, Sending, running, Anew, Stated, Entered, Good}
+use Rattle.good.proofs.Lined.{added}
+use Rattle.good.proofs.Known.{entered-as}
+use Rattle.good.proofs.Framing.{Within, within-same, apart-same, apart-saved, entry-low}
+use Rattle.good.proofs.Turns.{run-fits, state-fits, turnedTo, end-saved, gone-fits, book-turn, sender-turn, Kept, kept-same}
+use Rattle.good.proofs.Senders.{running-le, urgent-sending, reset-within, reset-cells, reset-silent}
+use Rattle.good.proofs.TickSlots.{Slots, slots-all, stays-failing}
 
 -- ---- what a tick's first pass makes of an end point
 
@@ -142,11 +92,6 @@ pub record EntryTicked (t : List ℕ) (x x′ : Lent) (l : Lists) (i : ℕ) : Ty
   pub store : x′ .store ≡ x .store
   pub out : x′ .out ≡ x .out
 
-gone-fits : (r : Run) → RunFits r → RunFits (urgentGone r)
-unfolding urgentGone
-gone-fits r f =
-    record { start = f .start; taken = f .taken; handed = f .handed; accepted = f .accepted; confirmed = f .confirmed; urgent = omega arith }
-
 gone-size : (r : Run) → urgentGone r .window .size ≡ r .window .size
 unfolding urgentGone
 gone-size r = refl
@@ -159,17 +104,7 @@ unfolding urgentGone
 failed-entered b l i e n g k s q c =
     entered-as b l i (turnedTo e (Failing n) (urgentGone (e .run))) g true k (Failing n) refl
     (record {
-      sending =
-          record {
-            taken = s .taken;
-            handed = s .handed;
-            acked = s .acked;
-            first = s .first;
-            counted = s .counted;
-            filled = s .filled;
-            stopped = s .stopped;
-            urgent = omega arith;
-          };
+      sending = urgent-sending b i (e .run) (e .entry .largest) s;
       urgent = refl;
       silent = q;
       timers = c;
@@ -177,7 +112,7 @@ failed-entered b l i e n g k s q c =
 
 module _ (t : List ℕ) (x : Lent) (l : Lists) (g : Good t (x .node) (x .book) l) (i : ℕ) (li : i < countIn (x .node)) where
   low : i < 16
-  low = omega (arith, count-low t (x .node) (x .book) l g)
+  low = entry-low t (x .node) (x .book) l g i li
 
   abbrev e : EndPoint
   e = endOf (x .node) i

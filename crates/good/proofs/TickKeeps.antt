@@ -4,7 +4,7 @@ use Prim.Native.Nat.{ℕ, zero, suc, _+_, _-_, _/_, _%_, _^_, _≤_, _<_}
 use mathlib.Core.Path.{_≡_, refl, sym, ap, subst, _∙_}
 use mathlib.Core.Logic.{_⊎_, inl, inr}
 use mathlib.Core.Bool.{Bool, true, false, false≢true}
-use mathlib.Core.List.{List, [], _∷_}
+use mathlib.Core.List.{List, []}
 use native.Mathlib.Decide.{ℕ-discrete}
 use native.Mathlib.Nat.{two-pow-succ, add-mul-div-right, add-div-right, div-eq-of-lt, min-eq-left}
 use native.Mathlib.Omega.{arith}
@@ -16,8 +16,6 @@ use Rattle.memory.specs.Layout.{resets, resetId, lengthAt}
 use Rattle.waiting.specs.Queues.{appended}
 use Rattle.order.specs.Order.{acksIn}
 use Rattle.kept.proofs.Kept.{RunFits}
-use Rattle.window.specs.Windows.{Good as GoodWindow}
-use Rattle.window.proofs.Resetting.{reset-good}
 use Rattle.table.specs.declared.Entry.{Entry}
 use Rattle.ends.specs.Ends.{endOf}
 use Rattle.ends.specs.Heads.{countIn}
@@ -32,9 +30,11 @@ use Rattle.ticking.specs.Ticking.{tickEntry, tickEntries, Recovered, again, isO
 use Rattle.ticking.proofs.Apart.{after-head}
 use Rattle.good.specs.Good.{Lists, Silent, Stated, Entered, Good}
 use Rattle.good.proofs.Lined.{added}
-use Rattle.good.proofs.Framing.{apart-saved, count-low}
-use Rattle.good.proofs.Turns.{run-fits, turnedTo, end-saved, acks-ext, sender-turn, Kept, kept-same}
-use Rattle.good.proofs.TickEntry.{entered-as, reset-within, reset-cells, reset-silent, Ticks, closed, enabled, opened, failed, failing, ticks-alike, EntryTicked, tick-entry-keeps}
+use Rattle.good.proofs.Known.{stated-as}
+use Rattle.good.proofs.Framing.{apart-saved, apart-count, count-low, entry-low}
+use Rattle.good.proofs.Turns.{run-fits, turnedTo, end-saved, anew-fits, anew-size, acks-ext, sender-turn, Kept, kept-same}
+use Rattle.good.proofs.Senders.{reset-within, reset-cells, reset-silent, enabled-sender}
+use Rattle.good.proofs.TickEntry.{Ticks, closed, enabled, opened, failed, failing, ticks-alike, EntryTicked, tick-entry-keeps}
 
 -- ---- every entry's timers
 
@@ -54,7 +54,7 @@ pass-then t x x′ x″ n p s =
     record {
       lists = s .kept .lists;
       good = s .kept .good;
-      count = ap (λ (y : ℕ). y % 256) (s .kept .apart .head 0 (omega arith)) ∙ p .count;
+      count = apart-count n (x′ .node) (x″ .node) (s .kept .apart) ∙ p .count;
       ticks = λ j h. sides j h (ℕ-discrete j n);
       later = λ j h. s .kept .apart .others j (λ m. omega arith) ∙ p .later j (omega arith);
       lengths = λ c h. s .lengths c h ∙ p .lengths c h;
@@ -117,22 +117,6 @@ failing-sends : (b : List ℕ) (l : Lists) (i : ℕ) (e : EndPoint) (k : Bool) (
 failing-sends b l i e true n h = (refl, h .silent)
 failing-sends b l i e false n h = absurd h
 
-anew-fits : (r : Run) → RunFits r → RunFits (anew r)
-unfolding anew
-anew-fits r f =
-    record { start = omega arith; taken = omega arith; handed = omega arith; accepted = f .accepted; confirmed = f .confirmed; urgent = omega arith }
-
-anew-size : (r : Run) → anew r .window .size ≡ r .window .size
-unfolding anew
-anew-size r = refl
-
-anew-entered : (b : List ℕ) (l : Lists) (i : ℕ) (e : EndPoint) → GoodWindow (e .run .window) → isSends (e .entry .kind) ≡ true → Silent l i (resetId i ∷ [])
-    → Entered b l i (turnedTo e (Enabled 0 false) (anew (e .run)))
-unfolding anew
-anew-entered b l i e g k s =
-    entered-as b l i (turnedTo e (Enabled 0 false) (anew (e .run))) (reset-good (e .run .window) g) true k (Enabled 0 false) refl
-    (record { fresh = record { window = refl; taken = refl; handed = refl; urgent = refl }; silent = s })
-
 -- whether an end point recovers, told by a bit
 pub data Recovers (bit : ℕ) (e e′ : EndPoint) : Type 0 where
   stays : bit ≡ 0 → isOver (e .state) ≡ false → e′ ≡ e → Recovers bit e e′
@@ -149,7 +133,7 @@ record Recovery (t : List ℕ) (r r′ : Recovered) (l : Lists) (i : ℕ) : Type
 
 module _ (t : List ℕ) (r : Recovered) (l : Lists) (g : Good t (r .lent .node) (r .lent .book) l) (i : ℕ) (li : i < countIn (r .lent .node)) where
   low : i < 16
-  low = omega (arith, count-low t (r .lent .node) (r .lent .book) l g)
+  low = entry-low t (r .lent .node) (r .lent .book) l g i li
 
   abbrev e : EndPoint
   e = endOf (r .lent .node) i
@@ -175,7 +159,7 @@ module _ (t : List ℕ) (r : Recovered) (l : Lists) (g : Good t (r .lent .node) 
               good =
                   sender-turn t (r .lent .node) (r .lent .book) l g i li k (Enabled 0 false) (anew (e .run)) (omega arith) fits (anew-size (e .run))
                   (appended (r .lent .book) resets (resetId i)) (added l resets (resetId i)) (reset-within (r .lent .book) l (g .lines) i low q)
-                  (anew-entered (appended (r .lent .book) resets (resetId i)) (added l resets (resetId i)) i e (g .entered i li .window) k
+                  (enabled-sender (appended (r .lent .book) resets (resetId i)) (added l resets (resetId i)) i e k (g .entered i li .window)
                   (reset-silent (r .lent .book) l (g .lines) i low q));
               apart = apart-saved i (r .lent .node) (Enabled 0 false) (anew (e .run));
               within = reset-within (r .lent .book) l (g .lines) i low q;
@@ -199,7 +183,7 @@ module _ (t : List ℕ) (r : Recovered) (l : Lists) (g : Good t (r .lent .node) 
       over : e .state ≡ Failing 0 → Recovery t r (again i r) l i
       over s =
           let p = failing-sends (r .lent .book) l i e (isSends (e .entry .kind)) 0
-          (subst (Stated (r .lent .book) l i e (isSends (e .entry .kind))) s (g .entered i li .stated)) in
+          (stated-as (r .lent .book) l i e (g .entered i li) (isSends (e .entry .kind)) refl (Failing 0) s) in
           begins s (p .0) (p .1)
 
       sides : (o : Bool) → isOver (e .state) ≡ o → Recovery t r (pick o (again i r) r) l i
@@ -223,7 +207,7 @@ round-then t y r r′ n p s =
     record {
       lists = s .kept .lists;
       good = s .kept .good;
-      count = ap (λ (k : ℕ). k % 256) (s .kept .apart .head 0 (omega arith)) ∙ p .count;
+      count = apart-count n (r .lent .node) (r′ .lent .node) (s .kept .apart) ∙ p .count;
       most = s .most (p .most);
       fate = λ j h. sides j h (ℕ-discrete j n);
       later = λ j h. s .kept .apart .others j (λ m. omega arith) ∙ p .later j (omega arith);
@@ -324,7 +308,7 @@ tick-keeps t x l g =
 receiver-stays : (b : List ℕ) (l : Lists) (j bit : ℕ) (e m e′ : EndPoint) → isSends (e .entry .kind) ≡ false → Entered b l j m → Ticks e m → Recovers bit m e′ → Ticks e e′
 receiver-stays b l j bit e m e′ k n h (stays z o q) = subst (Ticks e) (sym q) h
 receiver-stays b l j bit e m e′ k n h (recovers z s q) =
-    absurd (false≢true (sym k ∙ ap (λ (y : Entry). isSends (y .kind)) (sym (ticks-alike h .entry)) ∙ failing-sends b l j m (isSends (m .entry .kind)) 0 (subst (Stated b l j m (isSends (m .entry .kind))) s (n .stated)) .0))
+    absurd (false≢true (sym k ∙ ap (λ (y : Entry). isSends (y .kind)) (sym (ticks-alike h .entry)) ∙ failing-sends b l j m (isSends (m .entry .kind)) 0 (stated-as b l j m n (isSends (m .entry .kind)) refl (Failing 0) s) .0))
 
 pub tick-receiver : (t : List ℕ) (x : Lent) (l : Lists) → Good t (x .node) (x .book) l → (j : ℕ) → j < countIn (x .node) → isSends (endOf (x .node) j .entry .kind) ≡ false
     → Ticks (endOf (x .node) j) (endOf (tickAfter x .node) j)

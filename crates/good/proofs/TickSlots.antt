@@ -8,35 +8,25 @@ use mathlib.Core.List.{List, [], _∷_, _++_, List·Memᴰ, List·Memᴰ·head, 
 use native.Mathlib.Decide.{ℕ-discrete}
 use native.Mathlib.Numerals.{add-one}
 use native.Mathlib.Omega.{arith}
-use lib.ListN.{length, getD, set}
-use lib.Seq.{getD-set-same, getD-set-other}
+use lib.ListN.{set}
+use lib.Seq.{getD-set-other}
 use lib.Dec.{eqb, ltb}
 use borrow.Author.Tests.{ne-eqb, eqb-true, eqb-false}
 use Rattle.units.specs.Refusals.{pick}
-use Rattle.memory.specs.Layout.{resets, urgents, resends, datas, urgentId, lengthAt, timerAt, retriesAt}
+use Rattle.memory.specs.Layout.{resets, urgents, resends, datas, urgentId, timerAt, retriesAt}
 use Rattle.waiting.specs.Queues.{appended}
 use Rattle.window.specs.Windows.{held, Good as GoodWindow}
 use Rattle.window.specs.declared.Window.{Window}
-use Rattle.window.proofs.Sizes.{size-le}
 use Rattle.ends.specs.declared.EndPoint.{EndPoint}
 use Rattle.slots.specs.Slots.{cell, past, lengthIn, timerIn, retriesIn, idled}
 use Rattle.ticking.specs.Ticking.{Ticked, expired, tickCell, tickSlot, tickSlots, ticked}
 use Rattle.good.specs.Good.{Lists, Lines, mine, idAt, Share, Resend, Resends, Silent, Sending, running, OpenSender}
 use Rattle.good.proofs.Members.{mine-append, mine-own, mine-all}
 use Rattle.good.proofs.Lined.{added, added-here, added-there, append-cells}
-use Rattle.good.proofs.Framing.{Within, within-same, within-then, within-append, within-set, slot-lt, timer-owner, retries-owner, running-ext}
-use Rattle.good.proofs.Offsets.{id-low, id-high, id-owner, resend-ranged, cell-inj, id-inj, Among, ids-in}
+use Rattle.good.proofs.Framing.{Within, within-same, within-then, within-append, within-set, timer-owner, retries-owner, running-ext}
+use Rattle.good.proofs.Offsets.{id-low, id-high, id-owner, resend-ranged, id-inj, Among, ids-in}
+use Rattle.good.proofs.Senders.{Timed, timed-set, timed-after, timed-then, within-timed, sending-kept}
 use Rattle.good.proofs.Idling.{Idled, idle}
-
--- no more timers run than there are
-pub running-le : (b : List ℕ) (i : ℕ) (w : Window) (n : ℕ) → running b i w n ≤ n
-unfolding running
-running-le b i w zero = omega arith
-running-le b i w (suc n) = sides (running-le b i w n) (eqb (timerIn b (cell i w (past w n))) 0)
-  where
-    sides : running b i w n ≤ n → (t : Bool) → pick t (running b i w n) (suc (running b i w n)) ≤ suc n
-    sides h true = omega arith
-    sides h false = omega arith
 
 -- what an end point in a tick is: an open sender, or one of which nothing waits
 abbrev pub Lives : Bool → List ℕ → Lists → ℕ → EndPoint → Type 0
@@ -47,64 +37,19 @@ module _ (i : ℕ) (low : i < 16) (e : EndPoint) (g : GoodWindow (e .run .window
   abbrev at : ℕ → ℕ
   at k = cell i (e .run .window) (past (e .run .window) k)
 
-  at-low : (k : ℕ) → at k < 2048
-  at-low k = omega (arith, slot-lt (e .run .window) (past (e .run .window) k) g, size-le (e .run .window .size) (g .sized))
-
-  -- ---- a timer is set, the others and all lengths stay
-
-  record Timed (b b′ : List ℕ) (k v : ℕ) : Type 0 where
-    lengths : (c : ℕ) → c < 2048 → lengthIn b′ c ≡ lengthIn b c
-    here : timerIn b′ (at k) ≡ v
-    there : (j : ℕ) → j < e .run .window .size → j ≢ k → timerIn b′ (at j) ≡ timerIn b (at j)
-
-  timed-set : (b : List ℕ) (k v : ℕ) → length b ≡ 10368 → k < e .run .window .size → Timed b (set b (timerAt (at k)) v) k v
-  timed-set b k v long h =
-      record {
-        lengths = λ c l. getD-set-other b (timerAt (at k)) (lengthAt c) v 0 (λ m. omega arith);
-        here = getD-set-same b (timerAt (at k)) v 0 (omega (arith, at-low k));
-        there = λ j l n. getD-set-other b (timerAt (at k)) (timerAt (at j)) v 0 (λ m. n (cell-inj (e .run .window) g i j k l h (omega arith)));
-      }
-
-  -- alterations beside it, before and after, which leave lengths and timers
-  timed-before : (a b c : List ℕ) (k v : ℕ) → ((x : ℕ) → 4224 ≤ x → x < 8320 → getD b x 0 ≡ getD a x 0) → Timed b c k v → Timed a c k v
-  timed-before a b c k v same t =
-      record {
-        lengths = λ x l. t .lengths x l ∙ same (lengthAt x) (omega arith) (omega arith);
-        here = t .here;
-        there = λ j l n. t .there j l n ∙ same (timerAt (at j)) (omega arith) (omega (arith, at-low j));
-      }
-
-  timed-after : (a b c : List ℕ) (k v : ℕ) → ((x : ℕ) → 4224 ≤ x → x < 8320 → getD c x 0 ≡ getD b x 0) → Timed a b k v → Timed a c k v
-  timed-after a b c k v same t =
-      record {
-        lengths = λ x l. same (lengthAt x) (omega arith) (omega arith) ∙ t .lengths x l;
-        here = same (timerAt (at k)) (omega arith) (omega (arith, at-low k)) ∙ t .here;
-        there = λ j l n. same (timerAt (at j)) (omega arith) (omega (arith, at-low j)) ∙ t .there j l n;
-      }
-
   -- a retransmission goes on waiting where its timer stays
   resend-same : (b b′ : List ℕ) (x : ℕ) (p : Resend b i (e .run) x) → timerIn b′ (at (p .at)) ≡ timerIn b (at (p .at)) → Resend b′ i (e .run) x
   resend-same b b′ x p h = record { at = p .at; handed = p .handed; missing = p .missing; idle = h ∙ p .idle; is = p .is }
 
-  module _ (b b′ : List ℕ) (k v : ℕ) (t : Timed b b′ k v) (low-k : k < e .run .handed) where
+  module _ (b b′ : List ℕ) (k v : ℕ) (t : Timed b b′ i (e .run .window) k v) (low-k : k < e .run .handed) where
     -- it is one whose number is not acknowledged, or it is at zero
     timed-sending : (held (e .run .window) k ≡ true → v ≡ 0) → Sending b i (e .run) (e .entry .largest) → Sending b′ i (e .run) (e .entry .largest)
     timed-sending zeroed s =
-        record {
-          taken = s .taken;
-          handed = s .handed;
-          acked = s .acked;
-          first = s .first;
-          counted = s .counted;
-          filled = λ j h. let f = s .filled j h in
-              record { some = rw (t .lengths (at j) (at-low j)) (f .some); most = rw (t .lengths (at j) (at-low j)) (f .most) };
-          stopped = λ j h. sides j h (ℕ-discrete j k);
-          urgent = s .urgent;
-        }
+        sending-kept b b′ i low (e .run) g (e .entry .largest) (t .lengths) (λ j h. sides j h (ℕ-discrete j k)) s
       where
-        sides : (j : ℕ) → held (e .run .window) j ≡ true → Dec (j ≡ k) → timerIn b′ (at j) ≡ 0
-        sides j h (yes m) = rw m (t .here ∙ zeroed (rw m at h))
-        sides j h (no n) = t .there j (let l = s .acked j h in omega (arith, s .handed, s .taken)) n ∙ s .stopped j h
+        sides : (j : ℕ) → held (e .run .window) j ≡ true → Dec (j ≡ k) → timerIn b′ (at j) ≡ timerIn b (at j)
+        sides j h (yes m) = rw m (t .here ∙ zeroed (rw m at h)) ∙ sym (s .stopped j h)
+        sides j h (no n) = t .there j (let l = s .acked j h in omega (arith, s .handed, s .taken)) n
 
     timed-running : k < e .run .window .size → running b′ i (e .run .window) k ≡ running b i (e .run .window) k
     timed-running h = running-ext b b′ i (e .run .window) k (λ j l. t .there j (omega arith) (λ m. omega arith))
@@ -146,7 +91,7 @@ module _ (i : ℕ) (low : i < 16) (e : EndPoint) (g : GoodWindow (e .run .window
             Memᴰ·append-left (idAt i (e .run .window) k ∷ []) (r .all x (resend-same b′ b x p (sym (timed-stays s (p .at) (p .handed) n))))
 
   -- the count goes on by one where the timer runs on
-  count-next : (b b′ : List ℕ) (k v : ℕ) → Timed b b′ k v → k < e .run .handed → k < e .run .window .size
+  count-next : (b b′ : List ℕ) (k v : ℕ) → Timed b b′ i (e .run .window) k v → k < e .run .handed → k < e .run .window .size
       → running b′ i (e .run .window) (suc k) ≡ pick (eqb v 0) (running b i (e .run .window) k) (suc (running b i (e .run .window) k))
   unfolding running
   count-next b b′ k v t h hs = rw (t .here, timed-running b b′ k v t h hs)
@@ -213,8 +158,8 @@ module _ (i : ℕ) (low : i < 16) (e : EndPoint) (g : GoodWindow (e .run .window
       inside : k < e .run .window .size
       inside = omega (arith, s .handed, s .taken)
 
-      timer-timed : (v : ℕ) → Timed b (set b (timerAt (at k)) v) k v
-      timer-timed v = timed-set b k v (L .long) inside
+      timer-timed : (v : ℕ) → Timed b (set b (timerAt (at k)) v) i (e .run .window) k v
+      timer-timed v = timed-set i low (e .run .window) g k inside v b (L .long)
 
       -- one that runs is not acknowledged
       runs-missing : timerIn b (at k) ≢ 0 → held (e .run .window) k ≡ false
@@ -273,10 +218,10 @@ module _ (i : ℕ) (low : i < 16) (e : EndPoint) (g : GoodWindow (e .run .window
           (within-set i (set b (timerAt (at k)) 0) l (timer-within 0 .lines) (retriesAt (at k)) v (omega arith)
           (retries-owner i low (e .run .window) g (past (e .run .window) k)))
 
-      clear-timed : Timed b cleared k 0
+      clear-timed : Timed b cleared i (e .run .window) k 0
       clear-timed =
-          timed-after b (set b (timerAt (at k)) 0) cleared k 0
-          (λ x p q. getD-set-other (set b (timerAt (at k)) 0) (retriesAt (at k)) x v 0 (λ z. omega arith)) (timer-timed (o .sending) 0)
+          timed-then i low (e .run .window) g k (inside (o .sending)) 0 b (set b (timerAt (at k)) 0) cleared (timer-timed (o .sending) 0)
+          (λ x p q. getD-set-other (set b (timerAt (at k)) 0) (retriesAt (at k)) x v 0 (λ z. omega arith))
 
       alone : (r : ℕ) → r < 4 → List·Memᴰ (idAt i (e .run .window) k) (l r) → ⊥
       alone = runs-alone b l o k h runs
@@ -291,11 +236,11 @@ module _ (i : ℕ) (low : i < 16) (e : EndPoint) (g : GoodWindow (e .run .window
           (omega (arith, id-low i low (e .run .window) g k)) (id-high i low (e .run .window) g k) alone
           (id-owner i low (e .run .window) g k) (resend-ranged i low (e .run .window) g k))
 
-      again-timed : Timed b again k 0
+      again-timed : Timed b again i (e .run .window) k 0
       again-timed =
-          timed-after b cleared again k 0
+          timed-then i low (e .run .window) g k (inside (o .sending)) 0 b cleared again clear-timed
           (λ x p q. append-cells cleared l (clear-within .lines) resends (idAt i (e .run .window) k) (omega arith)
-          (omega (arith, id-low i low (e .run .window) g k)) (id-high i low (e .run .window) g k) alone x p) clear-timed
+          (omega (arith, id-low i low (e .run .window) g k)) (id-high i low (e .run .window) g k) alone x p)
 
       again-share : (us ds : List ℕ) → Share l i [] us ds → Share (added l resends (idAt i (e .run .window) k)) i [] us ds
       again-share us ds s =
@@ -339,10 +284,10 @@ module _ (i : ℕ) (low : i < 16) (e : EndPoint) (g : GoodWindow (e .run .window
       gone : Idled i b idles l
       gone = idle b l i low L e g o
 
-      gone-timed : Timed b (set idles (timerAt (at k)) 0) k 0
+      gone-timed : Timed b (set idles (timerAt (at k)) 0) i (e .run .window) k 0
       gone-timed =
-          timed-before b idles (set idles (timerAt (at k)) 0) k 0 (λ x p q. gone .cells x p)
-          (timed-set idles k 0 (gone .within .lines .long) (inside (o .sending)))
+          timed-after i low (e .run .window) g k (inside (o .sending)) 0 b idles (set idles (timerAt (at k)) 0) (gone .cells)
+          (timed-set i low (e .run .window) g k (inside (o .sending)) 0 idles (gone .within .lines .long))
 
       failed : (c : ℕ) → Step l k (record { book = b; failing = false; running = c }) (record { book = set idles (timerAt (at k)) 0; failing = true; running = c })
       failed c =
@@ -350,8 +295,7 @@ module _ (i : ℕ) (low : i < 16) (e : EndPoint) (g : GoodWindow (e .run .window
             lists = gone .lists;
             within =
                 within-then i b idles (set idles (timerAt (at k)) 0) l (gone .lists) (gone .lists) (gone .within)
-                (within-set i idles (gone .lists) (gone .within .lines) (timerAt (at k)) 0 (omega arith)
-                (timer-owner i low (e .run .window) g (past (e .run .window) k)));
+                (within-timed i low (e .run .window) g k (inside (o .sending)) 0 idles (gone .lists) (gone .within .lines));
             lengths = gone-timed .lengths;
             count = λ x. rw (count-next b _ k 0 gone-timed h (inside (o .sending))) x;
             lives = (
@@ -438,8 +382,8 @@ expired-failing i e c t h = rw h
 
 cell-failing : (i : ℕ) (e : EndPoint) (c n : ℕ) (t : Ticked) → t .failing ≡ true → tickCell i e c n t .failing ≡ true
 cell-failing i e c n t h =
-    let t₂ : Ticked = record { book = set (t .book) (timerAt c) (n - 1); failing = t .failing; running = t .running + 1 } in
-    pick-failing (eqb n 0) t (pick (eqb n 1) (expired i e c t) t₂) h (pick-failing (eqb n 1) (expired i e c t) t₂ (expired-failing i e c t h) h)
+    let ticking : Ticked = record { book = set (t .book) (timerAt c) (n - 1); failing = t .failing; running = t .running + 1 } in
+    pick-failing (eqb n 0) t (pick (eqb n 1) (expired i e c t) ticking) h (pick-failing (eqb n 1) (expired i e c t) ticking (expired-failing i e c t h) h)
 
 pub slot-failing : (i : ℕ) (e : EndPoint) (k : ℕ) (t : Ticked) → t .failing ≡ true → tickSlot i e k t .failing ≡ true
 unfolding tickSlot

@@ -28,12 +28,11 @@ use Rattle.good.specs.Good.{Lists, mine, idAt, Silent, OpenSender, State
 use Rattle.good.specs.Independence.{cellOwner}
 use Rattle.good.specs.Calls.{Memory, bare, keptBare}
 use Rattle.good.specs.Steps.{at, windowAt, timerOf, retriesOf, Runs, SendsAgain, ResetFalls}
-use Rattle.good.proofs.Framing.{count-low, timer-owner, retries-owner}
-use Rattle.good.proofs.Turns.{run-fits, state-fits, end-saved}
-use Rattle.good.proofs.Senders.{entry-low, entry-window, sender-stated}
-use Rattle.good.proofs.OpenKeeps.{anew-fits, anew-size}
-use Rattle.good.proofs.TickSlots.{running-le, slots-all}
-use Rattle.good.proofs.TickEntry.{reset-cells, tick-entry-keeps}
+use Rattle.good.proofs.Framing.{count-low, timer-owner, retries-owner, entry-low}
+use Rattle.good.proofs.Turns.{run-fits, state-fits, end-saved, anew-fits, anew-size}
+use Rattle.good.proofs.Senders.{entry-window, sender-stated, running-le, reset-cells}
+use Rattle.good.proofs.TickSlots.{slots-all}
+use Rattle.good.proofs.TickEntry.{tick-entry-keeps}
 use Rattle.good.proofs.TickKeeps.{Pass, passed, Round, rounds, TickKept, tick-keeps}
 use Rattle.good.proofs.TickTimers.{timers-fall, stays-open, fails}
 

@@ -19,9 +19,9 @@ use Rattle.ends.specs.declared.EndPoint.{EndPoint}
 use Rattle.slots.specs.Slots.{cell, past, timerIn, retriesIn, idled}
 use Rattle.ticking.specs.Ticking.{Ticked, expired, tickSlot, tickSlots, ticked}
 use Rattle.good.specs.Good.{Lists, Lines, idAt, OpenSender}
+use Rattle.good.proofs.Framing.{cell-low}
 use Rattle.good.proofs.Lined.{append-cells, set-lines}
 use Rattle.good.proofs.Offsets.{id-low, id-high, cell-inj}
-use Rattle.good.proofs.Senders.{cell-low}
 use Rattle.good.proofs.Idling.{idle}
 use Rattle.good.proofs.TickSlots.{Lives, runs-alone, slots-first, slot-failing}
 

@@ -1,33 +1,35 @@
 -- What a call on one entry leaves: an end point saved, the book altered within that entry, the waiting acknowledgements. Each with what is
 -- to be shown of that entry alone. Assumes nothing.
-use Prim.Native.Nat.{ℕ, zero, suc, _+_, _-_, _*_, _/_, _%_, _≤_, _<_}
+use Prim.Native.Nat.{ℕ, zero, suc, _+_, _/_, _%_, _<_}
 use mathlib.Core.Path.{_≡_, refl, sym, ap, subst, _∙_}
 use mathlib.Core.Logic.{_≢_, _⊎_, inl, inr}
 use mathlib.Core.Bool.{Bool, true, false, true≢false}
-use mathlib.Core.List.{List, [], _∷_, _++_, List·Memᴰ, List·Memᴰ·cases-cons, List·Memᴰ·not-nil, List·Memᴰ·head, List·Memᴰ·tail, List·Memᴰ·append-cases, List·Memᴰ·eq-of-singleton}
+use mathlib.Core.List.{List, [], _∷_, List·Memᴰ, List·Memᴰ·cases-cons, List·Memᴰ·not-nil, List·Memᴰ·head, List·Memᴰ·tail}
 use native.Mathlib.Decide.{ℕ-discrete}
-use native.Mathlib.Nat.{mod-lt, mod-eq-of-lt}
+use native.Mathlib.Nat.{mod-lt}
 use native.Mathlib.Omega.{arith}
 use lib.ListN.{length, getD, set, length-set}
-use lib.Seq.{getD-set-same, getD-set-other}
+use lib.Seq.{getD-set-other}
 use lib.Dec.{eqb}
-use borrow.Author.Tests.{eqb-true, eqb-false}
+use borrow.Author.Tests.{eqb-false}
 use Rattle.units.specs.Refusals.{pick}
 use Rattle.memory.specs.Layout.{oldestAt, acksAt, ackAt}
 use Rattle.waiting.specs.Acks.{placeOf, waitingOf, oldestOf, pushed, popped, turned, turns, dropped}
 use Rattle.order.specs.Order.{from, acksIn, notOf}
-use Rattle.order.proofs.Ringed.{Ring, push-acks, push-ring, push-rest, pop-acks, pop-ring, pop-rest, drop-acks, drop-ring, drop-rest}
+use Rattle.order.proofs.Ringed.{Ring, push-rest, pop-rest, drop-rest}
 use Rattle.kept.proofs.Kept.{saved-head, saved-here, StateFits, RunFits}
-use Rattle.ends.specs.Ends.{stateOf, loadEntry, placeIn, loadState, loadRun, endOf, saved, word}
+use Rattle.window.specs.Windows.{Good as GoodWindow}
+use Rattle.window.proofs.Resetting.{reset-good}
+use Rattle.ends.specs.Ends.{stateOf, loadRun, endOf, saved, word}
 use Rattle.ends.specs.Heads.{countIn}
-use Rattle.ends.specs.States.{isSends}
+use Rattle.ends.specs.States.{isSends, anew, urgentGone}
 use Rattle.ends.specs.Lent.{Lent}
 use Rattle.ends.specs.declared.State.{State}
 use Rattle.ends.specs.declared.State.the-variants.{Closed, Enabled, Open, Failing}
 use Rattle.ends.specs.declared.Run.{Run}
 use Rattle.ends.specs.declared.EndPoint.{EndPoint}
-use Rattle.good.specs.Good.{Lists, Entered, Owed, Good}
-use Rattle.good.proofs.Framing.{Within, within-same, Apart, apart-then, apart-same, apart-saved, apart-rest, framed, count-low}
+use Rattle.good.specs.Good.{Lists, Fresh, Entered, Owed, Good}
+use Rattle.good.proofs.Framing.{Within, within-same, Apart, apart-same, apart-saved, apart-rest, framed, apart-count, entry-low}
 
 -- ---- an end point as it is loaded
 
@@ -62,7 +64,35 @@ pub end-saved : (ws : List ℕ) (i : ℕ) (s : State) (r : Run) → length ws �
 unfolding endOf loadRun
 end-saved ws i s r long low sf rf e = saved-here ws i s r long low sf rf e
 
+-- ---- a run begun anew, and one whose Urgent is gone
+
+pub anew-fits : (r : Run) → RunFits r → RunFits (anew r)
+unfolding anew
+anew-fits r f =
+    record { start = omega arith; taken = omega arith; handed = omega arith; accepted = f .accepted; confirmed = f .confirmed; urgent = omega arith }
+
+pub anew-size : (r : Run) → anew r .window .size ≡ r .window .size
+unfolding anew
+anew-size r = refl
+
+pub anew-fresh : (r : Run) → Fresh (anew r)
+unfolding anew
+anew-fresh r = record { window = refl; taken = refl; handed = refl; urgent = refl }
+
+pub anew-window : (r : Run) → GoodWindow (r .window) → GoodWindow (anew r .window)
+unfolding anew
+anew-window r g = reset-good (r .window) g
+
+pub gone-fits : (r : Run) → RunFits r → RunFits (urgentGone r)
+unfolding urgentGone
+gone-fits r f =
+    record { start = f .start; taken = f .taken; handed = f .handed; accepted = f .accepted; confirmed = f .confirmed; urgent = omega arith }
+
 -- ---- the waiting acknowledgements
+
+-- they lie in a ring
+pub ring-of : (t ws b : List ℕ) (l : Lists) → Good t ws b l → Ring ws
+ring-of t ws b l g = record { long = omega (arith, g .long); most = g .acks }
 
 from-ext : (ws vs : List ℕ) → ((k : ℕ) → k < 64 → getD vs k 0 ≡ getD ws k 0) → (k n : ℕ) → k < 32 → from vs k n ≡ from ws k n
 unfolding from
@@ -75,45 +105,47 @@ acks-ext ws vs h =
     let n : getD vs acksAt 0 ≡ getD ws acksAt 0 = h 5 (omega arith) in
     (ap (λ (x : ℕ). x % 64) n, rw (p, n) (from-ext ws vs h (placeOf ws) (waitingOf ws) (mod-lt (getD ws oldestAt 0) (omega arith))))
 
+-- an end point saved leaves them
+pub saved-acks : (ws : List ℕ) (i : ℕ) (s : State) (r : Run) → (waitingOf (saved ws i s r) ≡ waitingOf ws) × (acksIn (saved ws i s r) ≡ acksIn ws)
+saved-acks ws i s r = acks-ext ws (saved ws i s r) (λ k h. saved-head ws i s r k h)
+
 -- they stay owed to other entries, and to one that stays open
 pub owed-other : (i : ℕ) (ws ws′ : List ℕ) → Apart i ws ws′ → (w : ℕ) → Owed ws w → w / 256 ≢ i → Owed ws′ w
 owed-other i ws ws′ a w o n =
-    let c : countIn ws′ ≡ countIn ws = ap (λ (x : ℕ). x % 256) (a .head 0 (omega arith)) in
     let e = a .others (w / 256) n in
-    record { known = rw c (o .known); receives = rw e (o .receives); opened = rw e (o .opened) }
+    record { known = rw (apart-count i ws ws′ a) (o .known); receives = rw e (o .receives); opened = rw e (o .opened) }
 
 pub owed-open : (i : ℕ) (ws ws′ : List ℕ) → Apart i ws ws′ → isSends (endOf ws′ i .entry .kind) ≡ false → endOf ws′ i .state ≡ Open → (w : ℕ) → Owed ws w → Owed ws′ w
 owed-open i ws ws′ a k s w o = sides (ℕ-discrete (w / 256) i)
   where
-    c : countIn ws′ ≡ countIn ws
-    c = ap (λ (x : ℕ). x % 256) (a .head 0 (omega arith))
-
     sides : Dec (w / 256 ≡ i) → Owed ws′ w
-    sides (yes e) = record { known = rw c (o .known); receives = rw e k; opened = rw e s }
+    sides (yes e) = record { known = rw (apart-count i ws ws′ a) (o .known); receives = rw e k; opened = rw e s }
     sides (no n) = owed-other i ws ws′ a w o n
 
--- ---- a sender's turn: nothing is owed to it
+-- ---- a turn of an entry that nothing is owed to
 
 module _ (t ws b : List ℕ) (l : Lists) (g : Good t ws b l) (i : ℕ) (li : i < countIn ws) where
-  low : i < 16
-  low = let c = count-low t ws b l g in omega arith
-
   pub book-turn : (b′ : List ℕ) (l′ : Lists) → Within i b b′ l l′ → Entered b′ l′ i (endOf ws i) → Good t ws b′ l′
   book-turn b′ l′ v e = framed i ws ws (apart-same i ws) t b b′ l l′ g v li (g .acks) (g .owed) e
 
+  pub free-turn : ((w : ℕ) → List·Memᴰ w (acksIn ws) → w / 256 ≢ i) → (s : State) (r : Run) → StateFits s → RunFits r → r .window .size ≡ endOf ws i .run .window .size
+      → (b′ : List ℕ) (l′ : Lists) → Within i b b′ l l′ → Entered b′ l′ i (turnedTo (endOf ws i) s r) → Good t (saved ws i s r) b′ l′
+  free-turn free s r sf rf size b′ l′ v e =
+      let a = apart-saved i ws s r in
+      let same = saved-acks ws i s r in
+      framed i ws (saved ws i s r) a t b b′ l l′ g v li (rw (same .0) (g .acks))
+      (λ w m. let n = subst (λ (ws : List ℕ). List·Memᴰ w ws) (same .1) m in owed-other i ws (saved ws i s r) a w (g .owed w n) (free w n))
+      (subst (Entered b′ l′ i) (sym (end-saved ws i s r (g .long) (entry-low t ws b l g i li) sf rf size)) e)
+
+  -- nothing is owed to one that is not open
+  pub not-owed : (endOf ws i .state ≡ Open → ⊥) → (w : ℕ) → List·Memᴰ w (acksIn ws) → w / 256 ≢ i
+  not-owed n w m e = n (subst (λ (j : ℕ). endOf ws j .state ≡ Open) e (g .owed w m .opened))
+
+  -- nor to a sender
   pub sender-turn : isSends (endOf ws i .entry .kind) ≡ true → (s : State) (r : Run) → StateFits s → RunFits r → r .window .size ≡ endOf ws i .run .window .size
       → (b′ : List ℕ) (l′ : Lists) → Within i b b′ l l′ → Entered b′ l′ i (turnedTo (endOf ws i) s r) → Good t (saved ws i s r) b′ l′
-  sender-turn k s r sf rf size b′ l′ v e =
-      framed i ws (saved ws i s r) a t b b′ l l′ g v li (rw (same .0) (g .acks))
-      (λ w m. let o = g .owed w (subst (λ (ws : List ℕ). List·Memᴰ w ws) (same .1) m) in
-      owed-other i ws (saved ws i s r) a w o (λ h. true≢false (sym k ∙ subst (λ (j : ℕ). isSends (endOf ws j .entry .kind) ≡ false) h (o .receives))))
-      (subst (Entered b′ l′ i) (sym (end-saved ws i s r (g .long) low sf rf size)) e)
-    where
-      a : Apart i ws (saved ws i s r)
-      a = apart-saved i ws s r
-
-      same : (waitingOf (saved ws i s r) ≡ waitingOf ws) × (acksIn (saved ws i s r) ≡ acksIn ws)
-      same = acks-ext ws (saved ws i s r) (λ k h. saved-head ws i s r k h)
+  sender-turn k =
+      free-turn (λ w m e. true≢false (sym k ∙ subst (λ (j : ℕ). isSends (endOf ws j .entry .kind) ≡ false) e (g .owed w m .receives)))
 
 -- ---- the ring: words 4, 5 and 32 to 63 alone
 

@@ -27,15 +27,16 @@ use Rattle.ends.specs.declared.State.{State}
 use Rattle.ends.specs.declared.State.the-variants.{Open}
 use Rattle.ends.specs.declared.Run.{Run}
 use Rattle.ends.specs.declared.EndPoint.{EndPoint}
-use Rattle.slots.specs.Slots.{cell, spot, past, lengthIn, timerIn}
+use Rattle.slots.specs.Slots.{cell, spot, past, lengthIn}
 use Rattle.sending.specs.Sending.{urgentTests, urgentAnswer, urgentRun, urged, urgentAfter}
 use Rattle.good.specs.Good.{Lists, Lines, Ranged, mine, Resends, Sending, OpenSender, Entered, Good}
 use Rattle.good.proofs.Members.{mine-all, mine-append, mine-own}
 use Rattle.good.proofs.Lined.{added, append-cells}
-use Rattle.good.proofs.Framing.{Within, within-append, apart-saved}
+use Rattle.good.proofs.Known.{is-open, stated-as, entered-as}
+use Rattle.good.proofs.Framing.{Within, within-append, apart-saved, entry-low}
 use Rattle.good.proofs.Offsets.{urgent-owner, urgent-ranged}
 use Rattle.good.proofs.Turns.{run-fits, state-fits, turnedTo, end-saved, sender-turn, Kept, kept-same}
-use Rattle.good.proofs.SendKeeps.{open-sender, sender-open, is-open, entry-low}
+use Rattle.good.proofs.Senders.{resends-kept}
 
 -- ---- what waits
 
@@ -97,14 +98,8 @@ module _ (b : List ℕ) (l : Lists) (L : Lines b l) (i : ℕ) (low : i < 16) (e 
   urged-resends : Resends book lists i (urgentRun (e .run) n)
   unfolding urgentRun
   urged-resends =
-      let timer : (k : ℕ) → timerIn book (cell i (e .run .window) (past (e .run .window) k)) ≡ timerIn b (cell i (e .run .window) (past (e .run .window) k))
-      = λ k. cells (timerAt (cell i (e .run .window) (past (e .run .window) k))) (omega arith) in
-      record {
-        each = λ x m. let p = o .resends .each x m in
-            record { at = p .at; handed = p .handed; missing = p .missing; idle = timer (p .at) ∙ p .idle; is = p .is };
-        all = λ x p. o .resends .all x
-            (record { at = p .at; handed = p .handed; missing = p .missing; idle = sym (timer (p .at)) ∙ p .idle; is = p .is });
-      }
+      resends-kept b book l lists i (e .run) (urgentRun (e .run) n) refl refl
+      (λ k. cells (timerAt (cell i (e .run .window) (past (e .run .window) k))) (omega arith)) refl (o .resends)
 
   urged-open : (s : State) → OpenSender book lists i (turnedTo e s (urgentRun (e .run) n))
   unfolding urgentRun
@@ -186,7 +181,7 @@ module _ (t : List ℕ) (x : Lent) (l : Lists) (i : ℕ) (p : List ℕ) (g : Goo
   low = entry-low t (x .node) (x .book) l g i (d .known)
 
   was : OpenSender (x .book) l i e
-  was = open-sender (x .book) l i e (d .sends) (d .opened) (g .entered i (d .known))
+  was = stated-as (x .book) l i e (g .entered i (d .known)) true (d .sends) Open (d .opened)
 
   none : (q : ℕ) → q < 4 → List·Memᴰ (urgentId i) (l q) → ⊥
   none = urgent-waits t (x .node) (x .book) l g i (d .known) was (d .waits)
@@ -199,8 +194,8 @@ module _ (t : List ℕ) (x : Lent) (l : Lists) (i : ℕ) (p : List ℕ) (g : Goo
 
   now : Entered (urged x i e p .book) (added l urgents (urgentId i)) i after
   now =
-      sender-open (urged x i e p .book) (added l urgents (urgentId i)) i after (d .sends) (d .opened)
-      (rw (urged-window (e .run) (length p)) (g .entered i (d .known) .window))
+      entered-as (urged x i e p .book) (added l urgents (urgentId i)) i after (rw (urged-window (e .run) (length p)) (g .entered i (d .known) .window))
+      true (d .sends) Open (d .opened)
       (urged-open (x .book) l (g .lines) i low e was (d .waits) (length p) (d .some) (d .most) none (e .state))
 
   within : Within i (x .book) (urged x i e p .book) l (added l urgents (urgentId i))

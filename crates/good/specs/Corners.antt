@@ -8,7 +8,7 @@ use lib.ListN.{length}
 use Rattle.memory.specs.Layout.{entryAt, prevAt, lengthAt, retriesAt}
 use Rattle.waiting.specs.Acks.{waitingOf}
 use Rattle.table.specs.Layout.{entryOf}
-use Rattle.table.specs.Areas.{slotsOf, storeOf}
+use Rattle.table.specs.Areas.{slotsOf}
 use Rattle.ends.specs.Ends.{endOf}
 use Rattle.ends.specs.Heads.{countIn, needIn}
 use Rattle.ends.specs.States.{isSends}

@@ -7,10 +7,7 @@ use lib.ListN.{length}
 use lib.Dec.{eqb}
 use Rattle.units.specs.Refusals.{pick}
 use Rattle.window.specs.Windows.{acceptOf}
-use Rattle.table.specs.Layout.{entryOf}
-use Rattle.table.specs.Areas.{slotsOf}
 use Rattle.table.specs.declared.Entry.{Entry}
-use Rattle.table.proofs.Places.{slot-of-window}
 use Rattle.frame.specs.Layout.{payloadOf}
 use Rattle.frame.specs.declared.FrameType.{FrameType}
 use Rattle.frame.specs.declared.FrameType.the-variants as type
@@ -31,11 +28,10 @@ use Rattle.receiving.specs.Receiving.{resetAnswer, resetAfter, dataAnswer, data
 use Rattle.arriving.specs.Arriving.{delivers, takenAnswer, takenAfter, arrivalAfter}
 use Rattle.good.specs.Good.{Lists, Good}
 use Rattle.good.specs.Calls.{Memory, lent, arrives, answer, after}
-use Rattle.good.proofs.Framing.{slot-lt}
 use Rattle.good.proofs.Arrivals.{Taken, Refused}
 use Rattle.promise.specs.History.{s-quiet, r-quiet}
 use Rattle.promise.specs.Link.{isDone, s-came, s-seen, r-came, r-seen}
-use Rattle.promise.proofs.Stores.{end-size}
+use Rattle.promise.proofs.Stores.{slot-low}
 use Rattle.promise.proofs.Views.{Stored, unaltered, put}
 use Rattle.promise.proofs.SenderLaw.{refused-done}
 
@@ -92,12 +88,6 @@ module _ (n : Memory) (block f : List ℕ) where
 
 -- ---- what is stored
 
--- the slot of any number lies in its entry's part
-pub slot-inside : (t : List ℕ) (n : Memory) (l : Lists) → Good t (n .node) (n .book) l → (k : ℕ) → k < countIn (n .node) → (s : ℕ)
-    → slotFor (endOf (n .node) k .run .window) s < slotsOf (entryOf t k .kind) (entryOf t k .window)
-slot-inside t n l g k lk s =
-    slot-of-window (entryOf t k) _ (rw (← end-size t (n .node) (n .book) l g k lk) (slot-lt (endOf (n .node) k .run .window) s (g .entered k lk .window)))
-
 module _ (t : List ℕ) (n : Memory) (block : List ℕ) (l : Lists) (G : Good t (n .node) (n .book) l) (k : ℕ) (lk : k < countIn (n .node)) (s : ℕ) (p : List ℕ) where
   -- Data that is new puts its payload in its slot; nothing else is stored
   taken-stored : (q : FrameType) → (delivers q ≡ true → length p ≤ endOf (n .node) k .entry .largest)
@@ -106,7 +96,7 @@ module _ (t : List ℕ) (n : Memory) (block : List ℕ) (l : Lists) (G : Good t 
   taken-stored type.Data m = sides (isNew (acceptOf (endOf (n .node) k .run .window) s .found))
     where
       sides : (z : Bool) → Stored t n (pick z (taken (lent n block) k (endOf (n .node) k) s p) (repeated (lent n block) k s) .store) k
-      sides true = put (slotFor (endOf (n .node) k .run .window) s) p lk (slot-inside t n l G k lk s) (m refl) refl
+      sides true = put (slotFor (endOf (n .node) k .run .window) s) p lk (slot-low t (n .node) (n .book) l G k lk s) (m refl) refl
       sides false = unaltered refl
   taken-stored type.Acknowledge m = unaltered refl
   taken-stored type.Reset m = unaltered refl

@@ -6,7 +6,8 @@ use mathlib.Core.Logic.{_≢_}
 use mathlib.Core.Bool.{Bool, true, false, true≢false, false≢true}
 use mathlib.Core.List.{List, []}
 use native.Mathlib.Omega.{arith}
-use lib.ListN.{length}
+use lib.ListN.{length, take}
+use lib.Seq.{sets}
 use lib.Dec.{eqb, ltb}
 use borrow.Author.Tests.{eqb-true, eq-eqb, ltb-false, le-leb}
 use Rattle.units.specs.Refusals.{pick}
@@ -42,14 +43,14 @@ use Rattle.good.specs.Good.{Lists, Good}
 use Rattle.good.specs.Calls.{Memory, lent, hands-out, answer}
 use Rattle.good.proofs.Finding.{Fitting}
 use Rattle.promise.specs.History.{s-quiet, s-resets, s-sends, r-quiet, r-acks}
-use Rattle.promise.specs.Link.{names, frameIn, s-out, s-seen, r-out, r-seen}
+use Rattle.promise.specs.Link.{names, s-out, s-seen, r-out, r-seen}
 use Rattle.promise.proofs.Stores.{read-own, end-entry}
 use Rattle.promise.proofs.SenderLaw.{refused-done}
 
 -- ---- which entry a frame names
 
 names-true : (e : Entry) (address channel : ℕ) → e .remote .0 ≡ address → e .channel .0 ≡ channel → names e address channel ≡ true
-names-true e address channel p q = rw (eq-eqb (e .remote .0) address p, eq-eqb (e .channel .0) channel q)
+names-true e address channel p q = simp (eq-eqb (e .remote .0) address p, eq-eqb (e .channel .0) channel q)
 
 same-kind : (a b : Kind) → isSends a ≡ isSends b → a ≡ b
 same-kind Sends Sends h = refl
@@ -242,15 +243,15 @@ module _ (n : Memory) (buffer : List ℕ) where
     room : length (frameOut (lent n buffer) next) ≤ length buffer
     room = subst (λ (z : Next). length (frameOut (lent n buffer) z) ≤ length buffer) sort (frame-room (lent n buffer) _ e)
 
-    pub frame-in : frameIn (answer n (hands-out buffer)) ≡ frameOut (lent n buffer) next
-    unfolding answer handAfter
-    frame-in = rw (e, sort) (read-own buffer (frameOut (lent n buffer) next) 0 (omega (arith, room)))
+    -- it stands in the buffer
+    frame-in : take (length (frameOut (lent n buffer) next)) (sets buffer 0 (frameOut (lent n buffer) next)) ≡ frameOut (lent n buffer) next
+    frame-in = read-own buffer (frameOut (lent n buffer) next) 0 (omega (arith, room))
 
     pub s-seen-out : (o : Entry) (i : ℕ)
         → s-seen o i (hands-out buffer) (answer n (hands-out buffer)) ≡ s-out o (readOf (frameOut (lent n buffer) next)) (payloadOf (frameOut (lent n buffer) next))
     unfolding s-seen answer handAfter
-    s-seen-out o i = rw (e, sort, read-own buffer (frameOut (lent n buffer) next) 0 (omega (arith, room)))
+    s-seen-out o i = rw (e, sort, frame-in)
 
     pub r-seen-out : (o : Entry) (j : ℕ) → r-seen o j (hands-out buffer) (answer n (hands-out buffer)) ≡ r-out o (readOf (frameOut (lent n buffer) next))
     unfolding r-seen answer handAfter
-    r-seen-out o j = rw (e, sort, read-own buffer (frameOut (lent n buffer) next) 0 (omega (arith, room)))
+    r-seen-out o j = rw (e, sort, frame-in)

@@ -125,7 +125,7 @@ blank-running W g bg ea bl zs rs y = record {
   };
   receiving = record {
     ahead = omega (arith, ld);
-    prefix = ed0 ∙ ap (λ (x : ℕ). take x (g .hist .accepted)) (sym ld);
+    prefix = none-given ∙ ap (λ (x : ℕ). take x (g .hist .accepted)) (sym ld);
     holding = record { held-in = λ i h. absurd (true≢false (sym h)); held-is = λ i h. absurd (true≢false (sym h)) };
     gap = refl;
   };
@@ -138,18 +138,18 @@ blank-running W g bg ea bl zs rs y = record {
   begun = bg;
   frames = λ x m. reset-ok x (rs x m);
   answers = λ j a. absurd (let z = zs (suc j) a in omega arith);
-  quiet = λ e. (ed0, λ i. refl);
+  quiet = λ e. (none-given, λ i. refl);
   bytes = y;
 }
   where
-    ed0 : g .hist .delivered ≡ []
-    ed0 = bl .undelivered
+    none-given : g .hist .delivered ≡ []
+    none-given = bl .undelivered
 
     la : length (g .hist .accepted) ≡ 0
     la = ap length ea
 
     ld : length (g .hist .delivered) ≡ 0
-    ld = ap length ed0
+    ld = ap length none-given
 
     reset-ok : (x : Sent) → IsReset x → SentOk (g .hist .accepted) x
     reset-ok reset t = tt

@@ -1,25 +1,21 @@
 -- The promise is kept: every call on the sender's node is a step of the sending end point, every call on the receiver's node one of the
 -- receiving end point, so what holds of one channel holds of the two nodes. Assumes nothing.
-use Prim.Native.Nat.{ℕ, _≤_, _<_}
-use mathlib.Core.Path.{_≡_, refl, sym, ap, subst, _∙_}
+use Prim.Native.Nat.{ℕ, _<_}
+use mathlib.Core.Path.{_≡_, sym, subst}
 use mathlib.Core.Bool.{true, false}
 use mathlib.Core.List.{List}
 use native.Mathlib.Omega.{arith}
 use Rattle.units.specs.Sizes.{isSize}
 use Rattle.table.specs.Layout.{countOf, entryOf}
 use Rattle.table.specs.Rules.{goodTable}
-use Rattle.table.specs.declared.Entry.{Entry}
 use Rattle.table.specs.declared.Kind.the-variants.{Sends, Receives}
 use Rattle.table.proofs.Good.{good-entry}
-use Rattle.ends.specs.Ends.{endOf}
 use Rattle.ends.specs.Heads.{countIn}
-use Rattle.ends.specs.States.{isSends}
-use Rattle.good.specs.Good.{Lists, Good}
-use Rattle.good.specs.Calls.{Memory, Call, opens, closes, counts, sends, urges, arrives, hands-out, ticks, answer, after, Fed, SetUp}
+use Rattle.good.specs.Calls.{Memory, Call, opens, closes, counts, sends, urges, arrives, hands-out, ticks, Fed, SetUp}
 use Rattle.good.proofs.ReachGood.{setup-holds}
 use Rattle.promise.specs.History.{Pay, s-enabled, Live}
 use Rattle.promise.specs.Promise.{SSide, RSide, Reach, at-setup, by-call, Kept, Sys, begin, Moves, Demand3}
-use Rattle.promise.specs.Link.{Event, Did, sender, receiver, s-seen, r-seen, Paired, Promise}
+use Rattle.promise.specs.Link.{Event, Did, sender, receiver, s-seen, r-seen, Promise}
 use Rattle.promise.proofs.Channel.{Send, Recv}
 use Rattle.promise.proofs.Laws.{SNext, RNext, SLaws, RLaws}
 use Rattle.promise.proofs.Lifting.{demand-3-nodes}

@@ -34,28 +34,21 @@ use Rattle.receiving.proofs.Taking.{dataAfter-new, dataAfter-other}
 use Rattle.arriving.specs.Arriving.{answered, takenAfter, arrivalAfter}
 use Rattle.good.specs.Good.{Lists, Good}
 use Rattle.good.specs.Calls.{Memory, arrives, lent, kept, answer, after, Bytes}
-use Rattle.good.proofs.Turns.{turnedTo}
-use Rattle.good.proofs.OpenKeeps.{anew-fresh}
-use Rattle.good.proofs.SendKeeps.{entry-low}
+use Rattle.good.proofs.Framing.{entry-low}
+use Rattle.good.proofs.Turns.{turnedTo, anew-fresh, ring-of, saved-acks}
 use Rattle.good.proofs.ReceiveKeeps.{reset-acks, reset-end, reset-keeps}
 use Rattle.good.proofs.Finding.{Fitting}
-use Rattle.good.proofs.Arrivals.{Taken, Refused, arrives as arrival}
+use Rattle.good.proofs.Arrivals.{Taken, Refused, taken-kind, arrives as arrival}
 use Rattle.good.proofs.ArriveKeeps.{arrive-keeps}
 use Rattle.promise.specs.History.{RSeen, r-quiet, r-resets}
 use Rattle.promise.specs.Link.{names, r-came, owedTo, r-seen}
 use Rattle.promise.proofs.Channel.{Recv, Up, r-reset}
 use Rattle.promise.proofs.Laws.{rn-same, rn-reset}
-use Rattle.promise.proofs.Views.{r-state-of, payloadOf, REnd, RView, r-elsewhere}
+use Rattle.promise.proofs.Views.{r-state-of, payloadOf, REnd, RView, fresh-held, r-elsewhere}
 use Rattle.promise.proofs.Frames.{fit-own, fit-other}
 use Rattle.promise.proofs.Arriving.{r-seen-back, after-back, r-seen-in, arrive-stored}
 use Rattle.promise.proofs.Owing.{owed-push, owed-push-other, owed-dropped, owed-dropped-other}
-use Rattle.promise.proofs.ReceiverLaw.{RStep, RLaw, r-still, r-same, r-turned, saved-acks, never-failing}
-use Rattle.promise.proofs.ReceiverOpens.{anew-none}
-
--- ---- the kind of the entry that takes it in
-taken-kind : (x : Lent) (f : List ℕ) (a : Taken x f) → isSends (endOf (x .node) (a .entry) .entry .kind) ≡ forSender (a .header .kind)
-unfolding endOf
-taken-kind x f a = a .fit .kind
+use Rattle.promise.proofs.ReceiverLaw.{RStep, RLaw, r-still, r-same, r-turned, never-failing}
 
 -- ---- what it leaves of other entries' acknowledgements
 
@@ -66,16 +59,16 @@ either-acks false ws vs h = refl
 ack-acks : (ws b : List ℕ) (i : ℕ) (e : EndPoint) (st : State) (s : ℕ) → acksIn (ackNode ws b i e st s) ≡ acksIn ws
 unfolding ackNode
 ack-acks ws b i e Closed s = refl
-ack-acks ws b i e (Enabled t sent) s = either-acks (sent && eqb s 0) ws _ (saved-acks ws i Open (openedRun (e .run)))
-ack-acks ws b i e Open s = either-acks (counts (e .run) s) ws _ (saved-acks ws i Open (ackedRun (e .run) s))
-ack-acks ws b i e (Failing n) s = either-acks (counts (e .run) s) ws _ (saved-acks ws i _ (ackedRun (e .run) s))
+ack-acks ws b i e (Enabled t sent) s = either-acks (sent && eqb s 0) ws _ (saved-acks ws i Open (openedRun (e .run)) .1)
+ack-acks ws b i e Open s = either-acks (counts (e .run) s) ws _ (saved-acks ws i Open (ackedRun (e .run) s) .1)
+ack-acks ws b i e (Failing n) s = either-acks (counts (e .run) s) ws _ (saved-acks ws i _ (ackedRun (e .run) s) .1)
 
 module _ (t : List ℕ) (n : Memory) (block : List ℕ) (l : Lists) (g : Good t (n .node) (n .book) l) (i : ℕ) (li : i < countIn (n .node)) (s : ℕ) (byte : s < 256) (p : List ℕ) where
   abbrev e : EndPoint
   e = endOf (n .node) i
 
   ring : Ring (n .node)
-  ring = record { long = omega (arith, g .long); most = g .acks }
+  ring = ring-of t (n .node) (n .book) l g
 
   low : i < 256
   low = omega (arith, entry-low t (n .node) (n .book) l g i li)
@@ -90,13 +83,13 @@ module _ (t : List ℕ) (n : Memory) (block : List ℕ) (l : Lists) (g : Good t 
         sides : (z : Bool) → isNew (acceptOf (e .run .window) s .found) ≡ z → owedTo j (acksIn (dataAfter (lent n block) i e s p .node)) ≡ owedTo j (acksIn (n .node))
         sides true h =
             rw (dataAfter-new (lent n block) i e s p h)
-            (ap (owedTo j) (saved-acks (acknowledged (n .node) i s) i (e .state) (withWindow (e .run) (passing e s .window))) ∙ pushes)
+            (ap (owedTo j) (saved-acks (acknowledged (n .node) i s) i (e .state) (withWindow (e .run) (passing e s .window)) .1) ∙ pushes)
         sides false h = rw (dataAfter-other (lent n block) i e s p h) pushes
 
     reset-owed : isSends (e .entry .kind) ≡ false → waitingOf (n .node) < 32 → owedTo j (acksIn (resetAfter (lent n block) i e .node)) ≡ owedTo j (acksIn (n .node))
     unfolding resetAfter resetNode
     reset-owed k w =
-        ap (owedTo j) (saved-acks (acknowledged (dropped i (n .node)) i 0) i Open (anew (e .run)) ∙ reset-acks t (lent n block) l g i li k w)
+        ap (owedTo j) (saved-acks (acknowledged (dropped i (n .node)) i 0) i Open (anew (e .run)) .1 ∙ reset-acks t (lent n block) l g i li k w)
         ∙ owed-push-other j i 0 (notOf i (acksIn (n .node))) low (omega arith) d
         ∙ owed-dropped-other j i (acksIn (n .node)) d
 
@@ -123,7 +116,7 @@ module _ (u : List ℕ) (j : ℕ) (n : Memory) (r : Recv) (v : RView u j n r) (b
   reset-waits : waitingOf (n .node) < 32 → owedTo j (acksIn (resetTo .node)) ≡ 0 ∷ []
   unfolding resetAfter resetNode
   reset-waits w =
-      ap (owedTo j) (saved-acks (acknowledged (dropped j (n .node)) j 0) j Open (anew (endOf (n .node) j .run))
+      ap (owedTo j) (saved-acks (acknowledged (dropped j (n .node)) j 0) j Open (anew (endOf (n .node) j .run)) .1
       ∙ reset-acks u (lent n block) (v .lists) (v .good) j (v .known) (v .receives) w)
       ∙ owed-push j 0 (notOf j (acksIn (n .node))) (omega (arith, entry-low u (n .node) (n .book) (v .lists) (v .good) j (v .known))) (omega arith)
       ∙ rw (owed-dropped j (acksIn (n .node)))
@@ -137,14 +130,14 @@ module _ (u : List ℕ) (j : ℕ) (n : Memory) (r : Recv) (v : RView u j n r) (b
         state = refl;
         start = ap (λ (x : Window). x .start .0) (sym fresh);
         marks = λ k. sym (ap (λ (x : Window). held x k) fresh ∙ new-held (anew run .window .size) k);
-        slots = λ k h. absurd (anew-none run k h);
+        slots = λ k h. absurd (fresh-held (anew run) (anew-fresh run) k h);
         waiting = sym (reset-waits w);
       }
 
   reset-step : isClosed (endOf (n .node) j .state) ≡ false → waitingOf (n .node) < 32 → RStep u j r-resets resetTo r
   unfolding resetAfter
   reset-step c w =
-      let k = reset-keeps u (lent n block) (v .lists) (v .good) j (v .known) (v .receives) c w in
+      let k = reset-keeps u (lent n block) (v .lists) (v .good) j (v .known) (v .receives) w in
       let up = up-of (endOf (n .node) j .state) c (never-failing u (n .node) (n .book) (v .lists) (v .good) j (v .known) (v .receives)) in (
         r-reset r,
         rn-reset r (rw (v .end .state) up),

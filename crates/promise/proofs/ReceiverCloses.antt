@@ -24,6 +24,7 @@ use Rattle.ends.specs.declared.Run.{Run}
 use Rattle.ends.specs.declared.EndPoint.{EndPoint}
 use Rattle.opening.specs.Opening.{closeAnswer, closeAfter}
 use Rattle.good.specs.Calls.{Memory, closes, bare, keptBare, answer, after}
+use Rattle.good.proofs.Turns.{ring-of, saved-acks}
 use Rattle.good.proofs.CloseKeeps.{close-keeps, close-known, close-passed}
 use Rattle.promise.specs.History.{RSeen, r-quiet}
 use Rattle.promise.specs.History as history
@@ -33,15 +34,15 @@ use Rattle.promise.proofs.Laws.{rn-same, rn-close}
 use Rattle.promise.proofs.Views.{r-state-of, RView, unaltered, r-elsewhere, r-view, r-first-view}
 use Rattle.promise.proofs.SenderLaw.{refused-done}
 use Rattle.promise.proofs.Owing.{owed-dropped, owed-dropped-other}
-use Rattle.promise.proofs.ReceiverLaw.{RStep, RLaw, saved-acks}
+use Rattle.promise.proofs.ReceiverLaw.{RStep, RLaw}
 
 -- ---- the acknowledgements
 
 -- a receiver's are dropped
 close-acks : (ws : List ℕ) → Ring ws → (i : ℕ) (r : Run) (k : Bool)
     → acksIn (saved (pick k ws (dropped i ws)) i Closed r) ≡ pick k (acksIn ws) (notOf i (acksIn ws))
-close-acks ws ring i r true = saved-acks ws i Closed r
-close-acks ws ring i r false = saved-acks (dropped i ws) i Closed r ∙ drop-acks i ws ring
+close-acks ws ring i r true = saved-acks ws i Closed r .1
+close-acks ws ring i r false = saved-acks (dropped i ws) i Closed r .1 ∙ drop-acks i ws ring
 
 -- and so none of another's
 owed-either : (j i : ℕ) (xs : List ℕ) (k : Bool) → i ≢ j → owedTo j (pick k xs (notOf i xs)) ≡ owedTo j xs
@@ -63,7 +64,7 @@ module _ (u : List ℕ) (j : ℕ) (n : Memory) (r : Recv) (v : RView u j n r) wh
   seen i = pick (isDone (answerOf (closeAnswer (bare n) i)) && eqb i j) history.r-closes r-quiet
 
   ring : Ring (n .node)
-  ring = record { long = omega (arith, v .good .long); most = v .good .acks }
+  ring = ring-of u (n .node) (n .book) (v .lists) (v .good)
 
   own : closeAnswer (bare n) j ≡ Passed → RStep u j (seen j) (left j) r
   own h =

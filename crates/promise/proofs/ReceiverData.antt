@@ -15,7 +15,6 @@ use borrow.Author.Tests.{lt-ltb}
 use Rattle.units.specs.Refusals.{pick}
 use Rattle.waiting.specs.Acks.{waitingOf}
 use Rattle.order.specs.Order.{acksIn}
-use Rattle.kept.proofs.Kept.{saved-head}
 use Rattle.window.specs.Numbers.{distanceOf, byteOf, slotOf}
 use Rattle.window.specs.Windows.{offsetOf, insideOf, held, acceptOf, passOf, runOf, Good as GoodWindow}
 use Rattle.window.specs.declared.Window.{Window}
@@ -25,7 +24,6 @@ use Rattle.window.proofs.Holding.{held-below}
 use Rattle.window.proofs.WindowLaw.{distance-back}
 use Rattle.table.specs.Layout.{entryOf}
 use Rattle.table.specs.Areas.{slotsOf}
-use Rattle.table.proofs.Places.{slot-of-window}
 use Rattle.frame.specs.Layout.{payloadOf as payloadIn}
 use Rattle.frame.specs.declared.FrameType.{FrameType}
 use Rattle.frame.specs.declared.FrameType.the-variants as type
@@ -43,18 +41,18 @@ use Rattle.receiving.proofs.Taking.{dataAfter-new, dataAfter-other}
 use Rattle.lookup.specs.Lookup.{forSender}
 use Rattle.arriving.specs.Arriving.{delivers, answered, blockRoom, takenAfter, arrivalAfter}
 use Rattle.good.specs.Calls.{Memory, arrives, Bytes, lent, kept, answer, after}
-use Rattle.good.proofs.Framing.{count-low, slot-lt}
-use Rattle.good.proofs.Offsets.{slot-inj}
-use Rattle.good.proofs.Turns.{turnedTo, acks-ext, push-end, Kept}
+use Rattle.good.proofs.Framing.{entry-low}
+use Rattle.good.proofs.Offsets.{slot-inj, cell-pass}
+use Rattle.good.proofs.Turns.{turnedTo, ring-of, saved-acks, push-end, Kept}
 use Rattle.good.proofs.Arrivals.{Taken}
-use Rattle.good.proofs.ReceiveKeeps.{cell-pass, offset-lt, length-own, length-other, data-end, data-acks, data-keeps}
+use Rattle.good.proofs.ReceiveKeeps.{offset-lt, length-own, length-other, data-end, data-acks, data-keeps}
 use Rattle.promise.specs.History.{Pay, RSeen, r-takes}
 use Rattle.promise.specs.Link.{names, owedTo, r-seen}
 use Rattle.promise.proofs.Windows.{mark, run, put, put-same, put-other}
 use Rattle.promise.proofs.Channel.{Recv, outs, Taken as Given, r-data, r-take, r-drop}
 use Rattle.promise.proofs.Laws.{RNext, rn-data}
-use Rattle.promise.proofs.Stores.{read-own, slots-stay, slot-room, end-size}
-use Rattle.promise.proofs.Views.{r-state-of, RView, REnd, payloadOf, r-filled, slot-of}
+use Rattle.promise.proofs.Stores.{read-own, slots-stay, slot-room, slot-low, end-size}
+use Rattle.promise.proofs.Views.{r-state-of, RView, REnd, payloadBy, payloadOf, r-filled, slot-of}
 use Rattle.promise.proofs.Accepted.{new-is, marks-then, run-is}
 use Rattle.promise.proofs.Payloads.{payloads-outs, length-none, block-fits}
 use Rattle.promise.proofs.Frames.{fit-own}
@@ -64,10 +62,10 @@ use Rattle.promise.proofs.Owing.{owed-push}
 
 -- the entry's end point, and what is owed to it, by other names
 end-as : (W : ℕ) (m : Memory) (j : ℕ) (e : EndPoint) (l : List ℕ) (r : Recv) → endOf (m .node) j ≡ e → owedTo j (acksIn (m .node)) ≡ l
-    → REnd W e (λ (k : ℕ). payloadAt (m .store) (m .book) j (e .place) (e .entry .largest) (e .run .window) k) l r
+    → REnd W e (payloadBy (m .store) (m .book) j e) l r
     → REnd W (endOf (m .node) j) (payloadOf m j) (owedTo j (acksIn (m .node))) r
 end-as W m j e l r q o h =
-    rw o (subst (λ (e : EndPoint). REnd W e (λ (k : ℕ). payloadAt (m .store) (m .book) j (e .place) (e .entry .largest) (e .run .window) k) l r) (sym q) h)
+    rw o (subst (λ (e : EndPoint). REnd W e (payloadBy (m .store) (m .book) j e) l r) (sym q) h)
 
 module _ (u : List ℕ) (j : ℕ) (n : Memory) (r : Recv) (v : RView u j n r) (s : ℕ) (byte : s < 256) where
   abbrev e : EndPoint
@@ -92,7 +90,7 @@ module _ (u : List ℕ) (j : ℕ) (n : Memory) (r : Recv) (v : RView u j n r) (s
   good-a = accept-good w s good-w
 
   low : j < 16
-  low = let c = count-low u (n .node) (n .book) (v .lists) (v .good) in let k = v .known in omega arith
+  low = entry-low u (n .node) (n .book) (v .lists) (v .good) j (v .known)
 
   -- the test on bytes is the window's
   tested : (ltb (distanceOf (r .start) s) W && not (r .held (distanceOf (r .start) s))) ≡ isNew (acceptOf w s .found)
@@ -102,17 +100,17 @@ module _ (u : List ℕ) (j : ℕ) (n : Memory) (r : Recv) (v : RView u j n r) (s
 
   module _ (p : List ℕ) (o : endOf (n .node) j .state ≡ state.Open) (some : 1 ≤ length p) (most : length p ≤ endOf (n .node) j .entry .largest)
       (waits : waitingOf (n .node) < 32) (new : isNew (acceptOf (endOf (n .node) j .run .window) s .found) ≡ true) where
-    abbrev b′ : List ℕ
-    b′ = putBook (n .book) j e s p
+    abbrev book-then : List ℕ
+    book-then = putBook (n .book) j e s p
 
-    abbrev st′ : List ℕ
-    st′ = putStore (n .store) e s p
+    abbrev store-then : List ℕ
+    store-then = putStore (n .store) e s p
 
     inside : insideOf w s ≡ true
     inside = lt-ltb (offsetOf w s) (w .size) (offset-lt (n .book) (v .good .lines .long) j low w good-w s byte new)
 
     slot-in : (q : ℕ) → slotFor w q < slotsOf (entryOf u j .kind) W
-    slot-in q = slot-of-window (entryOf u j) (slotFor w q) (rw (← size) (slot-lt w q good-w))
+    slot-in = slot-low u (n .node) (n .book) (v .lists) (v .good) j (v .known)
 
     fits : spot (e .place) (e .entry .largest) (slotFor w s) + length p ≤ length (n .store)
     fits =
@@ -121,7 +119,7 @@ module _ (u : List ℕ) (j : ℕ) (n : Memory) (r : Recv) (v : RView u j n r) (s
         omega arith
 
     -- what was taken lies in its slot
-    own-there : payloadAt st′ b′ j (e .place) (e .entry .largest) w (offsetOf w s) ≡ p
+    own-there : payloadAt store-then book-then j (e .place) (e .entry .largest) w (offsetOf w s) ≡ p
     own-there =
         rw (length-own (n .book) (v .good .lines .long) j low w good-w s byte new (length p), distance-back (w .start .0) s (good-w .byte) byte)
         (read-own (n .store) p (spot (e .place) (e .entry .largest) (slotFor w s)) fits)
@@ -133,7 +131,7 @@ module _ (u : List ℕ) (j : ℕ) (n : Memory) (r : Recv) (v : RView u j n r) (s
         (q ∙ ap (slotFor w) (sym (distance-back (w .start .0) s (good-w .byte) byte)))
 
     -- and what was held stays
-    others-there : (m : ℕ) → held w m ≡ true → m ≢ offsetOf w s → payloadAt st′ b′ j (e .place) (e .entry .largest) w m ≡ payloadOf n j m
+    others-there : (m : ℕ) → held w m ≡ true → m ≢ offsetOf w s → payloadAt store-then book-then j (e .place) (e .entry .largest) w m ≡ payloadOf n j m
     others-there m h d =
         rw (length-other (n .book) (v .good .lines .long) j low w good-w s byte new (length p) m (held-below w good-w m h) d)
         (slots-stay u (n .node) (n .book) (v .lists) (v .good) j j (slotFor w (past w m)) (slotFor w s) (lengthIn (n .book) (cell j w (past w m))) (n .store) p
@@ -145,10 +143,10 @@ module _ (u : List ℕ) (j : ℕ) (n : Memory) (r : Recv) (v : RView u j n r) (s
     held-then m h d = sym (accept-other w s good-w m d) ∙ h
 
     -- the slots then are what the store has for all that is held then
-    slots-then : (m : ℕ) → held a m ≡ true → put (slotOf W s) p (r .slots) (slotOf W (byteOf (r .start + m))) ≡ payloadAt st′ b′ j (e .place) (e .entry .largest) w m
+    slots-then : (m : ℕ) → held a m ≡ true → put (slotOf W s) p (r .slots) (slotOf W (byteOf (r .start + m))) ≡ payloadAt store-then book-then j (e .place) (e .entry .largest) w m
     slots-then m h = sides (ℕ-discrete m (offsetOf w s))
       where
-        sides : Dec (m ≡ offsetOf w s) → put (slotOf W s) p (r .slots) (slotOf W (byteOf (r .start + m))) ≡ payloadAt st′ b′ j (e .place) (e .entry .largest) w m
+        sides : Dec (m ≡ offsetOf w s) → put (slotOf W s) p (r .slots) (slotOf W (byteOf (r .start + m))) ≡ payloadAt store-then book-then j (e .place) (e .entry .largest) w m
         sides (yes q) =
             let f : byteOf (r .start + m) ≡ s = rw (v .end .start, q) (distance-back (w .start .0) s (good-w .byte) byte) in
             rw (f, put-same (slotOf W s) p (r .slots), q) (sym own-there)
@@ -158,10 +156,10 @@ module _ (u : List ℕ) (j : ℕ) (n : Memory) (r : Recv) (v : RView u j n r) (s
             ∙ v .end .slots m (held-then m h d) ∙ sym (others-there m (held-then m h d) d)
 
     -- and no payload is longer than the largest
-    short-then : (m : ℕ) → held a m ≡ true → length (payloadAt st′ b′ j (e .place) (e .entry .largest) w m) ≤ e .entry .largest
+    short-then : (m : ℕ) → held a m ≡ true → length (payloadAt store-then book-then j (e .place) (e .entry .largest) w m) ≤ e .entry .largest
     short-then m h = sides (ℕ-discrete m (offsetOf w s))
       where
-        sides : Dec (m ≡ offsetOf w s) → length (payloadAt st′ b′ j (e .place) (e .entry .largest) w m) ≤ e .entry .largest
+        sides : Dec (m ≡ offsetOf w s) → length (payloadAt store-then book-then j (e .place) (e .entry .largest) w m) ≤ e .entry .largest
         sides (yes q) = rw (q, own-there) most
         sides (no d) =
             rw (others-there m (held-then m h d) d)
@@ -177,21 +175,21 @@ module _ (u : List ℕ) (j : ℕ) (n : Memory) (r : Recv) (v : RView u j n r) (s
 
     -- what is delivered
     given-then : delivered (lent n []) j e s p ≡ outs W (r .start) (put (slotOf W s) p (r .slots)) 0 (runOf a)
-    given-then = rw (pass-run a) (payloads-outs st′ b′ j (e .place) (e .entry .largest) w W (r .start) (put (slotOf W s) p (r .slots)) (runOf a) (λ m h. slots-then m (run-held a m h)))
+    given-then = rw (pass-run a) (payloads-outs store-then book-then j (e .place) (e .entry .largest) w W (r .start) (put (slotOf W s) p (r .slots)) (runOf a) (λ m h. slots-then m (run-held a m h)))
 
     block-then : length (blockOf (delivered (lent n []) j e s p)) ≤ blockRoom e
     block-then =
-        rw (pass-run a) (block-fits st′ b′ j (e .place) (e .entry .largest) w (w .size) (runOf a) (rw (← accept-size w s) (run-le a good-a)) (λ m h. short-then m (run-held a m h)))
+        rw (pass-run a) (block-fits store-then book-then j (e .place) (e .entry .largest) w (w .size) (runOf a) (rw (← accept-size w s) (run-le a good-a)) (λ m h. short-then m (run-held a m h)))
 
     -- the number k past the start then is that k further on
-    moved : (k : ℕ) → payloadAt st′ b′ j (e .place) (e .entry .largest) (passOf a .window) k ≡ payloadAt st′ b′ j (e .place) (e .entry .largest) w (runOf a + k)
+    moved : (k : ℕ) → payloadAt store-then book-then j (e .place) (e .entry .largest) (passOf a .window) k ≡ payloadAt store-then book-then j (e .place) (e .entry .largest) w (runOf a + k)
     moved k =
         let c = cell-pass j w s k in
         let q : slotFor (passOf a .window) (past (passOf a .window) k) ≡ slotFor w (past w (runOf a + k)) = omega arith in
         rw (c, q)
 
     -- the end point then
-    end-then : REnd W (turnedTo e state.Open (withWindow (e .run) (passOf a .window))) (λ (k : ℕ). payloadAt st′ b′ j (e .place) (e .entry .largest) (withWindow (e .run) (passOf a .window) .window) k)
+    end-then : REnd W (turnedTo e state.Open (withWindow (e .run) (passOf a .window))) (λ (k : ℕ). payloadAt store-then book-then j (e .place) (e .entry .largest) (withWindow (e .run) (passOf a .window) .window) k)
         (owedTo j (acksIn (n .node)) ++ (s ∷ [])) (r-take W r s p .next)
     unfolding withWindow
     end-then =
@@ -204,7 +202,7 @@ module _ (u : List ℕ) (j : ℕ) (n : Memory) (r : Recv) (v : RView u j n r) (s
         }
       where
         slots-there : (k : ℕ) → held a (runOf a + k) ≡ true
-            → put (slotOf W s) p (r .slots) (slotOf W (byteOf (byteOf (r .start + runOf a) + k))) ≡ payloadAt st′ b′ j (e .place) (e .entry .largest) w (runOf a + k)
+            → put (slotOf W s) p (r .slots) (slotOf W (byteOf (byteOf (r .start + runOf a) + k))) ≡ payloadAt store-then book-then j (e .place) (e .entry .largest) w (runOf a + k)
         slots-there k h =
             let f : byteOf (byteOf (r .start + runOf a) + k) ≡ byteOf (r .start + (runOf a + k)) = omega arith in
             rw f (slots-then (runOf a + k) h)
@@ -216,8 +214,7 @@ module _ (u : List ℕ) (j : ℕ) (n : Memory) (r : Recv) (v : RView u j n r) (s
     owed-then : owedTo j (acksIn (saved (acknowledged (n .node) j s) j (e .state) (withWindow (e .run) (passOf a .window)))) ≡ owedTo j (acksIn (n .node)) ++ (s ∷ [])
     owed-then =
         ap (owedTo j)
-        (acks-ext (acknowledged (n .node) j s) (saved (acknowledged (n .node) j s) j (e .state) (withWindow (e .run) (passOf a .window)))
-        (λ k h. saved-head (acknowledged (n .node) j s) j (e .state) (withWindow (e .run) (passOf a .window)) k h) .1
+        (saved-acks (acknowledged (n .node) j s) j (e .state) (withWindow (e .run) (passOf a .window)) .1
         ∙ data-acks u (lent n []) (v .lists) (v .good) j (v .known) (v .receives) o s byte p some most waits)
         ∙ owed-push j s (acksIn (n .node)) (omega (arith, low)) byte
 
@@ -248,7 +245,7 @@ module _ (u : List ℕ) (j : ℕ) (n : Memory) (r : Recv) (v : RView u j n r) (s
   module _ (p : List ℕ) (o : endOf (n .node) j .state ≡ state.Open) (some : 1 ≤ length p) (most : length p ≤ endOf (n .node) j .entry .largest)
       (waits : waitingOf (n .node) < 32) (old : isNew (acceptOf (endOf (n .node) j .run .window) s .found) ≡ false) where
     node-same : endOf (acknowledged (n .node) j s) j ≡ e
-    node-same = push-end j (n .node) (j * 256 + s) (record { long = omega (arith, v .good .long); most = v .good .acks })
+    node-same = push-end j (n .node) (j * 256 + s) (ring-of u (n .node) (n .book) (v .lists) (v .good))
 
     view-same : (block : List ℕ) → RView u j (kept (repeated (lent n block) j s)) (r-drop r s .next)
     view-same block =

@@ -2,25 +2,22 @@
 -- nothing of it alters, and where its end point does. Assumes nothing.
 use Prim.Native.Nat.{ℕ, _<_}
 use mathlib.Core.Path.{_≡_, sym, ap, subst, _∙_}
-use mathlib.Core.Bool.{Bool, false}
+use mathlib.Core.Bool.{false}
 use mathlib.Core.List.{List}
 use native.Mathlib.Omega.{arith}
 use lib.ListN.{length}
 use Rattle.order.specs.Order.{acksIn}
-use Rattle.kept.proofs.Kept.{saved-head}
 use Rattle.table.specs.Layout.{entryOf}
 use Rattle.table.specs.declared.Entry.{Entry}
-use Rattle.ends.specs.Ends.{endOf, saved}
+use Rattle.ends.specs.Ends.{endOf}
 use Rattle.ends.specs.Heads.{countIn}
 use Rattle.ends.specs.States.{isSends}
-use Rattle.ends.specs.declared.State.{State}
 use Rattle.ends.specs.declared.State.the-variants.{Failing}
-use Rattle.ends.specs.declared.Run.{Run}
 use Rattle.ends.specs.declared.EndPoint.{EndPoint}
-use Rattle.good.specs.Good.{Lists, Stated, Good}
+use Rattle.good.specs.Good.{Lists, Good}
 use Rattle.good.specs.Calls.{Memory, Call, answer, after}
 use Rattle.good.proofs.Framing.{Apart}
-use Rattle.good.proofs.Turns.{acks-ext}
+use Rattle.good.proofs.Known.{stated-as}
 use Rattle.promise.specs.History.{RSeen, r-quiet}
 use Rattle.promise.specs.Link.{owedTo, r-seen}
 use Rattle.promise.proofs.Channel.{Recv}
@@ -58,12 +55,7 @@ r-turned u j n m r z v l g a long e h same d =
       end = subst (λ (x : EndPoint). REnd (entryOf u j .window) x (payloadOf m j) (owedTo j (acksIn (m .node))) z) (sym h) d;
     }
 
--- an end point saved leaves all acknowledgements
-pub saved-acks : (ws : List ℕ) (i : ℕ) (s : State) (r : Run) → acksIn (saved ws i s r) ≡ acksIn ws
-saved-acks ws i s r = acks-ext ws (saved ws i s r) (λ k h. saved-head ws i s r k h) .1
-
 -- a receiver is never failing
 pub never-failing : (t ws b : List ℕ) (l : Lists) → Good t ws b l → (j : ℕ) → j < countIn ws → isSends (endOf ws j .entry .kind) ≡ false → (n : ℕ) → endOf ws j .state ≡ Failing n → ⊥
 never-failing t ws b l g j h k n s =
-    subst (λ (x : State). Stated b l j (endOf ws j) false x) s
-    (subst (λ (x : Bool). Stated b l j (endOf ws j) x (endOf ws j .state)) k (g .entered j h .stated))
+    stated-as b l j (endOf ws j) (g .entered j h) false k (Failing n) s

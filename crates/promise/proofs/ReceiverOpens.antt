@@ -3,7 +3,7 @@
 use Prim.Native.Nat.{ℕ, _<_}
 use mathlib.Core.Path.{_≡_, refl, sym, ap, subst, _∙_}
 use mathlib.Core.Logic.{_≢_}
-use mathlib.Core.Bool.{true, false, true≢false}
+use mathlib.Core.Bool.{false}
 use mathlib.Core.List.{List}
 use native.Mathlib.Decide.{decLt, ℕ-discrete}
 use native.Mathlib.Omega.{arith}
@@ -12,35 +12,29 @@ use Rattle.units.specs.declared.refusals.Verdict.the-variants.{Passed, Refused}
 use Rattle.order.specs.Order.{acksIn}
 use Rattle.window.specs.Windows.{newOf, held}
 use Rattle.window.specs.declared.Window.{Window}
-use Rattle.window.proofs.Resetting.{new-held}
 use Rattle.table.specs.Layout.{entryOf}
 use Rattle.ends.specs.Ends.{endOf}
 use Rattle.ends.specs.Heads.{countIn}
-use Rattle.ends.specs.States.{isSends, anew}
+use Rattle.ends.specs.States.{anew}
 use Rattle.ends.specs.Lent.{Lent}
 use Rattle.ends.specs.declared.State.the-variants.{Closed, Enabled}
 use Rattle.ends.specs.declared.Run.{Run}
 use Rattle.opening.specs.Opening.{openAnswer, openAfter}
-use Rattle.good.specs.Good.{Fresh, Stated}
+use Rattle.good.specs.Good.{Fresh}
 use Rattle.good.specs.Calls.{Memory, opens, bare, keptBare, after}
-use Rattle.good.proofs.Turns.{turnedTo}
-use Rattle.good.proofs.OpenKeeps.{anew-fresh, anew-size, open-keeps, open-refused, open-passed}
+use Rattle.good.proofs.Known.{stated-as}
+use Rattle.good.proofs.Turns.{turnedTo, anew-fresh, anew-size, saved-acks}
+use Rattle.good.proofs.OpenKeeps.{open-keeps, open-refused, open-passed}
 use Rattle.promise.specs.History.{r-quiet}
 use Rattle.promise.specs.Link.{owedTo, r-seen}
 use Rattle.promise.proofs.Channel.{Recv, r-enabled, r-state}
 use Rattle.promise.proofs.Laws.{rn-same, rn-open}
-use Rattle.promise.proofs.Views.{r-state-of, payloadOf, REnd, RView, unaltered, r-elsewhere}
-use Rattle.promise.proofs.ReceiverLaw.{RStep, RLaw, r-turned, saved-acks}
+use Rattle.promise.proofs.Views.{r-state-of, payloadOf, REnd, RView, fresh-held, unaltered, r-elsewhere}
+use Rattle.promise.proofs.ReceiverLaw.{RStep, RLaw, r-turned}
 
--- ---- general: runs begun anew
-
--- one begun anew, of one that was fresh, has its window
-pub fresh-window : (r : Run) → Fresh r → anew r .window ≡ r .window
+-- a run begun anew, of one that was fresh, has its window
+fresh-window : (r : Run) → Fresh r → anew r .window ≡ r .window
 fresh-window r f = anew-fresh r .window ∙ ap newOf (anew-size r) ∙ sym (f .window)
-
--- nothing is held in it
-pub anew-none : (r : Run) (k : ℕ) → held (anew r .window) k ≡ true → ⊥
-anew-none r k h = true≢false (sym h ∙ ap (λ (w : Window). held w k) (anew-fresh r .window) ∙ new-held (anew r .window .size) k)
 
 -- ---- the call
 
@@ -48,14 +42,14 @@ anew-none r k h = true≢false (sym h ∙ ap (λ (w : Window). held w k) (anew-f
 open-acks : (x : Lent) (i : ℕ) (a : Verdict) → acksIn (openAfter x i a .node) ≡ acksIn (x .node)
 unfolding openAfter
 open-acks x i (Refused w) = refl
-open-acks x i Passed = saved-acks (x .node) i (Enabled 0 false) (anew (endOf (x .node) i .run))
+open-acks x i Passed = saved-acks (x .node) i (Enabled 0 false) (anew (endOf (x .node) i .run)) .1
 
 module _ (u : List ℕ) (j : ℕ) (n : Memory) (r : Recv) (v : RView u j n r) where
   abbrev left : ℕ → Memory
   left i = keptBare n (openAfter (bare n) i (openAnswer (bare n) i))
 
   was-fresh : endOf (n .node) j .state ≡ Closed → Fresh (endOf (n .node) j .run)
-  was-fresh h = subst (Stated (n .book) (v .lists) j (endOf (n .node) j) (isSends (endOf (n .node) j .entry .kind))) h (v .good .entered j (v .known) .stated) .fresh
+  was-fresh h = stated-as (n .book) (v .lists) j (endOf (n .node) j) (v .good .entered j (v .known)) false (v .receives) Closed h .fresh
 
   -- the end point, Enabled
   enabled-end : endOf (n .node) j .state ≡ Closed
@@ -67,7 +61,7 @@ module _ (u : List ℕ) (j : ℕ) (n : Memory) (r : Recv) (v : RView u j n r) wh
         state = refl;
         start = v .end .start ∙ ap (λ (x : Window). x .start .0) (sym w);
         marks = λ k. v .end .marks k ∙ ap (λ (x : Window). held x k) (sym w);
-        slots = λ k e. absurd (anew-none (endOf (n .node) j .run) k e);
+        slots = λ k e. absurd (fresh-held (anew (endOf (n .node) j .run)) (anew-fresh (endOf (n .node) j .run)) k e);
         waiting = v .end .waiting ∙ ap (owedTo j) (sym (open-acks (bare n) j (openAnswer (bare n) j)));
       }
 

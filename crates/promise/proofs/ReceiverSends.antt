@@ -1,6 +1,6 @@
 -- Counts, send and Urgent on a receiver's node: counts alters nothing, and the others are a sender's, whose business leaves the receiver's
 -- view. Assumes nothing.
-use Prim.Native.Nat.{ℕ, _<_}
+use Prim.Native.Nat.{ℕ}
 use mathlib.Core.Path.{_≡_, refl, sym, ap, _∙_}
 use mathlib.Core.Logic.{_≢_}
 use mathlib.Core.Bool.{true, true≢false}
@@ -8,61 +8,34 @@ use mathlib.Core.List.{List, []}
 use Rattle.units.specs.declared.refusals.Verdict.{Verdict}
 use Rattle.units.specs.declared.refusals.Verdict.the-variants.{Passed, Refused}
 use Rattle.order.specs.Order.{acksIn}
-use Rattle.table.specs.Layout.{entryOf}
-use Rattle.table.specs.Areas.{slotsOf}
-use Rattle.table.specs.declared.Entry.{Entry}
-use Rattle.table.specs.declared.Kind.{Kind}
-use Rattle.table.specs.declared.Kind.the-variants.{Sends, Receives}
-use Rattle.table.proofs.Places.{slot-of-window, slot-of-urgent}
 use Rattle.ends.specs.Ends.{endOf}
-use Rattle.ends.specs.Heads.{countIn}
 use Rattle.ends.specs.States.{isSends}
 use Rattle.ends.specs.Lent.{Lent}
 use Rattle.slots.specs.Slots.{slotFor}
 use Rattle.sending.specs.Sending.{nextNumber, sendAnswer, sentRun, sendAfter, urgentAnswer, urgentRun, urgentAfter}
-use Rattle.good.specs.Good.{Lists, Good}
 use Rattle.good.specs.Calls.{Memory, counts, sends, urges, lent, kept, after}
-use Rattle.good.proofs.Framing.{slot-lt}
+use Rattle.good.proofs.Turns.{saved-acks}
 use Rattle.good.proofs.SendKeeps.{send-keeps, send-passed}
 use Rattle.good.proofs.UrgentKeeps.{urgent-keeps, urgent-passed}
 use Rattle.promise.specs.History.{r-quiet}
 use Rattle.promise.specs.Link.{owedTo, r-seen}
 use Rattle.promise.proofs.Channel.{Recv}
 use Rattle.promise.proofs.Laws.{rn-same}
-use Rattle.promise.proofs.Stores.{end-entry, end-size}
+use Rattle.promise.proofs.Stores.{slot-low, urgent-low}
 use Rattle.promise.proofs.Views.{RView, put, r-elsewhere}
-use Rattle.promise.proofs.ReceiverLaw.{RStep, RLaw, saved-acks}
-
--- ---- a sender's slots
-
-kind-sends : (k : Kind) → isSends k ≡ true → k ≡ Sends
-kind-sends Sends h = refl
-kind-sends Receives h = absurd (true≢false (sym h))
-
-module _ (t : List ℕ) (n : Memory) (l : Lists) (g : Good t (n .node) (n .book) l) (i : ℕ) (li : i < countIn (n .node)) where
-  -- that of a number
-  number-slot : (s : ℕ) → slotFor (endOf (n .node) i .run .window) s < slotsOf (entryOf t i .kind) (entryOf t i .window)
-  number-slot s =
-      slot-of-window (entryOf t i) _
-      (rw (← end-size t (n .node) (n .book) l g i li) (slot-lt (endOf (n .node) i .run .window) s (g .entered i li .window)))
-
-  -- its Urgent's
-  urgent-slot : isSends (endOf (n .node) i .entry .kind) ≡ true → endOf (n .node) i .run .window .size < slotsOf (entryOf t i .kind) (entryOf t i .window)
-  urgent-slot h =
-      rw (end-size t (n .node) (n .book) l g i li)
-      (slot-of-urgent (entryOf t i) (ap (λ (e : Entry). e .kind) (sym (end-entry t (n .node) (n .book) l g i li)) ∙ kind-sends _ h))
+use Rattle.promise.proofs.ReceiverLaw.{RStep, RLaw}
 
 -- ---- the calls
 
 send-acks : (x : Lent) (i : ℕ) (p : List ℕ) (a : Verdict) → acksIn (sendAfter x i p a .node) ≡ acksIn (x .node)
 unfolding sendAfter
 send-acks x i p (Refused w) = refl
-send-acks x i p Passed = saved-acks (x .node) i (endOf (x .node) i .state) (sentRun (endOf (x .node) i .run))
+send-acks x i p Passed = saved-acks (x .node) i (endOf (x .node) i .state) (sentRun (endOf (x .node) i .run)) .1
 
 urgent-acks : (x : Lent) (i : ℕ) (p : List ℕ) (a : Verdict) → acksIn (urgentAfter x i p a .node) ≡ acksIn (x .node)
 unfolding urgentAfter
 urgent-acks x i p (Refused w) = refl
-urgent-acks x i p Passed = saved-acks (x .node) i (endOf (x .node) i .state) (urgentRun (endOf (x .node) i .run) _)
+urgent-acks x i p Passed = saved-acks (x .node) i (endOf (x .node) i .state) (urgentRun (endOf (x .node) i .run) _) .1
 
 module _ (u : List ℕ) (j : ℕ) (n : Memory) (r : Recv) (v : RView u j n r) where
   -- a sender is another entry
@@ -79,7 +52,7 @@ module _ (u : List ℕ) (j : ℕ) (n : Memory) (r : Recv) (v : RView u j n r) wh
     sent Passed h =
         let d = send-passed u (lent n []) (v .lists) i p (v .good) h in
         let k = send-keeps u (lent n []) (v .lists) i p (v .good) (d .known) in
-        let s = number-slot u n (v .lists) (v .good) i (d .known) (nextNumber (endOf (n .node) i .run)) in (
+        let s = slot-low u (n .node) (n .book) (v .lists) (v .good) i (d .known) (nextNumber (endOf (n .node) i .run)) in (
           r,
           rn-same r,
           r-elsewhere u j n sentTo r v (k .lists) i (sender-other i (d .sends)) (k .good) (k .apart) (k .within)
@@ -96,7 +69,7 @@ module _ (u : List ℕ) (j : ℕ) (n : Memory) (r : Recv) (v : RView u j n r) wh
     urged Passed h =
         let d = urgent-passed u (lent n []) (v .lists) i p (v .good) h in
         let k = urgent-keeps u (lent n []) (v .lists) i p (v .good) (d .known) in
-        let s = urgent-slot u n (v .lists) (v .good) i (d .known) (d .sends) in (
+        let s = urgent-low u (n .node) (n .book) (v .lists) (v .good) i (d .known) (d .sends) in (
           r,
           rn-same r,
           r-elsewhere u j n urgedTo r v (k .lists) i (sender-other i (d .sends)) (k .good) (k .apart) (k .within)

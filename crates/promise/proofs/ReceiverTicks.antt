@@ -17,7 +17,7 @@ use Rattle.ends.specs.declared.EndPoint.{EndPoint}
 use Rattle.slots.specs.Slots.{cell, past}
 use Rattle.ticking.specs.Ticking.{tickAfter}
 use Rattle.good.specs.Calls.{Memory, ticks, bare, keptBare, after}
-use Rattle.good.proofs.SendKeeps.{entry-low, cell-small}
+use Rattle.good.proofs.Framing.{entry-low, cell-low}
 use Rattle.good.proofs.TickEntry.{Ticks, closed, enabled, opened, failed, failing, Alike, ticks-alike}
 use Rattle.good.proofs.TickKeeps.{TickKept, tick-keeps, tick-receiver}
 use Rattle.promise.specs.History.{r-quiet}
@@ -61,7 +61,7 @@ module _ (u : List ℕ) (j : ℕ) (n : Memory) (r : Recv) (v : RView u j n r) wh
         alike .place,
         alike .entry,
         alike .window,
-        kept .lengths (cell j w (past w k)) (cell-small j (entry-low u (n .node) (n .book) (v .lists) (v .good) j (v .known)) w (v .good .entered j (v .known) .window) (past w k)),
+        kept .lengths (cell j w (past w k)) (cell-low j (entry-low u (n .node) (n .book) (v .lists) (v .good) j (v .known)) w (v .good .entered j (v .known) .window) (past w k)),
       )
 
   end : REnd (entryOf u j .window) (endOf (left .node) j) (payloadOf left j) (owedTo j (acksIn (left .node))) r

@@ -1,8 +1,7 @@
 -- An acknowledgement taken in by the entry viewed: it does to the end point what the channel's does, by what the good node made of it.
 -- Assumes nothing.
-use Prim.Native.Nat.{ℕ, _+_, _-_, _%_, _≤_, _<_}
+use Prim.Native.Nat.{ℕ, _+_, _-_, _≤_, _<_}
 use mathlib.Core.Path.{_≡_, refl, sym, ap, subst, _∙_}
-use mathlib.Core.Logic.{_⊎_, inl, inr}
 use mathlib.Core.Bool.{Bool, true, false, not, _&&_}
 use mathlib.Core.List.{List}
 use native.Mathlib.Decide.{decLt}
@@ -29,16 +28,17 @@ use Rattle.acking.specs.Acking.{counts, passing, fewer, ackedRun, openedRun, ac
 use Rattle.good.specs.Good.{Sending}
 use Rattle.good.specs.Calls.{Memory, lent, kept}
 use Rattle.good.proofs.Turns.{turnedTo, run-fits}
-use Rattle.good.proofs.Senders.{cell-low, entry-low, sender-stated}
-use Rattle.good.proofs.AckRuns.{Counts, counts-says, passes}
+use Rattle.good.proofs.Framing.{apart-count, entry-low, cell-low}
+use Rattle.good.proofs.Offsets.{cell-pass}
+use Rattle.good.proofs.Senders.{sender-stated}
+use Rattle.good.proofs.AckRuns.{Counts, counts-says, passes, passed-le}
 use Rattle.good.proofs.AckKeeps.{Acked, ignored, opened, counted, failed, ack-keeps, ack-ends, ack-lengths}
-use Rattle.good.proofs.ReceiveKeeps.{cell-pass}
 use Rattle.promise.specs.History.{Pay, SState}
 use Rattle.promise.specs.Link.{s-state-of}
 use Rattle.promise.proofs.Windows.{mark, shift, run}
 use Rattle.promise.proofs.Channel.{Send, s-pass, s-opened, s-count, s-ack-at, s-ack}
 use Rattle.promise.proofs.Stores.{end-size}
-use Rattle.promise.proofs.Views.{SEnd, SView, payloadOf}
+use Rattle.promise.proofs.Views.{SEnd, SView, payloadBy, payloadOf}
 use Rattle.promise.proofs.Accepted.{new-is, run-is, passed-marks}
 
 -- ---- the test
@@ -84,16 +84,8 @@ module _ (W : ℕ) (e : EndPoint) (payload : ℕ → Pay) (s : Send) (v : SEnd W
         rw (test-is, c) (ap (λ (x : ℕ). s-pass (run W 0 (mark x (s .acknowledged))) (mark x (s .acknowledged)) s) d ∙ ap (λ (x : ℕ). s-pass x m s) k)
 
     module _ (book : List ℕ) (i largest : ℕ) (S : Sending book i (e .run) largest) (fits : RunFits (e .run)) where
-      passed-le : passing (e .run) b .run ≤ e .run .handed
-      passed-le = sides (decLt (e .run .handed) (passing (e .run) b .run))
-        where
-          more : (e .run .handed ≡ offsetOf (e .run .window) b) ⊎ (held (e .run .window) (e .run .handed) ≡ true) → passing (e .run) b .run ≤ e .run .handed
-          more (inl q) = absurd (omega (arith, says .handed))
-          more (inr q) = absurd (omega (arith, S .acked (e .run .handed) q))
-
-          sides : Dec (e .run .handed < passing (e .run) b .run) → passing (e .run) b .run ≤ e .run .handed
-          sides (yes h) = more (passes i (e .run) b g says .under (e .run .handed) h)
-          sides (no h) = omega arith
+      passed-most : passing (e .run) b .run ≤ e .run .handed
+      passed-most = passed-le book i (e .run) largest S (offsetOf (e .run .window) b) (says .handed) (passing (e .run) b .run) (passing (e .run) b .window) (passes i (e .run) b g says)
 
       pass-end : (st : State) → s .state ≡ s-state-of st → (payload′ : ℕ → Pay)
           → ((j : ℕ) → j < e .run .taken - passing (e .run) b .run → payload′ j ≡ payload (passing (e .run) b .run + j))
@@ -116,7 +108,7 @@ module _ (W : ℕ) (e : EndPoint) (payload : ℕ → Pay) (s : Send) (v : SEnd W
                 subst (λ (x : ℕ). shift x (mark (offsetOf w b) (s .acknowledged)) j ≡ held (passing (e .run) b .window) j)
                 (run-is w g (s .acknowledged) (v .acknowledged) b (says .inside)) (passed-marks w g (s .acknowledged) (v .acknowledged) b (says .inside) j);
             accepted = v .accepted;
-            confirmed = omega (arith, v .confirmed, passed-le, S .handed, S .counted, fits .accepted);
+            confirmed = omega (arith, v .confirmed, passed-most, S .handed, S .counted, fits .accepted);
             slots = λ j h.
                 let same : byteOf (byteOf (s .start + p) + j) ≡ byteOf (s .start + (p + j)) = omega arith in
                 ap (λ (x : ℕ). s .slots (slotOf W x)) same ∙ v .slots (p + j) (omega arith) ∙ sym (moved j h);
@@ -174,17 +166,17 @@ module _ (t : List ℕ) (i : ℕ) (n : Memory) (s : Send) (v : SView t i n s) (b
 
   -- the view of an end point e that the entry then is
   viewed : (e : EndPoint) → endOf (acked .node) i ≡ e → e .entry ≡ endOf (n .node) i .entry → (z : Send)
-      → SEnd (entryOf t i .window) e (payloadAt (n .store) (acked .book) i (e .place) (e .entry .largest) (e .run .window)) z → SView t i acked z
+      → SEnd (entryOf t i .window) e (payloadBy (n .store) (acked .book) i e) z → SView t i acked z
   viewed e q same z end =
       let k = ack-keeps t (lent n block) (v .lists) i b (v .good) (v .known) (v .sends) byte in
       record {
         lists = k .lists;
         good = k .good;
-        known = rw (ap (λ (x : ℕ). x % 256) (k .apart .head 0 (omega arith))) (v .known);
+        known = rw (apart-count i (n .node) (acked .node) (k .apart)) (v .known);
         sends = rw (q, same) (v .sends);
         room = v .room;
         end =
-            subst (λ (y : EndPoint). SEnd (entryOf t i .window) y (payloadAt (n .store) (acked .book) i (y .place) (y .entry .largest) (y .run .window)) z) (sym q) end;
+            subst (λ (y : EndPoint). SEnd (entryOf t i .window) y (payloadBy (n .store) (acked .book) i y) z) (sym q) end;
       }
 
   -- a payload is where it was, as the start passes others
@@ -217,7 +209,7 @@ module _ (t : List ℕ) (i : ℕ) (n : Memory) (s : Send) (v : SView t i n s) (b
   by-end (ignored same book h) =
       subst (λ (z : Send). SView t i acked z) (sym (ack-by (endOf (n .node) i .state) refl ∙ ignored-same (endOf (n .node) i .state) h))
       (viewed (endOf (n .node) i) (ap (λ (ws : List ℕ). endOf ws i) same) refl s
-      (subst (λ (y : List ℕ). SEnd (entryOf t i .window) (endOf (n .node) i) (payloadAt (n .store) y i (endOf (n .node) i .place) (endOf (n .node) i .entry .largest) (endOf (n .node) i .run .window)) s)
+      (subst (λ (y : List ℕ). SEnd (entryOf t i .window) (endOf (n .node) i) (payloadBy (n .store) y i (endOf (n .node) i)) s)
       (sym book) (v .end)))
   by-end (opened t₀ q z end) =
       subst (λ (y : Send). SView t i acked y) (sym (ack-by (Enabled t₀ true) q ∙ rw (eq-eqb b 0 z)))

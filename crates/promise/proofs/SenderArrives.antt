@@ -16,7 +16,7 @@ use Rattle.acking.specs.Acking.{ackAfter}
 use Rattle.arriving.specs.Arriving.{takenAfter, arrivalAfter}
 use Rattle.good.specs.Calls.{Memory, lent, kept, arrives, Bytes, answer, after}
 use Rattle.good.proofs.Finding.{Fitting}
-use Rattle.good.proofs.Arrivals.{Taken, Refused, arrives as arrival}
+use Rattle.good.proofs.Arrivals.{Taken, Refused, taken-kind, arrives as arrival}
 use Rattle.good.proofs.ArriveKeeps.{arrive-keeps}
 use Rattle.promise.specs.History.{SSeen, s-hears}
 use Rattle.promise.specs.Link.{s-seen}
@@ -27,10 +27,6 @@ use Rattle.promise.proofs.SenderLaw.{SLaw, s-still, s-same}
 use Rattle.promise.proofs.Frames.{fit-own, fit-other}
 use Rattle.promise.proofs.Arriving.{s-seen-back, after-back, s-seen-in, arrive-stored}
 use Rattle.promise.proofs.SenderAcks.{s-heard}
-
-entry-kind : (ws : List ℕ) (i : ℕ) → isSends (endOf ws i .entry .kind) ≡ isSends (loadEntry ws i .kind)
-unfolding endOf
-entry-kind ws i = refl
 
 module _ (t : List ℕ) (i : ℕ) (n : Memory) (s : Send) (block f : List ℕ) (bytes : Bytes f) (v : SView t i n s) (a : Taken (lent n block) f) where
   -- another entry's
@@ -44,7 +40,7 @@ module _ (t : List ℕ) (i : ℕ) (n : Memory) (s : Send) (block f : List ℕ) (
   -- a frame for a receiver
   for-receiver : forSender (a .header .kind) ≡ false → i ≢ a .entry
   for-receiver q e =
-      true≢false (sym (v .sends) ∙ ap (λ (j : ℕ). isSends (endOf (n .node) j .entry .kind)) e ∙ entry-kind (n .node) (a .entry) ∙ a .fit .kind ∙ q)
+      true≢false (sym (v .sends) ∙ ap (λ (j : ℕ). isSends (endOf (n .node) j .entry .kind)) e ∙ taken-kind (lent n block) f a ∙ q)
 
   -- the entry's own acknowledgement
   own-after : a .entry ≡ i → a .header .kind ≡ type.Acknowledge

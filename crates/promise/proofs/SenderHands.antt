@@ -26,23 +26,22 @@ use Rattle.ends.specs.declared.State.the-variants.{Enabled, Open}
 use Rattle.ends.specs.declared.Run.{Run}
 use Rattle.ends.specs.declared.EndPoint.{EndPoint}
 use Rattle.slots.specs.Slots.{slotFor, cell, past, spot, numberIn, lengthIn}
-use Rattle.blocks.specs.Blocks.{payloadAt}
 use Rattle.handing.specs.declared.Next.the-variants as next
 use Rattle.handing.specs.Handing.{slotEntry, slotIn, slotPayload, dataFrame, frameOut, handedRun, handAnswer, handAfter}
 use Rattle.good.specs.Calls.{Memory, lent, kept, hands-out, answer, after}
 use Rattle.good.proofs.Turns.{turnedTo}
-use Rattle.good.proofs.Senders.{cell-low, entry-low, entry-good}
+use Rattle.good.proofs.Framing.{entry-low, cell-low}
+use Rattle.good.proofs.Senders.{entry-good}
 use Rattle.good.proofs.Handed.{Went, Alone, AckOut, ResetOut, UrgentOut, SlotOut, ResendOut, DataOut, Handed, refused, nothing, acked, reset, urgent, resent, handed, HandKept}
 use Rattle.good.proofs.HandKeeps.{hand-keeps}
 use Rattle.promise.specs.History.{Pay, s-enabled, s-open, SSeen, s-quiet, s-resets, s-sends}
 use Rattle.promise.specs.Link.{names, s-state-of, s-out, s-seen}
 use Rattle.promise.proofs.Channel.{Send, s-state, s-hand}
 use Rattle.promise.proofs.Laws.{SNext, sn-same, sn-reset, sn-send}
-use Rattle.promise.proofs.Stores.{slot-room}
-use Rattle.promise.proofs.Views.{SEnd, SView, payloadOf, s-narrow, s-elsewhere, unaltered}
+use Rattle.promise.proofs.Stores.{slot-room, slot-low}
+use Rattle.promise.proofs.Views.{s-end-same, payloadBy, SEnd, SView, payloadOf, s-narrow, s-elsewhere, unaltered}
 use Rattle.promise.proofs.SenderLaw.{SLaw}
 use Rattle.promise.proofs.Frames.{names-own, names-other, s-out-nothing, s-out-ack, s-out-urgent, s-out-reset, s-out-data, s-seen-refused, s-seen-out}
-use Rattle.promise.proofs.Arriving.{slot-inside}
 
 -- ---- marks
 
@@ -64,19 +63,6 @@ mark-next h k = sides (ℕ-discrete k h) (decLt k h)
 
 -- ---- what is left of the entry viewed
 
-end-payload : (W : ℕ) (e : EndPoint) (p p′ : ℕ → Pay) (s : Send) → ((k : ℕ) → p′ k ≡ p k) → SEnd W e p s → SEnd W e p′ s
-end-payload W e p p′ s same v =
-    record {
-      state = v .state;
-      start = v .start;
-      taken = v .taken;
-      handed = v .handed;
-      acknowledged = v .acknowledged;
-      accepted = v .accepted;
-      confirmed = v .confirmed;
-      slots = λ k h. v .slots k h ∙ sym (same k);
-    }
-
 module _ (t : List ℕ) (i : ℕ) (n : Memory) (s : Send) (v : SView t i n s) (buffer : List ℕ) (x′ : Lent) (K : HandKept t (lent n buffer) x′ (v .lists)) where
   -- the entry in another state, with another run over the same window
   own-view : (st : State) (r : Run) → endOf (x′ .node) i ≡ turnedTo (endOf (n .node) i) st r → r .window ≡ endOf (n .node) i .run .window → (z : Send)
@@ -89,11 +75,11 @@ module _ (t : List ℕ) (i : ℕ) (n : Memory) (s : Send) (v : SView t i n s) (b
         sends = rw q (v .sends);
         room = rw (K .store) (v .room);
         end =
-            subst (λ (y : EndPoint). SEnd (entryOf t i .window) y (payloadAt (x′ .store) (x′ .book) i (y .place) (y .entry .largest) (y .run .window)) z) (sym q)
-            (end-payload (entryOf t i .window) (turnedTo (endOf (n .node) i) st r) (payloadOf n i) _ z payload end);
+            subst (λ (y : EndPoint). SEnd (entryOf t i .window) y (payloadBy (x′ .store) (x′ .book) i y) z) (sym q)
+            (s-end-same (entryOf t i .window) (turnedTo (endOf (n .node) i) st r) (payloadOf n i) _ z end (λ k h. payload k));
       }
     where
-      payload : (k : ℕ) → payloadAt (x′ .store) (x′ .book) i (endOf (n .node) i .place) (endOf (n .node) i .entry .largest) (r .window) k ≡ payloadOf n i k
+      payload : (k : ℕ) → payloadBy (x′ .store) (x′ .book) i (turnedTo (endOf (n .node) i) st r) k ≡ payloadOf n i k
       payload k =
           let w = endOf (n .node) i .run .window in
           let low = entry-low t (n .node) (n .book) (v .lists) (v .good) i (v .known) in
@@ -210,7 +196,7 @@ module _ (t : List ℕ) (i : ℕ) (n : Memory) (s : Send) (v : SView t i n s) (b
         let some : 1 ≤ many = rw (o .here) at (o .some) in
         let most : many ≤ e .entry .largest = rw (o .here) at (o .most) in
         let room = slot-room t (n .node) (n .book) (v .lists) (v .good) j (o .alone .known) q
-        (slot-inside t n (v .lists) (v .good) j (o .alone .known) (past w k)) in
+        (slot-low t (n .node) (n .book) (v .lists) (v .good) j (o .alone .known) (past w k)) in
         let small = entry-good t (n .node) (n .book) (v .lists) (v .good) j (o .alone .known) .largest-high in
         let long : length (payloadOf n j k) ≡ many = length-take-le many (drop at (n .store)) (omega (arith, length-drop at (n .store), v .room)) in
         (omega arith, omega arith)

@@ -30,9 +30,9 @@ use Rattle.promise.specs.Link.{s-state-of, s-seen}
 use Rattle.promise.proofs.Windows.{put-same, put-other}
 use Rattle.promise.proofs.Channel.{Send, s-send}
 use Rattle.promise.proofs.Laws.{SNext, sn-accept}
-use Rattle.promise.proofs.Stores.{read-own, end-size, slot-room}
-use Rattle.promise.proofs.Views.{SEnd, payloadOf, SView, s-filled, Stored, unaltered, put, stored-long, slot-of}
-use Rattle.promise.proofs.OwnSlots.{payloadBy, slot-low, payload-apart}
+use Rattle.promise.proofs.Stores.{slot-low, read-own, end-size, slot-room}
+use Rattle.promise.proofs.Views.{payloadBy, SEnd, payloadOf, SView, s-filled, Stored, unaltered, put, stored-long, slot-of}
+use Rattle.promise.proofs.OwnSlots.{payload-apart}
 use Rattle.promise.proofs.SenderLaw.{SLaw, s-afresh, Beside, seenAs, s-verdict}
 
 -- ---- the end point
@@ -78,7 +78,7 @@ module _ (t : List ℕ) (i : ℕ) (n : Memory) (s : Send) (p : Pay) (v : SView t
   next = slotFor (was .run .window) (nextNumber (was .run))
 
   next-low : next < slotsOf (entryOf t i .kind) (entryOf t i .window)
-  next-low = slot-low t n (v .lists) (v .good) i (v .known) (nextNumber (was .run))
+  next-low = slot-low t (n .node) (n .book) (v .lists) (v .good) i (v .known) (nextNumber (was .run))
 
   slot : (k : ℕ) → slotFor (was .run .window) k ≡ slotOf W k
   slot = slot-of t n (v .lists) (v .good) i (v .known)
@@ -141,7 +141,7 @@ module _ (t : List ℕ) (n : Memory) (p : Pay) where
     stored j Passed h =
         let q = send-passed t (lent n []) l j p g h in
         put (slotFor (endOf (n .node) j .run .window) (nextNumber (endOf (n .node) j .run))) p (q .known)
-        (slot-low t n l g j (q .known) (nextNumber (endOf (n .node) j .run))) (q .most) (q .stored)
+        (slot-low t (n .node) (n .book) l g j (q .known) (nextNumber (endOf (n .node) j .run))) (q .most) (q .stored)
     stored j (Refused w) h = unaltered (rw h)
 
     beside : (j : ℕ) → j < countIn (n .node) → Beside t n (after n (sends j p)) l j

@@ -11,15 +11,14 @@ use Rattle.ends.specs.declared.EndPoint.{EndPoint}
 use Rattle.slots.specs.Slots.{cell, past, lengthIn}
 use Rattle.ticking.specs.Ticking.{tickAnswer}
 use Rattle.good.specs.Calls.{Memory, ticks as tick, bare, answer, after}
-use Rattle.good.proofs.SendKeeps.{entry-low, cell-small}
+use Rattle.good.proofs.Framing.{entry-low, cell-low}
 use Rattle.good.proofs.TickEntry.{Ticks, closed, enabled, opened, failed, failing, Alike, ticks-alike}
 use Rattle.good.proofs.TickKeeps.{Fate, ticks, recovered, TickKept, tick-keeps}
 use Rattle.promise.specs.History.{Pay, SState, s-failing, SSeen, s-quiet, s-ends}
 use Rattle.promise.specs.Link.{s-state-of, s-seen}
 use Rattle.promise.proofs.Channel.{Send, s-state}
 use Rattle.promise.proofs.Laws.{SNext, sn-same, sn-fail, sn-end}
-use Rattle.promise.proofs.Views.{SEnd, payloadOf, SView, s-view}
-use Rattle.promise.proofs.OwnSlots.{payloadBy}
+use Rattle.promise.proofs.Views.{SEnd, payloadBy, payloadOf, SView, s-view}
 use Rattle.promise.proofs.SenderLaw.{SLaw, s-afresh}
 
 -- ---- the end point
@@ -43,7 +42,7 @@ module _ (W : ℕ) (e e′ : EndPoint) (pay pay′ : ℕ → Pay) (s : Send) (v 
         acknowledged = λ k. rw (a .window) (v .acknowledged k);
         accepted = rw (a .accepted) (v .accepted);
         confirmed = rw (a .confirmed) (v .confirmed);
-        slots = λ k l. let l′ : k < e .run .taken = omega (arith, a .taken) in v .slots k l′ ∙ sym (old k l′);
+        slots = λ k l. let was : k < e .run .taken = omega (arith, a .taken) in v .slots k was ∙ sym (old k was);
       }
 
   -- the state as it shows stays
@@ -64,13 +63,13 @@ module _ (t : List ℕ) (i : ℕ) (n : Memory) (s : Send) (v : SView t i n s) (k
   abbrev was : EndPoint
   was = endOf (n .node) i
 
-  quiet : tickAnswer (bare n) / 2 ^ i % 2 ≡ 0 → s-seen (entryOf t i) i tick (answer n tick) ≡ s-quiet
-  unfolding s-seen answer
-  quiet h = rw h
-
   ends : tickAnswer (bare n) / 2 ^ i % 2 ≡ 1 → s-seen (entryOf t i) i tick (answer n tick) ≡ s-ends
   unfolding s-seen answer
   ends h = rw h
+
+  quiet : tickAnswer (bare n) / 2 ^ i % 2 ≡ 0 → s-seen (entryOf t i) i tick (answer n tick) ≡ s-quiet
+  unfolding s-seen answer
+  quiet h = rw h
 
   afresh : SView t i (after n tick) (s-view (after n tick) i)
   unfolding after
@@ -89,7 +88,7 @@ module _ (t : List ℕ) (i : ℕ) (n : Memory) (s : Send) (v : SView t i n s) (k
       ticked-next (entryOf t i .window) was (endOf (m .node) i) (payloadOf n i) (payloadOf m i) s (v .end) (ticks-alike h)
       (λ x l. payload-alike (n .store) (n .book) (m .book) i was (endOf (m .node) i) (ticks-alike h) x
       (k .lengths (cell i (was .run .window) (past (was .run .window) x))
-      (cell-small i low (was .run .window) (v .good .entered i (v .known) .window) (past (was .run .window) x))))
+      (cell-low i low (was .run .window) (v .good .entered i (v .known) .window) (past (was .run .window) x))))
       h
 
   by-fate : Fate (tickAnswer (bare n) / 2 ^ i % 2) was (endOf (after n tick .node) i) → SLaw t i n tick s

@@ -2,7 +2,7 @@
 use Prim.Native.Nat.{ℕ, _≤_, _<_}
 use mathlib.Core.Path.{_≡_, refl, sym, ap, subst, _∙_}
 use mathlib.Core.Logic.{_≢_}
-use mathlib.Core.Bool.{Bool, true, false, _&&_, false≢true}
+use mathlib.Core.Bool.{Bool, true, false, _&&_}
 use mathlib.Core.List.{List, []}
 use native.Mathlib.Omega.{arith}
 use lib.ListN.{length}
@@ -12,15 +12,9 @@ use Rattle.units.specs.declared.refusals.Refusal.{Refusal}
 use Rattle.units.specs.declared.refusals.Verdict.{Verdict}
 use Rattle.units.specs.declared.refusals.Verdict.the-variants.{Passed, Refused}
 use Rattle.table.specs.Layout.{entryOf}
-use Rattle.table.specs.Areas.{slotsOf}
-use Rattle.table.specs.declared.Entry.{Entry}
-use Rattle.table.specs.declared.Kind.{Kind}
-use Rattle.table.specs.declared.Kind.the-variants.{Sends, Receives}
-use Rattle.table.proofs.Places.{slot-of-urgent}
 use Rattle.ends.specs.Answers.{answerOf}
 use Rattle.ends.specs.Ends.{endOf}
 use Rattle.ends.specs.Heads.{countIn}
-use Rattle.ends.specs.States.{isSends}
 use Rattle.ends.specs.Lent.{Lent}
 use Rattle.ends.specs.declared.State.the-variants.{Open}
 use Rattle.ends.specs.declared.EndPoint.{EndPoint}
@@ -35,24 +29,10 @@ use Rattle.promise.specs.History.{Pay, s-quiet}
 use Rattle.promise.specs.Link.{isDone, s-state-of, s-seen}
 use Rattle.promise.proofs.Channel.{Send}
 use Rattle.promise.proofs.Laws.{SNext, sn-same}
-use Rattle.promise.proofs.Stores.{end-entry, end-size}
-use Rattle.promise.proofs.Views.{SEnd, payloadOf, SView, s-filled, Stored, unaltered, put, stored-long}
-use Rattle.promise.proofs.OwnSlots.{payloadBy, payload-apart}
+use Rattle.promise.proofs.Stores.{urgent-low}
+use Rattle.promise.proofs.Views.{SEnd, payloadBy, payloadOf, SView, s-filled, Stored, unaltered, put, stored-long}
+use Rattle.promise.proofs.OwnSlots.{payload-apart}
 use Rattle.promise.proofs.SenderLaw.{SLaw, s-afresh, Beside, seenAs, s-verdict}
-
--- ---- the Urgent's slot
-
-kind-sends : (k : Kind) → isSends k ≡ true → k ≡ Sends
-kind-sends Sends h = refl
-kind-sends Receives h = absurd (false≢true h)
-
--- it is one of a sender's
-urgent-low : (t : List ℕ) (n : Memory) (l : Lists) → Good t (n .node) (n .book) l → (j : ℕ) → j < countIn (n .node)
-    → isSends (endOf (n .node) j .entry .kind) ≡ true → endOf (n .node) j .run .window .size < slotsOf (entryOf t j .kind) (entryOf t j .window)
-urgent-low t n l g j h k =
-    let e = ap (λ (x : Entry). x .kind) (end-entry t (n .node) (n .book) l g j h) in
-    let s = slot-of-urgent (entryOf t j) (kind-sends (entryOf t j .kind) (ap isSends (sym e) ∙ k)) in
-    omega (arith, end-size t (n .node) (n .book) l g j h)
 
 -- ---- the end point
 
@@ -87,7 +67,7 @@ module _ (t : List ℕ) (i : ℕ) (n : Memory) (s : Send) (p : Pay) (v : SView t
   old k h =
       rw (q .stored)
       (payload-apart t n (v .lists) (v .good) i (v .known) (v .room) (was .run .window .size) p
-      (urgent-low t n (v .lists) (v .good) i (v .known) (v .sends)) (q .most) (x .book) k
+      (urgent-low t (n .node) (n .book) (v .lists) (v .good) i (v .known) (v .sends)) (q .most) (x .book) k
       (s-filled t (n .node) (n .book) (v .lists) (v .good) i (v .known) (v .sends) k h) (apart k)
       (q .lengths (cell i (was .run .window) (past (was .run .window) k))))
 
@@ -127,7 +107,7 @@ module _ (t : List ℕ) (n : Memory) (p : Pay) where
     unfolding after urgentAfter
     stored j Passed h =
         let q = urgent-passed t (lent n []) l j p g h in
-        put (endOf (n .node) j .run .window .size) p (q .known) (urgent-low t n l g j (q .known) (q .sends)) (q .most) (q .stored)
+        put (endOf (n .node) j .run .window .size) p (q .known) (urgent-low t (n .node) (n .book) l g j (q .known) (q .sends)) (q .most) (q .stored)
     stored j (Refused w) h = unaltered (rw h)
 
     beside : (j : ℕ) → j < countIn (n .node) → Beside t n (after n (urges j p)) l j

@@ -1,24 +1,26 @@
 -- Payloads in the store: what is put in a slot is read from it, and every other slot, of this entry and of the others, stays. Assumes nothing.
-use Prim.Native.Nat.{ℕ, zero, suc, _+_, _-_, _*_, _%_, _≤_, _<_}
+use Prim.Native.Nat.{ℕ, _+_, _-_, _*_, _%_, _≤_, _<_}
 use mathlib.Core.Path.{_≡_, refl, sym, ap, subst, _∙_}
-use mathlib.Core.Logic.{_≢_, _⊎_, inl, inr}
-use mathlib.Core.Bool.{Bool, true, false}
-use mathlib.Core.List.{List, [], _∷_, _++_, append-assoc}
-use native.Mathlib.Decide.{decLt, ℕ-discrete}
+use mathlib.Core.Logic.{_≢_}
+use mathlib.Core.Bool.{true}
+use mathlib.Core.List.{List, _++_, append-assoc}
+use native.Mathlib.Decide.{decLt}
 use native.Mathlib.Nat.{mod-eq-of-lt}
 use native.Mathlib.Omega.{arith}
-use lib.ListN.{length, take, drop, getD, length-take, length-drop, length-append, take-append-drop}
-use lib.Seq.{sets, sets-eq, length-sets, length-take-le, drop-append-le, drop-append-add, take-append-le, take-append-seam, drop-at, drop-drop}
-use Rattle.table.specs.Layout.{countOf, entryOf}
-use Rattle.table.specs.Areas.{slotsOf, areaOf, placeOf, storeOf}
+use lib.ListN.{length, take, drop, length-drop, length-append, take-append-drop}
+use lib.Seq.{sets, sets-eq, length-take-le, drop-append-le, drop-append-add, take-append-le, take-append-seam, drop-at, drop-drop}
+use Rattle.table.specs.Layout.{entryOf}
+use Rattle.table.specs.Areas.{slotsOf, placeOf, storeOf}
 use Rattle.table.specs.declared.Entry.{Entry}
-use Rattle.table.proofs.Places.{slot-of-window, slots-apart, slot-inside, areas-apart, area-in-store}
-use Rattle.table.proofs.Good.{GoodEntry, good-entry}
-use Rattle.ends.specs.Ends.{loadEntry, loadRun, placeIn, endOf}
+use Rattle.table.proofs.Places.{slot-of-window, slot-of-urgent, slots-apart, slot-inside, areas-apart, area-in-store}
+use Rattle.table.proofs.Good.{good-entry}
+use Rattle.ends.specs.Ends.{loadEntry, loadRun, endOf}
 use Rattle.ends.specs.Heads.{countIn}
-use Rattle.ends.specs.declared.EndPoint.{EndPoint}
-use Rattle.slots.specs.Slots.{spot}
+use Rattle.ends.specs.States.{isSends}
+use Rattle.slots.specs.Slots.{slotFor, spot}
 use Rattle.good.specs.Good.{Lists, Good}
+use Rattle.good.proofs.Known.{is-sends}
+use Rattle.good.proofs.Framing.{slot-lt}
 
 -- ---- bytes
 
@@ -84,6 +86,13 @@ module _ (t ws b : List ℕ) (l : Lists) (g : Good t ws b l) where
   abbrev pub slotsAt : ℕ → ℕ
   slotsAt i = slotsOf (entryOf t i .kind) (entryOf t i .window)
 
+  -- the slot of a number is one of its entry's, and so is a sender's Urgent's
+  pub slot-low : (i : ℕ) → i < countIn ws → (s : ℕ) → slotFor (endOf ws i .run .window) s < slotsAt i
+  slot-low i h s = slot-of-window (entryOf t i) _ (rw (← end-size i h) (slot-lt (endOf ws i .run .window) s (g .entered i h .window)))
+
+  pub urgent-low : (i : ℕ) → i < countIn ws → isSends (endOf ws i .entry .kind) ≡ true → endOf ws i .run .window .size < slotsAt i
+  urgent-low i h k = rw (end-size i h) (slot-of-urgent (entryOf t i) (ap (λ (e : Entry). e .kind) (sym (end-entry i h)) ∙ is-sends _ k))
+
   at-is : (i : ℕ) → i < countIn ws → (q : ℕ) → at i q ≡ placeOf t i + q * entryOf t i .largest
   at-is i h q = rw (end-place i h, end-entry i h)
 
@@ -109,17 +118,17 @@ module _ (t ws b : List ℕ) (l : Lists) (g : Good t ws b l) where
     pub areas-stay : i ≢ j → take n (drop (at i q) (sets st (at j r) p)) ≡ take n (drop (at i q) st)
     areas-stay d = sides (decLt i j)
       where
-        n′ : n ≤ entryOf t i .largest
-        n′ = rw (← end-entry i hi) hn
+        n-short : n ≤ entryOf t i .largest
+        n-short = rw (← end-entry i hi) hn
 
-        p′ : length p ≤ entryOf t j .largest
-        p′ = rw (← end-entry j hj) hp
+        p-short : length p ≤ entryOf t j .largest
+        p-short = rw (← end-entry j hj) hp
 
         sides : Dec (i < j) → take n (drop (at i q) (sets st (at j r) p)) ≡ take n (drop (at i q) st)
         sides (yes h) =
-            low (let a = areas-apart t i j h in let c = slot-inside (entryOf t i) q hq in let x = at-is i hi q in let y = at-is j hj r in omega (arith, n′, p′))
+            low (let a = areas-apart t i j h in let c = slot-inside (entryOf t i) q hq in let x = at-is i hi q in let y = at-is j hj r in omega (arith, n-short, p-short))
         sides (no h) =
-            high (let a = areas-apart t j i (omega arith) in let c = slot-inside (entryOf t j) r hr in let x = at-is i hi q in let y = at-is j hj r in omega (arith, n′, p′))
+            high (let a = areas-apart t j i (omega arith) in let c = slot-inside (entryOf t j) r hr in let x = at-is i hi q in let y = at-is j hj r in omega (arith, n-short, p-short))
 
     -- of one entry
     pub slots-stay : i ≡ j → q ≢ r → take n (drop (at i q) (sets st (at j r) p)) ≡ take n (drop (at i q) st)
@@ -128,9 +137,9 @@ module _ (t ws b : List ℕ) (l : Lists) (g : Good t ws b l) where
         y : at j r ≡ at i r
         y = ap (λ (k : ℕ). at k r) (sym e)
 
-        p′ : length p ≤ endOf ws i .entry .largest
-        p′ = subst (λ (k : ℕ). length p ≤ endOf ws k .entry .largest) (sym e) hp
+        p-short : length p ≤ endOf ws i .entry .largest
+        p-short = subst (λ (k : ℕ). length p ≤ endOf ws k .entry .largest) (sym e) hp
 
         sides : Dec (q < r) → take n (drop (at i q) (sets st (at j r) p)) ≡ take n (drop (at i q) st)
         sides (yes h) = low (let a = slots-apart (endOf ws i .entry .largest) q r h in omega (arith, y))
-        sides (no h) = high (let a = slots-apart (endOf ws i .entry .largest) r q (omega arith) in omega (arith, y, p′))
+        sides (no h) = high (let a = slots-apart (endOf ws i .entry .largest) r q (omega arith) in omega (arith, y, p-short))

@@ -1,14 +1,14 @@
 -- An entry of a node, viewed as an end point of the channel: the relation that every call keeps, and that what is done elsewhere on the
 -- node leaves it. Assumes nothing.
-use Prim.Native.Nat.{ℕ, zero, suc, _+_, _%_, _≤_, _<_}
-use mathlib.Core.Path.{_≡_, refl, sym, ap, subst, _∙_}
-use mathlib.Core.Logic.{_≢_, _⊎_, inl, inr}
-use mathlib.Core.Bool.{Bool, true, false, true≢false}
-use mathlib.Core.List.{List, [], _∷_}
+use Prim.Native.Nat.{ℕ, _+_, _≤_, _<_}
+use mathlib.Core.Path.{_≡_, refl, sym, ap, _∙_}
+use mathlib.Core.Logic.{_≢_}
+use mathlib.Core.Bool.{true, false, true≢false}
+use mathlib.Core.List.{List}
 use native.Mathlib.Omega.{arith}
 use lib.ListN.{length, take, drop}
 use lib.Seq.{sets, length-sets}
-use lib.Dec.{eqb, ltb}
+use lib.Dec.{ltb}
 use borrow.Author.Tests.{ne-eqb}
 use Rattle.memory.specs.Layout.{lengthAt, slotOf as cellAt}
 use Rattle.order.specs.Order.{acksIn}
@@ -17,9 +17,8 @@ use Rattle.window.specs.Windows.{held, Good as GoodWindow}
 use Rattle.window.specs.declared.Window.{Window}
 use Rattle.window.proofs.Resetting.{new-held}
 use Rattle.window.proofs.Sizes.{size-pos}
-use Rattle.table.specs.Layout.{countOf, entryOf}
+use Rattle.table.specs.Layout.{entryOf}
 use Rattle.table.specs.Areas.{slotsOf, storeOf}
-use Rattle.table.proofs.Places.{slot-of-window}
 use Rattle.ends.specs.Ends.{endOf}
 use Rattle.ends.specs.Heads.{countIn}
 use Rattle.ends.specs.States.{isSends}
@@ -31,10 +30,11 @@ use Rattle.slots.specs.Slots.{slotFor, cell, past, spot, lengthIn}
 use Rattle.blocks.specs.Blocks.{payloadAt}
 use Rattle.good.specs.Good.{Lists, Fresh, Filled, Stated, Good}
 use Rattle.good.specs.Calls.{Memory}
-use Rattle.good.proofs.Framing.{Within, Apart, count-low, slot-lt, length-owner}
-use Rattle.promise.specs.History.{Pay, SState}
+use Rattle.good.proofs.Known.{stated-as}
+use Rattle.good.proofs.Framing.{Within, Apart, apart-count, entry-low, length-owner}
+use Rattle.promise.specs.History.{Pay}
 use Rattle.promise.specs.Link.{s-state-of, owedTo}
-use Rattle.promise.proofs.Stores.{end-size, areas-stay}
+use Rattle.promise.proofs.Stores.{end-size, slot-low, areas-stay}
 use Rattle.promise.proofs.Channel.{Send, Recv, RState, r-closed, r-enabled, r-open}
 
 -- ---- the sender's
@@ -50,9 +50,26 @@ pub record SEnd (W : ℕ) (e : EndPoint) (payload : ℕ → Pay) (s : Send) : Ty
   pub confirmed : s .confirmed ≡ e .run .confirmed .0
   pub slots : (k : ℕ) → k < e .run .taken → s .slots (slotOf W (byteOf (s .start + k))) ≡ payload k
 
--- the payload of the number k past the start of entry i
+-- other payloads, the same for the numbers taken
+pub s-end-same : (W : ℕ) (e : EndPoint) (p p′ : ℕ → Pay) (s : Send) → SEnd W e p s → ((k : ℕ) → k < e .run .taken → p′ k ≡ p k) → SEnd W e p′ s
+s-end-same W e p p′ s v same =
+    record {
+      state = v .state;
+      start = v .start;
+      taken = v .taken;
+      handed = v .handed;
+      acknowledged = v .acknowledged;
+      accepted = v .accepted;
+      confirmed = v .confirmed;
+      slots = λ k h. v .slots k h ∙ sym (same k h);
+    }
+
+-- the payload of the number k past the start, of end point e of entry i, and of that entry of a node
+abbrev pub payloadBy : List ℕ → List ℕ → ℕ → EndPoint → ℕ → Pay
+payloadBy st b i e k = payloadAt st b i (e .place) (e .entry .largest) (e .run .window) k
+
 abbrev pub payloadOf : Memory → ℕ → ℕ → Pay
-payloadOf n i k = payloadAt (n .store) (n .book) i (endOf (n .node) i .place) (endOf (n .node) i .entry .largest) (endOf (n .node) i .run .window) k
+payloadOf n i k = payloadBy (n .store) (n .book) i (endOf (n .node) i) k
 
 pub record SView (t : List ℕ) (i : ℕ) (n : Memory) (s : Send) : Type 0 where
   pub lists : Lists
@@ -87,13 +104,13 @@ pub record RView (u : List ℕ) (j : ℕ) (n : Memory) (r : Recv) : Type 0 where
 
 -- ---- what Good says of the payloads
 
-anew-taken : (r : Run) → Fresh r → (k : ℕ) → k < r .taken → ⊥
-anew-taken r f k h = let e = f .taken in omega arith
+fresh-taken : (r : Run) → Fresh r → (k : ℕ) → k < r .taken → ⊥
+fresh-taken r f k h = let e = f .taken in omega arith
 
 s-filled-at : (b : List ℕ) (l : Lists) (i : ℕ) (e : EndPoint) (s : State) → Stated b l i e true s → (k : ℕ) → k < e .run .taken
     → Filled b i (e .run .window) (e .entry .largest) k
-s-filled-at b l i e state.Closed a k h = absurd (anew-taken (e .run) (a .fresh) k h)
-s-filled-at b l i e (state.Enabled t sent) a k h = absurd (anew-taken (e .run) (a .fresh) k h)
+s-filled-at b l i e state.Closed a k h = absurd (fresh-taken (e .run) (a .fresh) k h)
+s-filled-at b l i e (state.Enabled t sent) a k h = absurd (fresh-taken (e .run) (a .fresh) k h)
 s-filled-at b l i e state.Open a k h = a .sending .filled k h
 s-filled-at b l i e (state.Failing n) a k h = a .sending .filled k h
 
@@ -101,13 +118,13 @@ s-filled-at b l i e (state.Failing n) a k h = a .sending .filled k h
 pub s-filled : (t ws b : List ℕ) (l : Lists) → Good t ws b l → (i : ℕ) → i < countIn ws → isSends (endOf ws i .entry .kind) ≡ true
     → (k : ℕ) → k < endOf ws i .run .taken → Filled b i (endOf ws i .run .window) (endOf ws i .entry .largest) k
 s-filled t ws b l g i li q k h =
-    s-filled-at b l i (endOf ws i) (endOf ws i .state) (subst (λ (x : Bool). Stated b l i (endOf ws i) x (endOf ws i .state)) q (g .entered i li .stated)) k h
+    s-filled-at b l i (endOf ws i) (endOf ws i .state) (stated-as b l i (endOf ws i) (g .entered i li) true q (endOf ws i .state) refl) k h
 
 -- and are at most W
 pub s-narrow : (t ws b : List ℕ) (l : Lists) → Good t ws b l → (i : ℕ) → i < countIn ws → isSends (endOf ws i .entry .kind) ≡ true
     → endOf ws i .run .taken ≤ endOf ws i .run .window .size
 s-narrow t ws b l g i li q =
-    at (endOf ws i) (endOf ws i .state) (subst (λ (x : Bool). Stated b l i (endOf ws i) x (endOf ws i .state)) q (g .entered i li .stated))
+    at (endOf ws i) (endOf ws i .state) (stated-as b l i (endOf ws i) (g .entered i li) true q (endOf ws i .state) refl)
   where
     at : (e : EndPoint) (s : State) → Stated b l i e true s → e .run .taken ≤ e .run .window .size
     at e state.Closed a = let z = a .fresh .taken in omega arith
@@ -115,13 +132,13 @@ s-narrow t ws b l g i li q =
     at e state.Open a = a .sending .taken
     at e (state.Failing n) a = a .sending .taken
 
-anew-held : (r : Run) → Fresh r → (k : ℕ) → held (r .window) k ≡ true → ⊥
-anew-held r f k h = true≢false (sym h ∙ ap (λ (w : Window). held w k) (f .window) ∙ new-held (r .window .size) k)
+pub fresh-held : (r : Run) → Fresh r → (k : ℕ) → held (r .window) k ≡ true → ⊥
+fresh-held r f k h = true≢false (sym h ∙ ap (λ (w : Window). held w k) (f .window) ∙ new-held (r .window .size) k)
 
 r-filled-at : (b : List ℕ) (l : Lists) (i : ℕ) (e : EndPoint) (s : State) → Stated b l i e false s → (k : ℕ) → held (e .run .window) k ≡ true
     → Filled b i (e .run .window) (e .entry .largest) k
-r-filled-at b l i e state.Closed a k h = absurd (anew-held (e .run) (a .fresh) k h)
-r-filled-at b l i e (state.Enabled t sent) a k h = absurd (anew-held (e .run) (a .0 .fresh) k h)
+r-filled-at b l i e state.Closed a k h = absurd (fresh-held (e .run) (a .fresh) k h)
+r-filled-at b l i e (state.Enabled t sent) a k h = absurd (fresh-held (e .run) (a .0 .fresh) k h)
 r-filled-at b l i e state.Open a k h = a .receiving .filled k h
 r-filled-at b l i e (state.Failing n) a k h = absurd a
 
@@ -129,7 +146,7 @@ r-filled-at b l i e (state.Failing n) a k h = absurd a
 pub r-filled : (t ws b : List ℕ) (l : Lists) → Good t ws b l → (i : ℕ) → i < countIn ws → isSends (endOf ws i .entry .kind) ≡ false
     → (k : ℕ) → held (endOf ws i .run .window) k ≡ true → Filled b i (endOf ws i .run .window) (endOf ws i .entry .largest) k
 r-filled t ws b l g i li q k h =
-    r-filled-at b l i (endOf ws i) (endOf ws i .state) (subst (λ (x : Bool). Stated b l i (endOf ws i) x (endOf ws i .state)) q (g .entered i li .stated)) k h
+    r-filled-at b l i (endOf ws i) (endOf ws i .state) (stated-as b l i (endOf ws i) (g .entered i li) false q (endOf ws i .state) refl) k h
 
 -- ---- what is done elsewhere
 
@@ -149,7 +166,7 @@ module _ (t : List ℕ) (n m : Memory) (l l′ : Lists) (g : Good t (n .node) (n
   end-stays = a .others i d
 
   pub count-stays : countIn (m .node) ≡ countIn (n .node)
-  count-stays = ap (λ (x : ℕ). x % 256) (a .head 0 (omega arith))
+  count-stays = apart-count j (n .node) (m .node) a
 
   pub room-stays : storeOf t ≤ length (m .store)
   room-stays = rw (stored-long t n (m .store) j st) room
@@ -161,16 +178,10 @@ module _ (t : List ℕ) (n m : Memory) (l l′ : Lists) (g : Good t (n .node) (n
       good-w : GoodWindow (endOf (n .node) i .run .window)
       good-w = g .entered i li .window
 
-      low : i < 16
-      low = let c = count-low t (n .node) (n .book) l g in omega arith
-
       same : lengthIn (m .book) (cell i (endOf (n .node) i .run .window) (past (endOf (n .node) i .run .window) k)) ≡ lengthIn (n .book) (cell i (endOf (n .node) i .run .window) (past (endOf (n .node) i .run .window) k))
       same =
           v .cells (lengthAt (cell i (endOf (n .node) i .run .window) (past (endOf (n .node) i .run .window) k))) (omega arith)
-          (λ e. d (sym (length-owner i low (endOf (n .node) i .run .window) good-w (past (endOf (n .node) i .run .window) k)) ∙ e))
-
-      inside : slotFor (endOf (n .node) i .run .window) (past (endOf (n .node) i .run .window) k) < slotsOf (entryOf t i .kind) (entryOf t i .window)
-      inside = slot-of-window (entryOf t i) _ (rw (← end-size t (n .node) (n .book) l g i li) (slot-lt (endOf (n .node) i .run .window) (past (endOf (n .node) i .run .window) k) good-w))
+          (λ e. d (sym (length-owner i (entry-low t (n .node) (n .book) l g i li) (endOf (n .node) i .run .window) good-w (past (endOf (n .node) i .run .window) k)) ∙ e))
 
       read : Stored t n (m .store) j
           → take (lengthIn (n .book) (cell i (endOf (n .node) i .run .window) (past (endOf (n .node) i .run .window) k)))
@@ -179,7 +190,7 @@ module _ (t : List ℕ) (n m : Memory) (l l′ : Lists) (g : Good t (n .node) (n
       read (unaltered e) = rw e
       read (put r p hj hr hp e) =
           rw e (areas-stay t (n .node) (n .book) l g i j (slotFor (endOf (n .node) i .run .window) (past (endOf (n .node) i .run .window) k)) r
-          (lengthIn (n .book) (cell i (endOf (n .node) i .run .window) (past (endOf (n .node) i .run .window) k))) (n .store) p li hj inside hr (f .most) hp room d)
+          (lengthIn (n .book) (cell i (endOf (n .node) i .run .window) (past (endOf (n .node) i .run .window) k))) (n .store) p li hj (slot-low t (n .node) (n .book) l g i li (past (endOf (n .node) i .run .window) k)) hr (f .most) hp room d)
 
 -- what another entry's call leaves of a sender's view, and of a receiver's
 pub s-elsewhere : (t : List ℕ) (i : ℕ) (n m : Memory) (s : Send) (v : SView t i n s) (l′ : Lists) (j : ℕ) → i ≢ j → Good t (m .node) (m .book) l′
@@ -192,16 +203,8 @@ s-elsewhere t i n m s v l′ j d g′ a w st =
       known = rw (count-stays t n m (v .lists) l′ (v .good) (v .room) i j (v .known) d a w st) (v .known);
       sends = rw e (v .sends);
       room = room-stays t n m (v .lists) l′ (v .good) (v .room) i j (v .known) d a w st;
-      end = rw e (record {
-        state = v .end .state;
-        start = v .end .start;
-        taken = v .end .taken;
-        handed = v .end .handed;
-        acknowledged = v .end .acknowledged;
-        accepted = v .end .accepted;
-        confirmed = v .end .confirmed;
-        slots = λ k h. v .end .slots k h ∙ sym (payload-stays t n m (v .lists) l′ (v .good) (v .room) i j (v .known) d a w st k (s-filled t (n .node) (n .book) (v .lists) (v .good) i (v .known) (v .sends) k h));
-      });
+      end = rw e (s-end-same (entryOf t i .window) (endOf (n .node) i) (payloadOf n i) _ s (v .end)
+          (λ k h. payload-stays t n m (v .lists) l′ (v .good) (v .room) i j (v .known) d a w st k (s-filled t (n .node) (n .book) (v .lists) (v .good) i (v .known) (v .sends) k h)));
     }
 
 pub r-elsewhere : (t : List ℕ) (i : ℕ) (n m : Memory) (r : Recv) (v : RView t i n r) (l′ : Lists) (j : ℕ) → i ≢ j → Good t (m .node) (m .book) l′

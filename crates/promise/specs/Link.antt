@@ -2,7 +2,7 @@
 -- the numbers that it answered, and the bytes of frames and blocks. Cited by the promise. Assumes nothing.
 use Prim.Native.Nat.{ℕ, _/_, _%_, _^_, _<_}
 use mathlib.Core.Path.{_≡_}
-use mathlib.Core.Bool.{Bool, true, false, _&&_}
+use mathlib.Core.Bool.{Bool, false, _&&_}
 use mathlib.Core.List.{List, [], _∷_}
 use lib.ListN.{take, getD}
 use lib.Dec.{eqb}
