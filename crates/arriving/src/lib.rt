@@ -8,7 +8,10 @@ use ends::EndPoint;
 use ends::answers::Arrived;
 use ends::heads::own;
 use ends::heads::protocol;
-use ends::load;
+use ends::load_entry;
+use ends::load_place;
+use ends::load_run;
+use ends::load_state;
 use frame::FrameType;
 use frame::Header;
 use frame::Read;
@@ -27,6 +30,7 @@ use units::refusals::Verdict;
 ghost use mathlib.Core.Path.{_≡_};
 ghost use Prim.Native.Nat.{_<_};
 ghost use lib.ListN.{length};
+ghost use Rattle.ends.specs.Ends.{endOf};
 ghost use Rattle.arriving.specs.Arriving.{ours, takenAnswer, takenAfter, entryAnswer, entryAfter, entryOf, arrivalAnswer, arrivalAfter};
 
 // Whether destination and protocol ID are ours.
@@ -65,6 +69,24 @@ fn take(
     }
 }
 
+// End point i as `load` reads it. It has one caller, so that the compiler reads there what the caller uses and no more: `load` has
+// many, and hands over the whole by way of memory.
+fn read_end(node: &[u64], i: usize) -> EndPoint
+    requires { ⌜ i < 4096 ⌝ }
+    ensures { λ r. ⌜ r ≡ endOf (now (node .entry)) i ⌝ }
+{
+    let entry = load_entry(node, i);
+    let place = load_place(node, i);
+    let state = load_state(node, i);
+    let run = load_run(node, i, (entry.window % 256) as u8);
+    EndPoint {
+        entry,
+        place,
+        state,
+        run,
+    }
+}
+
 // A frame with a header comes to entry i.
 fn come(
     node: &mut [u64],
@@ -80,7 +102,7 @@ fn come(
     ensures after { λ _. ⌜ record { node = now (node .exit); book = now (book .exit); store = now (store .exit); out = now (out .exit) }
         ≡ entryAfter (record { node = now (node .entry); book = now (book .entry); store = now (store .entry); out = now (out .entry) }) i h (now (payload .entry)) ⌝ }
 {
-    let e = load(node, i as usize);
+    let e = read_end(node, i as usize);
     let t = h.kind;
     match judge(node, i, e, t, h.length, store.len(), out.len()) {
         Verdict::Refused(w) => Arrived::Refused(w),

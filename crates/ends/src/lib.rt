@@ -18,6 +18,7 @@ use window::Marks;
 use window::Window;
 ghost use mathlib.Core.Path.{_≡_};
 ghost use Prim.Native.Nat.{_+_, _<_};
+ghost use lib.ListN.{take, drop};
 ghost use Rattle.memory.specs.Layout.{entryAt};
 ghost use Rattle.ends.specs.Ends.{kindOf, stateOf, loadEntry, placeIn, loadState, loadRun, endOf, stateWords, kindWord, saved, savedEntry};
 ghost use mathlib.Core.List.{[], _∷_};
@@ -77,19 +78,36 @@ fn state_of(tag: u64, value: u64, flag: u64) -> State
     State::Failing((value % 65536) as u16)
 }
 
+// The words of entry i, as many of its 32 as there are. The length is tested once here: where it is known, as in every call of
+// the node, no read of a word below tests it again.
+fn words_of(node: &[u64], i: usize) -> &[u64]
+    requires { ⌜ i < 4096 ⌝ }
+    ensures { λ r. ⌜ now r ≡ take 32 (drop (entryAt i) (now (node .entry))) ⌝ }
+{
+    let at = 64 + 32 * i;
+    let end = at + 32;
+    if end <= node.len() {
+        return &node[at..end];
+    }
+    if at <= node.len() {
+        return &node[at..];
+    }
+    &node[0..0]
+}
+
 // What the table says of entry i.
 pub fn load_entry(node: &[u64], i: usize) -> Entry
     requires { ⌜ i < 4096 ⌝ }
     ensures { λ r. ⌜ r ≡ loadEntry (now (node .entry)) i ⌝ }
 {
-    let at = 64 + 32 * i;
-    let kind = kind_of(word_at(node, at));
-    let remote = word_at(node, at + 1) % 256;
-    let channel = word_at(node, at + 2) % 256;
-    let retries = word_at(node, at + 3) % 256;
-    let window = word_at(node, at + 4) % 65536;
-    let largest = word_at(node, at + 5) % 65536;
-    let timeout = word_at(node, at + 6) % 65536;
+    let ws = words_of(node, i);
+    let kind = kind_of(word_at(ws, 0));
+    let remote = word_at(ws, 1) % 256;
+    let channel = word_at(ws, 2) % 256;
+    let retries = word_at(ws, 3) % 256;
+    let window = word_at(ws, 4) % 65536;
+    let largest = word_at(ws, 5) % 65536;
+    let timeout = word_at(ws, 6) % 65536;
     Entry {
         kind,
         remote: Address(remote as u8),
@@ -101,15 +119,23 @@ pub fn load_entry(node: &[u64], i: usize) -> Entry
     }
 }
 
+// Where the part of the store begins that is entry i's.
+pub fn load_place(node: &[u64], i: usize) -> u16
+    requires { ⌜ i < 4096 ⌝ }
+    ensures { λ r. ⌜ r ≡ placeIn (now (node .entry)) i ⌝ }
+{
+    (word_at(words_of(node, i), 7) % 65536) as u16
+}
+
 // The state of entry i.
 pub fn load_state(node: &[u64], i: usize) -> State
     requires { ⌜ i < 4096 ⌝ }
     ensures { λ r. ⌜ r ≡ loadState (now (node .entry)) i ⌝ }
 {
-    let at = 64 + 32 * i;
-    let tag = word_at(node, at + 8);
-    let value = word_at(node, at + 9);
-    let flag = word_at(node, at + 10);
+    let ws = words_of(node, i);
+    let tag = word_at(ws, 8);
+    let value = word_at(ws, 9);
+    let flag = word_at(ws, 10);
     state_of(tag, value, flag)
 }
 
@@ -118,15 +144,15 @@ pub fn load_run(node: &[u64], i: usize, size: u8) -> Run
     requires { ⌜ i < 4096 ⌝ }
     ensures { λ r. ⌜ r ≡ loadRun (now (node .entry)) i size ⌝ }
 {
-    let at = 64 + 32 * i;
-    let start = word_at(node, at + 11) % 256;
-    let low = word_at(node, at + 12);
-    let high = word_at(node, at + 13);
-    let taken = word_at(node, at + 14) % 256;
-    let handed = word_at(node, at + 15) % 256;
-    let accepted = word_at(node, at + 16) % 4294967296;
-    let confirmed = word_at(node, at + 17) % 4294967296;
-    let urgent = word_at(node, at + 18) % 65536;
+    let ws = words_of(node, i);
+    let start = word_at(ws, 11) % 256;
+    let low = word_at(ws, 12);
+    let high = word_at(ws, 13);
+    let taken = word_at(ws, 14) % 256;
+    let handed = word_at(ws, 15) % 256;
+    let accepted = word_at(ws, 16) % 4294967296;
+    let confirmed = word_at(ws, 17) % 4294967296;
+    let urgent = word_at(ws, 18) % 65536;
     Run {
         window: Window {
             start: Seq(start as u8),
@@ -147,12 +173,12 @@ pub fn load(node: &[u64], i: usize) -> EndPoint
     ensures { λ r. ⌜ r ≡ endOf (now (node .entry)) i ⌝ }
 {
     let entry = load_entry(node, i);
-    let place = word_at(node, 64 + 32 * i + 7) % 65536;
+    let place = load_place(node, i);
     let state = load_state(node, i);
     let run = load_run(node, i, (entry.window % 256) as u8);
     EndPoint {
         entry,
-        place: place as u16,
+        place,
         state,
         run,
     }

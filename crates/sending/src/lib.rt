@@ -4,11 +4,16 @@
 // every payload; a refused call alters nothing. specs/Sending.antt states both calls.
 mod judging; // judging.rt: which of the two calls are refused
 
+use ends::EndPoint;
 use ends::Run;
 use ends::State;
 use ends::heads::count;
 use ends::heads::need;
 use ends::load;
+use ends::load_entry;
+use ends::load_place;
+use ends::load_run;
+use ends::load_state;
 use ends::save;
 use judging::judge_send;
 use judging::judge_urgent;
@@ -27,8 +32,27 @@ use window::advance;
 ghost use mathlib.Core.Path.{_≡_};
 ghost use mathlib.Core.List.{[]};
 ghost use Prim.Native.Nat.{_<_};
+ghost use Rattle.ends.specs.Ends.{endOf};
 ghost use Rattle.slots.specs.Slots.{cell};
 ghost use Rattle.sending.specs.Sending.{sendAnswer, sendAfter, sentRun, sentBook, urgentAnswer, urgentAfter, urgentRun};
+
+// End point i as `load` reads it. It has one caller, so that the compiler reads there what the caller uses and no more: `load` has
+// many, and hands over the whole by way of memory.
+fn read_end(node: &[u64], i: usize) -> EndPoint
+    requires { ⌜ i < 4096 ⌝ }
+    ensures { λ r. ⌜ r ≡ endOf (now (node .entry)) i ⌝ }
+{
+    let entry = load_entry(node, i);
+    let place = load_place(node, i);
+    let state = load_state(node, i);
+    let run = load_run(node, i, (entry.window % 256) as u8);
+    EndPoint {
+        entry,
+        place,
+        state,
+        run,
+    }
+}
 
 // The host sends a payload: it takes the next sequence number and waits as data.
 pub fn send(
@@ -45,7 +69,7 @@ pub fn send(
     if count(node) as usize <= index {
         return Verdict::Refused(Refusal::NoEntry);
     }
-    let e = load(node, index);
+    let e = read_end(node, index);
     let v = judge_send(e, payload.len(), store.len(), need(node));
     let Verdict::Refused(why) = v else {
         let run = e.run;

@@ -7,11 +7,11 @@ use Rattle.arriving.proofs.come.Reads as reads
 use Rattle.arriving.proofs.come.Lts as lts
 use Rattle.arriving.proofs.judging.judge.Reads as judge-reads
 use Rattle.arriving.proofs.take.Reads as take-reads
-use Rattle.ends.proofs.load.Reads as load-reads
+use Rattle.arriving.proofs.read_end.Reads as read-end-reads
 
 -- src/lib.rt:83:9
-load-requires : tie.Need-load-requires
-load-requires c κs = search needs
+read-end-requires : tie.Need-read-end-requires
+read-end-requires c κs = search needs
 
 -- src/lib.rt:85:11
 judge-requires : tie.Need-judge-requires
@@ -37,7 +37,7 @@ same-length c = search needs
 returns : tie.Need-returns
 unfolding entryAnswer entryAfter
 returns c =
-    let q = rw (c .before .before .before .before .before .load .ensures) at (sym (c .before .before .before .judge .ensures) ∙ c .before .w .given .1) in
+    let q = rw (c .before .before .before .before .before .read-end .ensures) at (sym (c .before .before .before .judge .ensures) ∙ c .before .w .given .1) in
     (rw q, rw q)
 
 -- src/lib.rt:69:1
@@ -60,7 +60,7 @@ same-length-5 c = search needs
 returns-2 : tie.Need-returns-2
 unfolding entryAnswer entryAfter
 returns-2 c =
-    let l = c .before .before .before .before .before .before .before .before .before .before .before .before .before .before .before .before .before .load .ensures in
+    let l = c .before .before .before .before .before .before .before .before .before .before .before .before .before .before .before .before .before .read-end .ensures in
     let q = rw l at (sym (c .before .before .before .before .before .before .before .before .before .before .before .before .before .before .before .judge .ensures) ∙ c .before .before .before .before .before .before .before .before .before .before .before .before .before .enum-told .given .1) in
     let d = c .before .before .before .before .before .before .before .before .take .ensures in
     (rw q (rw l at (d .0)), rw q (rw l at (d .1)))
@@ -69,7 +69,7 @@ pub come-spec : {M : Type 1} → statement M
 come-spec =
     tie.close
     (tie.spec
-    load-requires
+    read-end-requires
     judge-requires
     enum-known-w
     enum-told

@@ -23,8 +23,8 @@ returns : tie.Need-returns
 unfolding sendAnswer sendAfter
 returns c = (rw (le-leb _ _ (rw (c .before .count .ensures) at (c .if1 .taken))), refl)
 
-load-requires : tie.Need-load-requires
-load-requires c κs = search needs
+read-end-requires : tie.Need-read-end-requires
+read-end-requires c κs = search needs
 
 need-requires : tie.Need-need-requires
 need-requires c κs = search needs
@@ -45,16 +45,16 @@ cast-wait-as-data : tie.Need-cast-wait-as-data
 cast-wait-as-data c = search needs
 
 -- what is known where no test fits
-passed : (c : tie.After-enum-told) → MaySend (c .before .before .before .before .before .load .result) (length (now (c .before .before .before .before .before .before .before .before .before .before .before .before .before .before .args .payload)))
+passed : (c : tie.After-enum-told) → MaySend (c .before .before .before .before .before .read-end .result) (length (now (c .before .before .before .before .before .before .before .before .before .before .before .before .before .before .args .payload)))
 passed c =
     let j = c .before .before in
     let a = j .before .before .before .before .before .before .before .before .before .before .before .before .args in
-    may-send (j .before .before .before .load .result) (length (now (a .payload))) (length (now (a .store))) (j .before .need .result) (j .judge-send .result) (j .judge-send .ensures) (c .enum-told .given .1)
+    may-send (j .before .before .before .read-end .result) (length (now (a .payload))) (length (now (a .store))) (j .before .need .result) (j .judge-send .result) (j .judge-send .ensures) (c .enum-told .given .1)
 
 cast-wait-as-data-2 : tie.Need-cast-wait-as-data-2
 cast-wait-as-data-2 c =
     let t = c .before .before .before .before in
-    omega (arith, passed t, t .before .before .before .before .before .load .ok)
+    omega (arith, passed t, t .before .before .before .before .before .read-end .ok)
 
 wait-as-data-requires : tie.Need-wait-as-data-requires
 wait-as-data-requires c κs = search needs
@@ -71,7 +71,7 @@ put-all-requires c κs = search needs
 sent-run-requires : tie.Need-sent-run-requires
 sent-run-requires c κs =
     let t = c .before .before .before .before .before .before .before .before .before .before .before .before .before .before in
-    omega (arith, passed t, t .before .before .before .before .before .load .ok)
+    omega (arith, passed t, t .before .before .before .before .before .read-end .ok)
 
 save-requires : tie.Need-save-requires
 save-requires c κs =
@@ -93,8 +93,8 @@ returns-2 c =
     let t = c .before .before .before .before .before .before .before .before .before .before .before .before .before .before .before .before .before .before in
     let j = t .before .before in
     let l = j .before .before .before in (
-      rw (lt-leb _ _ (rw (l .before .before .before .count .ensures) at (l .before .before .if1 .left)), ← l .load .ensures, ← j .before .need .ensures) (rw (t .enum-told .given .1) at (j .judge-send .ensures)),
-      rw (c .before .before .save .ensures, c .before .before .before .sent-run .ensures, c .before .before .before .before .before .before .before .put-all .ensures, c .before .before .before .before .before .before .before .before .before .spot-of .ensures, c .before .before .before .before .before .before .before .before .before .before .slot-for .ensures, c .before .before .before .before .before .before .before .before .before .before .before .before .before .wait-as-data .ensures, c .before .before .before .before .before .before .before .before .before .before .before .before .before .before .before .advance .ensures, ← l .load .ensures, passed t .opened),
+      rw (lt-leb _ _ (rw (l .before .before .before .count .ensures) at (l .before .before .if1 .left)), ← l .read-end .ensures, ← j .before .need .ensures) (rw (t .enum-told .given .1) at (j .judge-send .ensures)),
+      rw (c .before .before .save .ensures, c .before .before .before .sent-run .ensures, c .before .before .before .before .before .before .before .put-all .ensures, c .before .before .before .before .before .before .before .before .before .spot-of .ensures, c .before .before .before .before .before .before .before .before .before .before .slot-for .ensures, c .before .before .before .before .before .before .before .before .before .before .before .before .before .wait-as-data .ensures, c .before .before .before .before .before .before .before .before .before .before .before .before .before .before .before .advance .ensures, ← l .read-end .ensures, passed t .opened),
     )
 
 same-length-5 : tie.Need-same-length-5
@@ -105,7 +105,7 @@ unfolding sendAnswer sendAfter
 returns-3 c =
     let j = c .before .before .before in
     let l = j .before .before .before in
-    (rw (lt-leb _ _ (rw (l .before .before .before .count .ensures) at (l .before .before .if1 .left)), ← l .load .ensures, ← j .before .need .ensures) (rw (c .before .v .given .1) at (j .judge-send .ensures)), refl)
+    (rw (lt-leb _ _ (rw (l .before .before .before .count .ensures) at (l .before .before .if1 .left)), ← l .read-end .ensures, ← j .before .need .ensures) (rw (c .before .v .given .1) at (j .judge-send .ensures)), refl)
 
 pub send-spec : {M : Type 1} → statement M
 send-spec =
@@ -115,7 +115,7 @@ send-spec =
     cast-if1
     same-length
     returns
-    load-requires
+    read-end-requires
     need-requires
     judge-send-requires
     enum-known-v
