@@ -177,13 +177,5 @@ static void run_stream(size_t len)
 
 int main(void)
 {
-    size_t len = stream_read(input, sizeof input);
-
-    if (len > INPUT_MAX) {
-        line_text("too long");
-        line_end();
-    } else {
-        run_stream(len);
-    }
-    return stream_end();
+    return stream_program(input, sizeof input, INPUT_MAX, run_stream);
 }

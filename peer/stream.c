@@ -76,3 +76,16 @@ int stream_end(void)
         failed = 1;
     return failed;
 }
+
+int stream_program(uint8_t *input, size_t room, size_t most, void (*run)(size_t len))
+{
+    size_t len = stream_read(input, room);
+
+    if (len > most) {
+        line_text("too long");
+        line_end();
+    } else {
+        run(len);
+    }
+    return stream_end();
+}

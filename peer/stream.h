@@ -17,4 +17,8 @@ void line_end(void);
 /* Writes out what is still kept; the program's exit status. */
 int stream_end(void);
 
+/* The whole of a program that runs a stream: standard input into room bytes, then run of its length, or the one
+ * line "too long" where it has more than most; the program's exit status. */
+int stream_program(uint8_t *input, size_t room, size_t most, void (*run)(size_t len));
+
 #endif
