@@ -6,6 +6,7 @@ use mathlib.Core.List.{List, [], _∷_}
 use lib.ListN.{length, getD}
 use Rattle.units.specs.declared.refusals.Verdict.the-variants.{Passed}
 use Rattle.ends.specs.Lent.{Lent}
+use Rattle.node.specs.Lending as lending
 use Rattle.ends.specs.Answers.{answerOf, countedOf, arrivedOf, handedOf}
 use Rattle.opening.specs.Setup.{setupAnswer, setupAfter}
 use Rattle.opening.specs.Opening.{openAnswer, openAfter, closeAnswer, closeAfter, countsAnswer}
@@ -35,10 +36,10 @@ pub data Call : Type 0 where
 
 -- what is lent to it: of some calls the store too, with a block or a frame buffer
 abbrev pub lent : Memory → List ℕ → Lent
-lent n out = record { node = n .node; book = n .book; store = n .store; out = out }
+lent n out = lending.whole (n .node) (n .book) (n .store) out
 
 abbrev pub bare : Memory → Lent
-bare n = record { node = n .node; book = n .book; store = []; out = [] }
+bare n = lending.bare (n .node) (n .book)
 
 -- what is kept of it afterwards
 abbrev pub kept : Lent → Memory

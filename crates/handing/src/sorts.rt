@@ -7,6 +7,7 @@ use ends::State;
 use ends::answers::HandedOut;
 use ends::load;
 use ends::load_entry;
+use ends::load_place;
 use ends::load_run;
 use ends::load_state;
 use ends::save;
@@ -14,7 +15,6 @@ use ends::states::without_urgent;
 use frame::FrameType;
 use memory::half_at;
 use memory::put_half;
-use memory::word_at;
 use slots::number_in;
 use slots::part;
 use slots::spot_of;
@@ -113,14 +113,6 @@ fn entry_of(x: u16) -> usize
     (less(x, 64) / 128 % 256) as usize
 }
 
-// Where the part of the store begins that is entry i's.
-fn place_of(node: &[u64], i: usize) -> u16
-    requires { ⌜ i < 4096 ⌝ }
-    ensures { λ r. ⌜ r ≡ endOf (now (node .entry)) i .place ⌝ }
-{
-    (word_at(node, 64 + 32 * i + 7) % 65536) as u16
-}
-
 // The run of entry i.
 fn run_of(node: &[u64], i: usize) -> Run
     requires { ⌜ i < 4096 ⌝ }
@@ -148,7 +140,7 @@ pub fn put_again(
     let number = number_in(run_of(node, i).window, slot);
     let fields = fields_to(node, entry, FrameType::Data, number);
     let length = half_at(book, 4224 + g as usize);
-    let spot = spot_of(place_of(node, i), entry.largest, slot);
+    let spot = spot_of(load_place(node, i), entry.largest, slot);
     match put_frame(frame, fields, part(store, spot, length as usize)) {
         HandedOut::Refused(w) => HandedOut::Refused(w),
         HandedOut::Length(n) => {
@@ -189,7 +181,7 @@ pub fn put_data(
     let number = number_in(run.window, slot);
     let fields = fields_to(node, entry, FrameType::Data, number);
     let length = half_at(book, 4224 + g as usize);
-    let spot = spot_of(place_of(node, i), entry.largest, slot);
+    let spot = spot_of(load_place(node, i), entry.largest, slot);
     match put_frame(frame, fields, part(store, spot, length as usize)) {
         HandedOut::Refused(w) => HandedOut::Refused(w),
         HandedOut::Length(n) => {

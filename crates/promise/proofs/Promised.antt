@@ -12,7 +12,9 @@ use Rattle.table.specs.declared.Kind.the-variants.{Sends, Receives}
 use Rattle.table.proofs.Good.{good-entry}
 use Rattle.ends.specs.Heads.{countIn}
 use Rattle.good.specs.Calls.{Memory, Call, opens, closes, counts, sends, urges, arrives, hands-out, ticks, Fed, SetUp}
-use Rattle.good.proofs.ReachGood.{setup-holds}
+use Rattle.good.specs.Calls as nodes
+use Rattle.good.specs.Reaching.{ReachIsGood}
+use Rattle.good.proofs.ReachGood.{setup-holds, reach-is-good}
 use Rattle.promise.specs.History.{Pay, s-enabled, Live}
 use Rattle.promise.specs.Promise.{SSide, RSide, Reach, at-setup, by-call, Kept, Sys, begin, Moves, Demand3}
 use Rattle.promise.specs.Link.{Event, Did, sender, receiver, s-seen, r-seen, Promise}
@@ -116,10 +118,15 @@ r-laws u j h k =
 
 -- ---- the promise
 
--- a table that a node was set up from is good
+-- what the promise's own `Reach` gives, calls with their answers, is what crates/good has it give
+reach-same : (t : List ℕ) (n : Memory) → Reach Memory Event (SetUp t) Did n → nodes.Reach t n
+reach-same t n (at-setup _ u) = nodes.at-setup n u
+reach-same t n (by-call m _ e r d) = subst (nodes.Reach t) (sym (d .left)) (nodes.by-call m (e .call) (d .fed) (reach-same t m r))
+
+-- so the table is good
 reached : (t : List ℕ) (n : Memory) → Reach Memory Event (SetUp t) Did n → goodTable t ≡ true
-reached t n (at-setup _ u) = setup-holds t n u .1 .table
-reached t n (by-call m _ c r d) = reached t m r
+unfolding ReachIsGood
+reached t n r = reach-is-good t n (reach-same t n r) .1 .table
 
 -- what is proved of any two nodes, laid open
 demand : (W : ℕ) → isSize W ≡ true → (A : SSide) (B : RSide) → SLaws W A → RLaws W B → (a : A .Node) (b : B .Node) (delivered : List Pay)

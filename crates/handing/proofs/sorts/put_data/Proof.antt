@@ -39,8 +39,8 @@ add-half-at c = search needs
 half-at-requires : tie.Need-half-at-requires
 half-at-requires c κs = search needs
 
-place-of-requires : tie.Need-place-of-requires
-place-of-requires c κs = search needs
+load-place-requires : tie.Need-load-place-requires
+load-place-requires c κs = search needs
 
 spot-of-requires : tie.Need-spot-of-requires
 spot-of-requires c κs = search needs
@@ -96,7 +96,7 @@ data-put :
     (c .put-frame .result ≡ fitted (now (c .before .before .before .before .before .before .before .before .before .before .before .before .before .before .before .before .before .before .before .before .before .args .frame)) (dataFrame (now (c .before .before .before .before .before .before .before .before .before .before .before .before .before .before .before .before .before .before .before .before .before .args .node)) (now (c .before .before .before .before .before .before .before .before .before .before .before .before .before .before .before .before .before .before .before .before .before .args .book)) (now (c .before .before .before .before .before .before .before .before .before .before .before .before .before .before .before .before .before .before .before .before .before .args .store)) (c .before .before .before .before .before .before .before .before .before .before .before .before .before .before .before .before .before .before .before .before .before .args .x))) × (c .put-frame .last .0 ≡ once (c .put-frame .result) (now (c .before .before .before .before .before .before .before .before .before .before .before .before .before .before .before .before .before .before .before .before .before .args .frame)) (sets (now (c .before .before .before .before .before .before .before .before .before .before .before .before .before .before .before .before .before .before .before .before .before .args .frame)) 0 (dataFrame (now (c .before .before .before .before .before .before .before .before .before .before .before .before .before .before .before .before .before .before .before .before .before .args .node)) (now (c .before .before .before .before .before .before .before .before .before .before .before .before .before .before .before .before .before .before .before .before .before .args .book)) (now (c .before .before .before .before .before .before .before .before .before .before .before .before .before .before .before .before .before .before .before .before .before .args .store)) (c .before .before .before .before .before .before .before .before .before .before .before .before .before .before .before .before .before .before .before .before .before .args .x))))
 unfolding dataFrame endOf
 data-put c =
-    rw (c .before .part .ensures, c .before .before .before .spot-of .ensures, c .before .before .before .before .place-of .ensures, c .before .before .before .before .before .before .half-at .ensures, c .before .before .before .before .before .before .before .before .fields-to .ensures, c .before .before .before .before .before .before .before .before .before .before .number-in .ensures, c .before .before .before .before .before .before .before .before .before .before .before .run-of .ensures, c .before .before .before .before .before .before .before .before .before .before .before .before .before .load-entry .ensures, c .before .before .before .before .before .before .before .before .before .before .before .before .before .before .before .less .ensures, c .before .before .before .before .before .before .before .before .before .before .before .before .before .before .before .before .entry-of .ensures) at (c .put-frame .ensures)
+    rw (c .before .part .ensures, c .before .before .before .spot-of .ensures, c .before .before .before .before .load-place .ensures, c .before .before .before .before .before .before .half-at .ensures, c .before .before .before .before .before .before .before .before .fields-to .ensures, c .before .before .before .before .before .before .before .before .before .before .number-in .ensures, c .before .before .before .before .before .before .before .before .before .before .before .run-of .ensures, c .before .before .before .before .before .before .before .before .before .before .before .before .before .load-entry .ensures, c .before .before .before .before .before .before .before .before .before .before .before .before .before .before .before .less .ensures, c .before .before .before .before .before .before .before .before .before .before .before .before .before .before .before .before .entry-of .ensures) at (c .put-frame .ensures)
 
 returns : tie.Need-returns
 returns c =
@@ -139,7 +139,7 @@ put-data-spec =
     cast-half-at
     add-half-at
     half-at-requires
-    place-of-requires
+    load-place-requires
     spot-of-requires
     cast-part
     part-requires
