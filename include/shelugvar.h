@@ -64,7 +64,7 @@ enum {
 
 /* Lengths. A table's entries say how much store they take; these are the most that any table asks for. */
 enum {
-	SHELUGVAR_NODE_WORDS = 576,
+	SHELUGVAR_NODE_WORDS = 832,
 	SHELUGVAR_BOOK_WORDS = 10368,
 	SHELUGVAR_STORE_MOST = 32768,
 	SHELUGVAR_BLOCK_MOST = 33286,    /* 6 + W x (4 + P) for W 128 and W x P 32,768 */
@@ -102,8 +102,8 @@ struct shelugvar_fields {
 
 #if defined(__STDC_VERSION__) && __STDC_VERSION__ >= 201112L
 _Static_assert(sizeof(size_t) == 8, "the archive is for x86-64");
-_Static_assert(sizeof(struct shelugvar_node) == 25344, "a node is 25,344 bytes");
-_Static_assert(offsetof(struct shelugvar_node, book) == 4608, "the book follows the words");
+_Static_assert(sizeof(struct shelugvar_node) == 27392, "a node is 27,392 bytes");
+_Static_assert(offsetof(struct shelugvar_node, book) == 6656, "the book follows the words");
 _Static_assert(sizeof(struct shelugvar_counts) == 8, "counts are two numbers of 32 bits");
 _Static_assert(sizeof(struct shelugvar_arrival) == 16, "an arrival is two numbers of 64 bits");
 _Static_assert(sizeof(struct shelugvar_fields) == 7, "fields are seven bytes");

@@ -13,7 +13,6 @@ use ends::load_place;
 use ends::load_run;
 use ends::load_state;
 use frame::FrameType;
-use frame::Header;
 use frame::Read;
 use frame::reading::header;
 use frame::reading::is_sound;
@@ -30,8 +29,9 @@ use units::refusals::Verdict;
 ghost use mathlib.Core.Path.{_≡_};
 ghost use Prim.Native.Nat.{_<_};
 ghost use lib.ListN.{length};
+ghost use Rattle.units.specs.Refusals.{verdict};
 ghost use Rattle.ends.specs.Ends.{endOf};
-ghost use Rattle.arriving.specs.Arriving.{ours, takenAnswer, takenAfter, entryAnswer, entryAfter, entryOf, arrivalAnswer, arrivalAfter};
+ghost use Rattle.arriving.specs.Arriving.{ours, entryTests, takenAnswer, takenAfter, answerAs, afterAs, arrivalAnswer, arrivalAfter};
 
 // Whether destination and protocol ID are ours.
 fn is_ours(node: &[u64], frame: &[u8]) -> bool
@@ -87,26 +87,31 @@ fn read_end(node: &[u64], i: usize) -> EndPoint
     }
 }
 
-// A frame with a header comes to entry i.
+// A frame of type t, with a payload of n bytes by its header and number s, comes to entry i. It is handed these and not the header: what
+// goes in one word has to be put into it and taken out again.
 fn come(
     node: &mut [u64],
     book: &mut [u16],
     store: &mut [u8],
     out: &mut [u8],
     i: u8,
-    h: Header,
+    t: FrameType,
+    n: u16,
+    s: Seq,
     payload: &[u8],
 ) -> Arrived
     requires { ⌜ length (now payload) < 65536 ⌝ }
-    ensures answer { λ r. ⌜ r ≡ entryAnswer (record { node = now (node .entry); book = now (book .entry); store = now (store .entry); out = now (out .entry) }) i h (now (payload .entry)) ⌝ }
+    ensures answer { λ r. ⌜ r ≡ answerAs (verdict (entryTests (now (node .entry)) i (endOf (now (node .entry)) i) t n (length (now (store .entry))) (length (now (out .entry)))))
+        (takenAnswer (record { node = now (node .entry); book = now (book .entry); store = now (store .entry); out = now (out .entry) }) i (endOf (now (node .entry)) i) t (s .0) (now (payload .entry))) ⌝ }
     ensures after { λ _. ⌜ record { node = now (node .exit); book = now (book .exit); store = now (store .exit); out = now (out .exit) }
-        ≡ entryAfter (record { node = now (node .entry); book = now (book .entry); store = now (store .entry); out = now (out .entry) }) i h (now (payload .entry)) ⌝ }
+        ≡ afterAs (verdict (entryTests (now (node .entry)) i (endOf (now (node .entry)) i) t n (length (now (store .entry))) (length (now (out .entry)))))
+        (record { node = now (node .entry); book = now (book .entry); store = now (store .entry); out = now (out .entry) })
+        (takenAfter (record { node = now (node .entry); book = now (book .entry); store = now (store .entry); out = now (out .entry) }) i (endOf (now (node .entry)) i) t (s .0) (now (payload .entry))) ⌝ }
 {
     let e = read_end(node, i as usize);
-    let t = h.kind;
-    match judge(node, i, e, t, h.length, store.len(), out.len()) {
+    match judge(node, i, e, t, n, store.len(), out.len()) {
         Verdict::Refused(w) => Arrived::Refused(w),
-        Verdict::Passed => take(node, book, store, out, i, e, t, h.seq, payload),
+        Verdict::Passed => take(node, book, store, out, i, e, t, s, payload),
     }
 }
 
@@ -129,7 +134,17 @@ pub fn arrive(
                 Read::Frame(h) => {
                     let t = h.kind;
                     let i = entry_for(node, t, h.source, h.channel);
-                    return come(node, book, store, out, i, h, payload(frame));
+                    return come(
+                        node,
+                        book,
+                        store,
+                        out,
+                        i,
+                        t,
+                        h.length,
+                        h.seq,
+                        payload(frame),
+                    );
                 }
             }
         }

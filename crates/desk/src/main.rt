@@ -30,7 +30,7 @@ fn unknown(out: &mut [u8], at: usize, count: u64) -> usize {
 fn run(
     input: &[u8],
     out: &mut [u8],
-    node: &mut [u64; 576],
+    node: &mut [u64; 832],
     book: &mut [u16; 10368],
     store: &mut [u8],
     block: &mut [u8],
@@ -75,7 +75,7 @@ fn main() {
         lines::flush(&out, at);
         return;
     }
-    let mut node = [0u64; 576];
+    let mut node = [0u64; 832];
     let mut book = [0u16; 10368];
     let mut store = [0u8; 32768];
     let mut block = [0u8; 33286];

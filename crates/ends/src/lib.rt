@@ -84,7 +84,7 @@ fn words_of(node: &[u64], i: usize) -> &[u64]
     requires { ⌜ i < 4096 ⌝ }
     ensures { λ r. ⌜ now r ≡ take 32 (drop (entryAt i) (now (node .entry))) ⌝ }
 {
-    let at = 64 + 32 * i;
+    let at = 320 + 32 * i;
     let end = at + 32;
     if end <= node.len() {
         return &node[at..end];
@@ -203,7 +203,7 @@ pub fn save(node: &mut [u64], i: usize, s: State, r: Run)
         r.confirmed.0 as u64,
         r.urgent as u64,
     ];
-    put_words(node, 64 + 32 * i + 8, &words)
+    put_words(node, 320 + 32 * i + 8, &words)
 }
 
 // A state in three words.
@@ -250,5 +250,5 @@ pub fn save_entry(node: &mut [u64], i: usize, e: Entry, place: u16)
         e.timeout as u64,
         place as u64,
     ];
-    put_words(node, 64 + 32 * i, &words)
+    put_words(node, 320 + 32 * i, &words)
 }

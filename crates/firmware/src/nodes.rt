@@ -33,7 +33,7 @@ fn told(v: Verdict) -> u8
 // The table is read into a node, a new one or any other. Refuses 1, 6.
 #[no_mangle]
 pub extern "C" fn shelugvar_setup(
-    node: &mut [u64; 576],
+    node: &mut [u64; 832],
     book: &mut [u16; 10368],
     store: &[u8],
     table: &[u8],
@@ -48,7 +48,7 @@ pub extern "C" fn shelugvar_setup(
 
 // Entry `index` becomes Enabled. Refuses 2, 4.
 #[no_mangle]
-pub extern "C" fn shelugvar_open(node: &mut [u64; 576], book: &mut [u16; 10368], index: usize) -> u8
+pub extern "C" fn shelugvar_open(node: &mut [u64; 832], book: &mut [u16; 10368], index: usize) -> u8
     ensures answer { λ r. ⌜ r ≡ refusalIn (answerOf (openAnswer (bare (now (node .entry)) (now (book .entry))) index)) ⌝ }
     ensures after { λ _. ⌜ bare (now (node .exit)) (now (book .exit))
         ≡ openAfter (bare (now (node .entry)) (now (book .entry))) index
@@ -60,7 +60,7 @@ pub extern "C" fn shelugvar_open(node: &mut [u64; 576], book: &mut [u16; 10368],
 // Entry `index` becomes Closed. Refuses 2, 4.
 #[no_mangle]
 pub extern "C" fn shelugvar_close(
-    node: &mut [u64; 576],
+    node: &mut [u64; 832],
     book: &mut [u16; 10368],
     index: usize,
 ) -> u8
@@ -74,7 +74,7 @@ pub extern "C" fn shelugvar_close(
 
 // A sender's counts: accepted, confirmed. Refuses 2, 3.
 #[no_mangle]
-pub extern "C" fn shelugvar_counts(node: &[u64; 576], index: usize, values: &mut [u32; 2]) -> u8
+pub extern "C" fn shelugvar_counts(node: &[u64; 832], index: usize, values: &mut [u32; 2]) -> u8
     ensures answer { λ r. ⌜ r ≡ refusalIn (countedOf (countsAnswer (now (node .entry)) index)) ⌝ }
     ensures after { λ _. ⌜ now (values .exit) ≡ valuesIn (countedOf (countsAnswer (now (node .entry)) index)) (now (values .entry)) ⌝ }
 {
@@ -91,7 +91,7 @@ pub extern "C" fn shelugvar_counts(node: &[u64; 576], index: usize, values: &mut
 // A payload is accepted and waits. Refuses 2, 3, 4, 5, 8, 7, 6.
 #[no_mangle]
 pub extern "C" fn shelugvar_send(
-    node: &mut [u64; 576],
+    node: &mut [u64; 832],
     book: &mut [u16; 10368],
     store: &mut [u8],
     index: usize,
@@ -108,7 +108,7 @@ pub extern "C" fn shelugvar_send(
 // An Urgent waits. Refuses 2, 3, 4, 5, 9, 6.
 #[no_mangle]
 pub extern "C" fn shelugvar_urgent(
-    node: &mut [u64; 576],
+    node: &mut [u64; 832],
     book: &mut [u16; 10368],
     store: &mut [u8],
     index: usize,
@@ -152,7 +152,7 @@ fn arrived(values: &mut [usize; 2], a: Arrived) -> u8
 // payloads held or the block's length. Refuses 10, 11, 12, 13, 5, 14, 6.
 #[no_mangle]
 pub extern "C" fn shelugvar_arrival(
-    node: &mut [u64; 576],
+    node: &mut [u64; 832],
     book: &mut [u16; 10368],
     store: &mut [u8],
     block: &mut [u8],
@@ -171,7 +171,7 @@ pub extern "C" fn shelugvar_arrival(
 // What goes out next is written into the frame buffer: its length, 0 where nothing waits. Refuses 6.
 #[no_mangle]
 pub extern "C" fn shelugvar_hand_out(
-    node: &mut [u64; 576],
+    node: &mut [u64; 832],
     book: &mut [u16; 10368],
     store: &[u8],
     frame: &mut [u8],
@@ -195,7 +195,7 @@ pub extern "C" fn shelugvar_hand_out(
 
 // Every running timer falls by one: the entries that became Enabled, entry 0 lowest. Refuses nothing.
 #[no_mangle]
-pub extern "C" fn shelugvar_tick(node: &mut [u64; 576], book: &mut [u16; 10368]) -> u16
+pub extern "C" fn shelugvar_tick(node: &mut [u64; 832], book: &mut [u16; 10368]) -> u16
     ensures answer { λ r. ⌜ r ≡ tickAnswer (bare (now (node .entry)) (now (book .entry))) ⌝ }
     ensures after { λ _. ⌜ bare (now (node .exit)) (now (book .exit))
         ≡ tickAfter (bare (now (node .entry)) (now (book .entry))) ⌝ }

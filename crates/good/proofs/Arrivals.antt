@@ -31,11 +31,11 @@ use Rattle.ends.specs.States.{isSends, isClosed, isOpen}
 use Rattle.ends.specs.Lent.{Lent}
 use Rattle.ends.specs.declared.State.the-variants.{Open}
 use Rattle.ends.specs.declared.answers.Arrived.the-variants as arrived
-use Rattle.lookup.specs.Lookup.{forSender, entryFor}
+use Rattle.lookup.specs.Lookup.{forSender, Indexed, entryFor}
+use Rattle.lookup.proofs.Found.{Fitting, found-fits}
 use Rattle.arriving.specs.Arriving.{delivers, answered, blockRoom, entryTests, entryOf, entryVerdict, takenAnswer, takenAfter, answerAs, afterAs, entryAnswer, entryAfter, readAnswer, readAfter, frameTests, arrivalAnswer, arrivalAfter}
 use Rattle.table.proofs.Every.{both}
 use Rattle.good.proofs.Known.{is-open}
-use Rattle.good.proofs.Finding.{Fitting, fitting, found-fits}
 
 -- ---- what the tests make sure of
 
@@ -102,7 +102,7 @@ header-byte f h e b =
 
 -- ---- at the entry
 
-module _ (x : Lent) (f : List ℕ) (h : Header) (r : readOf f ≡ read.Frame h)
+module _ (x : Lent) (index : Indexed (x .node)) (f : List ℕ) (h : Header) (r : readOf f ≡ read.Frame h)
     (answer : arrivalAnswer x f ≡ entryAnswer x (entryOf x h) h (payloadOf f))
     (after : arrivalAfter x f ≡ entryAfter x (entryOf x h) h (payloadOf f)) where
   at-entry : (v : Verdict) → entryVerdict x (entryOf x h) h ≡ v → Refused x f ⊎ Taken x f
@@ -123,7 +123,7 @@ module _ (x : Lent) (f : List ℕ) (h : Header) (r : readOf f ≡ read.Frame h)
         entry = i;
         read = r;
         known = known;
-        fit = fitting (loadEntry (x .node) i) (forSender (h .kind)) (h .source .0) (h .channel .0) (found-fits (x .node) (forSender (h .kind)) (h .source .0) (h .channel .0) (countIn (x .node)) known);
+        fit = found-fits (x .node) index (forSender (h .kind)) (h .source .0) (h .channel .0) known;
         up = c .1 .0;
         opened = λ d. is-open (endOf (x .node) i .state) (not-false (isOpen (endOf (x .node) i .state)) (and-false (delivers (h .kind)) _ (c .1 .1 .0) d));
         short = λ d. rw (p .0) (ltb-false _ _ (and-false (delivers (h .kind)) _ (c .1 .1 .1 .0) d));
@@ -138,7 +138,7 @@ module _ (x : Lent) (f : List ℕ) (h : Header) (r : readOf f ≡ read.Frame h)
 
 -- ---- the call
 
-module _ (x : Lent) (f : List ℕ) where
+module _ (x : Lent) (index : Indexed (x .node)) (f : List ℕ) where
   whole-read : (h : Header) → soundOf f ≡ true → headerOf f ≡ read.Frame h → readOf f ≡ read.Frame h
   unfolding headerOf readOf
   whole-read h s e = rw s e
@@ -148,7 +148,7 @@ module _ (x : Lent) (f : List ℕ) where
   read-on (read.Refused w) e p = inl (record { why = w; answer = rw (p, e); after = rw (p, e) })
   read-on (read.Frame h) e p =
       let c = clear (frameTests (x .node) f) p in
-      at-entry x f h (whole-read h (not-false (soundOf f) (c .0)) e) (rw (p, e)) (rw (p, e)) (entryVerdict x (entryOf x h) h) refl
+      at-entry x index f h (whole-read h (not-false (soundOf f) (c .0)) e) (rw (p, e)) (rw (p, e)) (entryVerdict x (entryOf x h) h) refl
 
   judged : (v : Verdict) → verdict (frameTests (x .node) f) ≡ v → Refused x f ⊎ Taken x f
   unfolding arrivalAnswer arrivalAfter

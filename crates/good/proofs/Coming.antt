@@ -31,22 +31,14 @@ use Rattle.ends.specs.States.{isSends, isClosed, isOpen}
 use Rattle.ends.specs.Lent.{Lent}
 use Rattle.ends.specs.declared.State.{State}
 use Rattle.ends.specs.declared.State.the-variants.{Open}
-use Rattle.lookup.specs.Lookup.{forSender, same, fits, firstFit, entryFor}
+use Rattle.lookup.specs.Lookup.{forSender, entryFor}
+use Rattle.lookup.proofs.Found.{Fitting, found-once}
 use Rattle.arriving.specs.Arriving.{ours, delivers, answered, blockRoom, entryVerdict, takenAnswer, takenAfter, entryAnswer, entryAfter, readAnswer, readAfter, arrivalAnswer, arrivalAfter}
 use Rattle.good.specs.Good.{Lists, Good}
 use Rattle.good.specs.Steps.{Comes, fieldsFor, WrittenComes}
-use Rattle.good.proofs.Finding.{Fitting, fitting, found-fits, found-none}
 use Rattle.good.proofs.Arrivals.{payload-size}
 
 -- ---- the entry that is found
-
-same-same : (a : Bool) → same a a ≡ true
-same-same true = refl
-same-same false = refl
-
-fits-true : (e : Entry) (sends : Bool) (from over : ℕ) → Fitting e sends from over → fits e sends from over ≡ true
-unfolding fits
-fits-true e sends from over f = rw (eq-eqb _ _ (f .channel), eq-eqb _ _ (f .source), f .kind) (same-same sends)
 
 same-kind : (a b : Kind) → isSends a ≡ isSends b → a ≡ b
 same-kind Sends Sends h = refl
@@ -64,16 +56,6 @@ module _ (t ws b : List ℕ) (l : Lists) (g : Good t ws b l) where
       let a = subst (λ (e : Entry). Fitting e sends from over) (g .tabled .entry i li) p in
       let d = subst (λ (e : Entry). Fitting e sends from over) (g .tabled .entry j lj) q in
       one-entry t (g .table) i j li lj (same-kind _ _ (a .kind ∙ sym (d .kind))) (a .source ∙ sym (d .source)) (a .channel ∙ sym (d .channel))
-
-  found-once : (sends : Bool) (from over i : ℕ) → i < countIn ws → Fitting (loadEntry ws i) sends from over → firstFit ws sends from over (countIn ws) ≡ i
-  found-once sends from over i h f = sides (decLt (firstFit ws sends from over (countIn ws)) (countIn ws))
-    where
-      sides : Dec (firstFit ws sends from over (countIn ws) < countIn ws) → firstFit ws sends from over (countIn ws) ≡ i
-      sides (yes k) =
-          fit-once sends from over (firstFit ws sends from over (countIn ws)) i k h
-          (fitting _ sends from over (found-fits ws sends from over (countIn ws) k)) f
-      sides (no k) =
-          absurd (true≢false (sym (fits-true (loadEntry ws i) sends from over f) ∙ found-none ws sends from over (countIn ws) (omega arith) i h))
 
 -- ---- the tests
 
@@ -106,7 +88,9 @@ module _ (t : List ℕ) (x : Lent) (l : Lists) (g : Good t (x .node) (x .book) l
     (y : May x i (h .kind) (payloadOf f)) where
   found : entryFor (x .node) (h .kind) (h .source .0) (h .channel .0) ≡ i
   unfolding entryFor
-  found = found-once t (x .node) (x .book) l g (forSender (h .kind)) (h .source .0) (h .channel .0) i known fit
+  found =
+      found-once (x .node) (g .tabled .index) (forSender (h .kind)) (h .source .0) (h .channel .0) i known fit
+      (λ j k f. fit-once t (x .node) (x .book) l g (forSender (h .kind)) (h .source .0) (h .channel .0) j i k known f fit)
 
   passes : entryVerdict x i h ≡ verdicts.Passed
   passes =

@@ -13,7 +13,7 @@ use lib.Seq.{getD-set-other, length-sets}
 use lib.Dec.{eqb}
 use borrow.Author.Tests.{ne-eqb}
 use Rattle.units.specs.Refusals.{pick}
-use Rattle.memory.specs.Layout.{resets, urgents, resends, datas, entryAt, lengthAt, timerAt, retriesAt}
+use Rattle.memory.specs.Layout.{resets, urgents, resends, datas, rowAt, entryAt, lengthAt, timerAt, retriesAt}
 use Rattle.waiting.specs.Queues.{appended, unlinked}
 use Rattle.waiting.specs.Acks.{waitingOf}
 use Rattle.order.specs.Order.{acksIn}
@@ -28,6 +28,8 @@ use Rattle.ends.specs.declared.State.{State}
 use Rattle.ends.specs.declared.State.the-variants.{Closed, Enabled, Open, Failing}
 use Rattle.ends.specs.declared.Run.{Run}
 use Rattle.ends.specs.declared.EndPoint.{EndPoint}
+use Rattle.lookup.specs.Lookup.{rowIn, Indexed}
+use Rattle.lookup.proofs.Rows.{row-ext}
 use Rattle.slots.specs.Slots.{slotFor, cell, past, lengthIn, timerIn}
 use Rattle.table.proofs.Good.{good-head}
 use Rattle.good.specs.Good.{Lists, Lines, ownerOf, Ranged, mine, Share, Resends, Silent, Filled, Sending, Receiving, running, Anew, Stated, Entered, Tabled, Owed, Good}
@@ -108,6 +110,7 @@ pub record Apart (i : ℕ) (ws ws′ : List ℕ) : Type 0 where
   pub long : length ws′ ≡ length ws
   pub head : (k : ℕ) → k < 4 → getD ws′ k 0 ≡ getD ws k 0
   pub table : (j k : ℕ) → k < 8 → word ws′ j k ≡ word ws j k
+  pub rows : (v : ℕ) → v < 256 → getD ws′ (rowAt v) 0 ≡ getD ws (rowAt v) 0
   pub others : (j : ℕ) → j ≢ i → endOf ws′ j ≡ endOf ws j
 
 pub apart-then : (i : ℕ) (a b c : List ℕ) → Apart i a b → Apart i b c → Apart i a c
@@ -116,11 +119,12 @@ apart-then i a b c v w =
       long = w .long ∙ v .long;
       head = λ k h. w .head k h ∙ v .head k h;
       table = λ j k h. w .table j k h ∙ v .table j k h;
+      rows = λ u h. w .rows u h ∙ v .rows u h;
       others = λ j n. w .others j n ∙ v .others j n;
     }
 
 pub apart-same : (i : ℕ) (ws : List ℕ) → Apart i ws ws
-apart-same i ws = record { long = refl; head = λ k h. refl; table = λ j k h. refl; others = λ j n. refl }
+apart-same i ws = record { long = refl; head = λ k h. refl; table = λ j k h. refl; rows = λ v h. refl; others = λ j n. refl }
 
 saved-long : (ws : List ℕ) (i : ℕ) (s : State) (r : Run) → length (saved ws i s r) ≡ length ws
 unfolding saved
@@ -132,6 +136,7 @@ apart-saved i ws s r =
       long = saved-long ws i s r;
       head = λ k h. saved-head ws i s r k (omega arith);
       table = λ j k h. sides j k h (decLe j i);
+      rows = λ v h. saved-word ws i s r (rowAt v) (inl (omega arith));
       others = λ j n. saved-other ws i j s r n;
     }
   where
@@ -147,6 +152,7 @@ apart-rest i ws ws′ l h r =
       long = l;
       head = h;
       table = λ j k g. r (entryAt j + k) (omega arith);
+      rows = λ v g. r (rowAt v) (omega arith);
       others = λ j n. end-ext ws′ ws j (λ k g. r (entryAt j + k) (omega arith));
     }
 
@@ -277,6 +283,17 @@ module _ (i : ℕ) (ws ws′ : List ℕ) (a : Apart i ws ws′) where
       let h0 : getD ws′ (entryAt j) 0 ≡ getD ws (entryAt j) 0 = rw z at (a .table j 0 (omega arith)) in
       rw (h0, a .table j 1 (omega arith), a .table j 2 (omega arith), a .table j 3 (omega arith), a .table j 4 (omega arith), a .table j 5 (omega arith), a .table j 6 (omega arith))
 
+  apart-row : (v : ℕ) → rowIn ws′ v ≡ rowIn ws v
+  apart-row v = row-ext ws′ ws v (a .rows v)
+
+  apart-index : Indexed ws → Indexed ws′
+  apart-index x =
+      record {
+        few = rw apart-count (x .few);
+        channels = λ sends v i h. rw (apart-row v, apart-count, apart-entry i) (x .channels sends v i h);
+        remotes = λ v i h. rw (apart-row v, apart-count, apart-entry i) (x .remotes v i h);
+      }
+
   apart-tabled : (t : List ℕ) → Tabled ws t → Tabled ws′ t
   apart-tabled t h =
       record {
@@ -286,6 +303,7 @@ module _ (i : ℕ) (ws ws′ : List ℕ) (a : Apart i ws ws′) where
         need = a .head 3 (omega arith) ∙ h .need;
         entry = λ j l. apart-entry j ∙ h .entry j l;
         place = λ j l. rw (a .table j 7 (omega arith)) (h .place j l);
+        index = apart-index (h .index);
       }
 
   -- The framing lemma.

@@ -103,6 +103,6 @@ independent t n l g (closes i) f o = close-alone t n l g i (decLt i (countIn (n 
 independent t n l g (counts i) f o = count-alone t n l g i
 independent t n l g (sends i p) f o = send-alone t n l g i p (decLt i (countIn (n .node)))
 independent t n l g (urges i p) f o = urgent-alone t n l g i p (decLt i (countIn (n .node)))
-independent t n l g (arrives block f) b o = arrive-alone t n l g block f b (comes (lent n block) f)
+independent t n l g (arrives block f) b o = arrive-alone t n l g block f b (comes (lent n block) (g .tabled .index) f)
 independent t n l g (hands-out buffer) f o = let k = hand-keeps t (lent n buffer) l g in sort-alone t n l g buffer k (k .what)
 independent t n l g ticks f o = absurd o

@@ -5,6 +5,8 @@ pub mod Framing
 pub mod Offsets
 pub mod Turns
 pub mod Senders
+pub mod Entering
+pub mod Indexing
 pub mod SetupGood
 pub mod Idling
 pub mod OpenKeeps
@@ -14,7 +16,6 @@ pub mod UrgentKeeps
 pub mod AckRuns
 pub mod AckKeeps
 pub mod ReceiveKeeps
-pub mod Finding
 pub mod Arrivals
 pub mod ArriveKeeps
 pub mod Handed

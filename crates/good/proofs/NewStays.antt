@@ -7,11 +7,16 @@ use mathlib.Core.List.{List, []}
 use native.Mathlib.Omega.{arith}
 use lib.ListN.{length, replicate, getD, getD-replicate}
 use lib.Dec.{leb, ltb}
+use borrow.Author.Tests.{le-ltb}
 use Rattle.units.specs.Refusals.{pick}
+use Rattle.memory.specs.Layout.{rowAt, nodeWords}
+use Rattle.window.proofs.Bits.{bit-of-zero}
 use Rattle.ends.specs.Heads.{countIn}
 use Rattle.ends.specs.Lent.{Lent}
 use Rattle.ends.specs.declared.answers.HandedOut.{HandedOut}
 use Rattle.ends.specs.declared.answers.HandedOut.the-variants.{Length, Refused as HandRefused}
+use Rattle.lookup.specs.Lookup.{rowIn, channelDigit, remoteDigit, Indexed}
+use Rattle.lookup.proofs.Rows.{row-zero}
 use Rattle.ticking.specs.Ticking.{tickAfter, tickBoth, recoverAll, tickEntries}
 use Rattle.handing.specs.Handing.{handAnswer, handAfter, nextOut, handedOut, outNode, outBook}
 use Rattle.handing.specs.declared.Next.the-variants as next
@@ -25,6 +30,18 @@ use Rattle.good.proofs.Arrivals.{Taken, Refused, arrives as comes}
 
 none : (store : List ℕ) (i : ℕ) → countIn (newNode store .node) ≤ i
 none store i = omega arith
+
+-- its index lists none
+zero-row : (store : List ℕ) (v : ℕ) → rowIn (newNode store .node) v ≡ 0
+zero-row store v = row-zero (newNode store .node) v (λ h. getD-replicate nodeWords (rowAt v) 0 0 (omega arith))
+
+new-index : (store : List ℕ) → Indexed (newNode store .node)
+new-index store =
+    record {
+      few = none store 16;
+      channels = λ sends v i h. rw (zero-row store v, le-ltb i (countIn (newNode store .node)) (none store i)) (bit-of-zero (channelDigit sends i));
+      remotes = λ v i h. rw (zero-row store v, le-ltb i (countIn (newNode store .node)) (none store i)) (bit-of-zero (remoteDigit i));
+    }
 
 -- nothing waits
 nothing : (store : List ℕ) → nextOut (newNode store .node) (newNode store .book) ≡ next.Nothing
@@ -52,6 +69,6 @@ new-stays store (closes i) = ap (keptBare (newNode store)) (close-refused (bare 
 new-stays store (counts i) = refl
 new-stays store (sends i p) = ap kept (send-refused (lent (newNode store) []) i p (none store i))
 new-stays store (urges i p) = ap kept (urgent-refused (lent (newNode store) []) i p (none store i))
-new-stays store (arrives block f) = arrive-same store block f (comes (lent (newNode store) block) f)
+new-stays store (arrives block f) = arrive-same store block f (comes (lent (newNode store) block) (new-index store) f)
 new-stays store (hands-out buffer) = hand-same store buffer (handAnswer (lent (newNode store) buffer))
 new-stays store ticks = tick-same store

@@ -1,19 +1,23 @@
 -- On a good node no corner of total meaning is used. Assumes nothing.
 use Prim.Native.Nat.{ℕ, _≤_, _<_}
 use mathlib.Core.Path.{_≡_, refl}
-use mathlib.Core.Bool.{true}
+use mathlib.Core.Bool.{true, _&&_}
 use mathlib.Core.List.{List}
 use native.Mathlib.Omega.{arith}
+use lib.Dec.{ltb}
+use Rattle.frame.specs.declared.FrameType.{FrameType}
 use Rattle.window.proofs.Sizes.{size-pos, size-le}
 use Rattle.table.specs.Layout.{entryOf}
 use Rattle.table.specs.Areas.{placeOf}
 use Rattle.table.proofs.Places.{slot-in-store}
-use Rattle.ends.specs.Ends.{endOf}
+use Rattle.ends.specs.Ends.{loadEntry, endOf}
 use Rattle.ends.specs.Heads.{countIn}
 use Rattle.ends.specs.States.{isSends}
 use Rattle.ends.specs.declared.State.{State}
 use Rattle.ends.specs.declared.State.the-variants.{Closed, Enabled, Open, Failing}
 use Rattle.ends.specs.declared.EndPoint.{EndPoint}
+use Rattle.lookup.specs.Lookup.{forSender, fits, firstFrom, entryFor}
+use Rattle.lookup.proofs.Found.{first-fit}
 use Rattle.good.specs.Good.{Lists, Stated, Good}
 use Rattle.good.specs.Corners.{NoCorner, NoCorners}
 use Rattle.good.proofs.Known.{stated-as}
@@ -35,6 +39,11 @@ module _ (t ws b : List ℕ) (l : Lists) (g : Good t ws b l) where
   counts-at i h k =
       sender-counts b l i (endOf ws i) (endOf ws i .state) (stated-as b l i (endOf ws i) (g .entered i h) true k (endOf ws i .state) refl)
 
+  found-first : (q : FrameType) (source channel : ℕ)
+      → entryFor ws q source channel ≡ firstFrom (λ i. ltb i (countIn ws) && fits (loadEntry ws i) (forSender q) source channel) 0 16
+  unfolding entryFor
+  found-first q source channel = first-fit ws (g .tabled .index) (forSender q) source channel
+
   pub no-corner : NoCorner t ws b l
   no-corner =
       record {
@@ -51,6 +60,7 @@ module _ (t ws b : List ℕ) (l : Lists) (g : Good t ws b l) where
             rw (e .0, e .1, g .tabled .need) (slot-in-store t i k (omega (arith, g .tabled .count)) m);
         sized = λ i h. size-pos (endOf ws i .run .window .size) (g .entered i h .window .sized);
         handed = λ i h k. counts-at i h k .0;
+        found = found-first;
         taken = λ i h k. let z = counts-at i h k .1 in omega (arith, size-le (endOf ws i .run .window .size) (g .entered i h .window .sized));
       }
 

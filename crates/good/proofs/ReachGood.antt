@@ -148,7 +148,7 @@ call-holds t n (closes i) f h = close-holds t n (h .0) (h .1) (h .2) i (decLt i 
 call-holds t n (counts i) f h = h
 call-holds t n (sends i p) f h = send-holds t n (h .0) (h .1) (h .2) i p (decLt i (countIn (n .node)))
 call-holds t n (urges i p) f h = urgent-holds t n (h .0) (h .1) (h .2) i p (decLt i (countIn (n .node)))
-call-holds t n (arrives block f) b h = arrive-holds t n (h .0) (h .1) (h .2) block f b (comes (lent n block) f)
+call-holds t n (arrives block f) b h = arrive-holds t n (h .0) (h .1) (h .2) block f b (comes (lent n block) (h .1 .tabled .index) f)
 call-holds t n (hands-out buffer) f h = hand-holds t n (h .0) (h .1) (h .2) buffer
 call-holds t n ticks f h = tick-holds t n (h .0) (h .1) (h .2)
 

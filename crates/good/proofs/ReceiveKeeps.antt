@@ -11,7 +11,7 @@ use lib.Seq.{getD-set-same, getD-set-other}
 use lib.Dec.{eqb}
 use borrow.Author.Tests.{ltb-true}
 use Rattle.units.specs.Refusals.{pick}
-use Rattle.memory.specs.Layout.{lengthAt}
+use Rattle.memory.specs.Layout.{lengthAt, nodeWords}
 use Rattle.waiting.specs.Acks.{placeOf, waitingOf, dropped}
 use Rattle.order.specs.Order.{acksIn, notOf}
 use Rattle.order.proofs.Ringed.{Ring, from-length, push-acks, push-ring, drop-acks, drop-ring}
@@ -52,7 +52,7 @@ length-not i (x ∷ xs) = sides (length-not i xs) (eqb (x / 256 % 256) i)
 -- ---- a receiver is put back Open, with acknowledgements that are others' or its own
 
 module _ (t ws b : List ℕ) (l : Lists) (g : Good t ws b l) (i : ℕ) (li : i < countIn ws) (k : isSends (endOf ws i .entry .kind) ≡ false) where
-  pub receiver-turn : (vs : List ℕ) → Apart i ws vs → length vs ≡ 576 → endOf vs i ≡ endOf ws i → waitingOf vs ≤ 32
+  pub receiver-turn : (vs : List ℕ) → Apart i ws vs → length vs ≡ nodeWords → endOf vs i ≡ endOf ws i → waitingOf vs ≤ 32
       → ((w : ℕ) → List·Memᴰ w (acksIn vs) → (Owed ws w × (w / 256 ≢ i)) ⊎ (w / 256 ≡ i))
       → (r : Run) → RunFits r → r .window .size ≡ endOf ws i .run .window .size
       → (b′ : List ℕ) → Within i b b′ l l → Entered b′ l i (turnedTo (endOf ws i) Open r) → Good t (saved vs i Open r) b′ l

@@ -13,7 +13,7 @@ use lib.Seq.{getD-set-other}
 use lib.Dec.{eqb}
 use borrow.Author.Tests.{eqb-false}
 use Rattle.units.specs.Refusals.{pick}
-use Rattle.memory.specs.Layout.{oldestAt, acksAt, ackAt}
+use Rattle.memory.specs.Layout.{oldestAt, acksAt, ackAt, nodeWords}
 use Rattle.waiting.specs.Acks.{placeOf, waitingOf, oldestOf, pushed, popped, turned, turns, dropped}
 use Rattle.order.specs.Order.{from, acksIn, notOf}
 use Rattle.order.proofs.Ringed.{Ring, push-rest, pop-rest, drop-rest}
@@ -59,7 +59,7 @@ state-fits ws i = tag (eqb (word ws i 8 % 4) 0) (eqb (word ws i 8 % 4) 1) (eqb (
 abbrev pub turnedTo : EndPoint → State → Run → EndPoint
 turnedTo e s r = record { entry = e .entry; place = e .place; state = s; run = r }
 
-pub end-saved : (ws : List ℕ) (i : ℕ) (s : State) (r : Run) → length ws ≡ 576 → i < 16 → StateFits s → RunFits r → r .window .size ≡ endOf ws i .run .window .size
+pub end-saved : (ws : List ℕ) (i : ℕ) (s : State) (r : Run) → length ws ≡ nodeWords → i < 16 → StateFits s → RunFits r → r .window .size ≡ endOf ws i .run .window .size
     → endOf (saved ws i s r) i ≡ turnedTo (endOf ws i) s r
 unfolding endOf loadRun
 end-saved ws i s r long low sf rf e = saved-here ws i s r long low sf rf e

@@ -5,6 +5,7 @@ use mathlib.Core.Path.{_≡_}
 use mathlib.Core.List.{List, [], _∷_}
 use lib.ListN.{length, getD}
 use Rattle.units.specs.declared.refusals.Verdict.the-variants.{Passed}
+use Rattle.memory.specs.Layout.{nodeWords}
 use Rattle.ends.specs.Lent.{Lent}
 use Rattle.node.specs.Lending as lending
 use Rattle.ends.specs.Answers.{answerOf, countedOf, arrivedOf, handedOf}
@@ -93,7 +94,7 @@ Fed ticks = Unit {0}
 -- what setup leaves of any memory, with a table that it does not refuse
 pub record SetUp (t : List ℕ) (n : Memory) : Type 0 where
   pub before : Lent
-  pub node : length (before .node) ≡ 576
+  pub node : length (before .node) ≡ nodeWords
   pub book : length (before .book) ≡ 10368
   pub bytes : Bytes t
   pub passed : setupAnswer before t ≡ Passed

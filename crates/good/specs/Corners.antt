@@ -1,17 +1,20 @@
 -- Corners of total meaning that no node from setup and calls comes to: reads and stores past the end of what is lent, windows without a
--- size, counts that would wrap. Assumes nothing.
+-- size, counts that would wrap, an index that says something else than the table. Assumes nothing.
 use Prim.Native.Nat.{ℕ, _+_, _≤_, _<_}
 use mathlib.Core.Path.{_≡_}
-use mathlib.Core.Bool.{true}
+use mathlib.Core.Bool.{true, _&&_}
 use mathlib.Core.List.{List, List·Memᴰ}
 use lib.ListN.{length}
+use lib.Dec.{ltb}
 use Rattle.memory.specs.Layout.{entryAt, prevAt, lengthAt, retriesAt}
 use Rattle.waiting.specs.Acks.{waitingOf}
+use Rattle.frame.specs.declared.FrameType.{FrameType}
 use Rattle.table.specs.Layout.{entryOf}
 use Rattle.table.specs.Areas.{slotsOf}
-use Rattle.ends.specs.Ends.{endOf}
+use Rattle.ends.specs.Ends.{loadEntry, endOf}
 use Rattle.ends.specs.Heads.{countIn, needIn}
 use Rattle.ends.specs.States.{isSends}
+use Rattle.lookup.specs.Lookup.{forSender, fits, firstFrom, entryFor}
 use Rattle.slots.specs.Slots.{cell, spot}
 use Rattle.good.specs.Good.{Lists, Good}
 
@@ -31,6 +34,9 @@ pub record NoCorner (t ws b : List ℕ) (l : Lists) : Type 0 where
   -- a sender's counts neither wrap nor fall below 0
   pub handed : (i : ℕ) → i < countIn ws → isSends (endOf ws i .entry .kind) ≡ true → endOf ws i .run .handed ≤ endOf ws i .run .taken
   pub taken : (i : ℕ) → i < countIn ws → isSends (endOf ws i .entry .kind) ≡ true → endOf ws i .run .taken ≤ 128
+  -- the entry that a frame is for by the index is the first that fits by the table
+  pub found : (q : FrameType) (source channel : ℕ)
+      → entryFor ws q source channel ≡ firstFrom (λ i. ltb i (countIn ws) && fits (loadEntry ws i) (forSender q) source channel) 0 16
 
 unfoldable pub NoCorners : Type 0
 NoCorners = (t ws b : List ℕ) (l : Lists) → Good t ws b l → NoCorner t ws b l

@@ -8,7 +8,7 @@ use mathlib.Core.List.{List, [], _∷_, List·Memᴰ}
 use lib.ListN.{length}
 use lib.Dec.{eqb, ltb}
 use Rattle.units.specs.Refusals.{pick}
-use Rattle.memory.specs.Layout.{resets, urgents, resends, datas, resetId, urgentId, slotId}
+use Rattle.memory.specs.Layout.{resets, urgents, resends, datas, resetId, urgentId, slotId, nodeWords}
 use Rattle.waiting.specs.Acks.{waitingOf}
 use Rattle.order.specs.Order.{Queue, acksIn}
 use Rattle.window.specs.Windows.{newOf, held, Good as GoodWindow}
@@ -23,6 +23,7 @@ use Rattle.ends.specs.declared.State.{State}
 use Rattle.ends.specs.declared.State.the-variants.{Closed, Enabled, Open, Failing}
 use Rattle.ends.specs.declared.Run.{Run}
 use Rattle.ends.specs.declared.EndPoint.{EndPoint}
+use Rattle.lookup.specs.Lookup.{Indexed}
 use Rattle.slots.specs.Slots.{cell, past, lengthIn, timerIn}
 
 -- ---- what waits
@@ -168,6 +169,7 @@ pub record Tabled (ws t : List ℕ) : Type 0 where
   pub need : needIn ws ≡ storeOf t
   pub entry : (i : ℕ) → i < countOf t → loadEntry ws i ≡ entryOf t i
   pub place : (i : ℕ) → i < countOf t → placeIn ws i ≡ placeOf t i
+  pub index : Indexed ws
 
 -- an acknowledgement waits for a receiver that is open
 pub record Owed (ws : List ℕ) (w : ℕ) : Type 0 where
@@ -178,7 +180,7 @@ pub record Owed (ws : List ℕ) (w : ℕ) : Type 0 where
 -- the whole: node and book, set up from a table, with what waits as lists
 pub record Good (t ws b : List ℕ) (l : Lists) : Type 0 where
   pub table : goodTable t ≡ true
-  pub long : length ws ≡ 576
+  pub long : length ws ≡ nodeWords
   pub tabled : Tabled ws t
   pub acks : waitingOf ws ≤ 32
   pub owed : (w : ℕ) → List·Memᴰ w (acksIn ws) → Owed ws w

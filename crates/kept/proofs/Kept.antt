@@ -11,7 +11,7 @@ use lib.ListN.{length, getD, List·getD-append}
 use lib.Seq.{getD-append-add}
 use lib.Dec.{eqb}
 use Rattle.units.proofs.Runs.{getD-sets-before, getD-sets-after, getD-sets-at}
-use Rattle.memory.specs.Layout.{entryAt}
+use Rattle.memory.specs.Layout.{entryAt, nodeWords}
 use Rattle.ends.specs.Ends.{word, kindOf, stateOf, loadEntry, placeIn, loadState, loadRun, endOf, flagOf, stateWords, runWords, saved}
 use Rattle.ends.specs.declared.State.{State}
 use Rattle.ends.specs.declared.State.the-variants.{Closed, Enabled, Open, Failing}
@@ -109,7 +109,7 @@ run-at (Enabled t f) r k = getD-append-add (stateWords (Enabled t f)) (runWords 
 run-at Open r k = getD-append-add (stateWords Open) (runWords r) k 0
 run-at (Failing n) r k = getD-append-add (stateWords (Failing n)) (runWords r) k 0
 
-module _ (ws : List ℕ) (i : ℕ) (s : State) (r : Run) (long : length ws ≡ 576) (low : i < 16) where
+module _ (ws : List ℕ) (i : ℕ) (s : State) (r : Run) (long : length ws ≡ nodeWords) (low : i < 16) where
   -- word k of those saved
   here : (k : ℕ) → k < 11 → word (saved ws i s r) i (8 + k) ≡ getD (stateWords s ++ runWords r) k 0
   unfolding saved

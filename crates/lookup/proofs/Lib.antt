@@ -1,1 +1,4 @@
-pub mod Fitting
+pub mod First
+pub mod Digits
+pub mod Rows
+pub mod Found

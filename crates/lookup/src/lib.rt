@@ -1,13 +1,19 @@
-// Which entry a frame is for: the one of the fitting kind, with the frame's source as remote address and its channel.
-// Proved: `entry_for` is the definition of specs/Lookup.antt, the first entry that fits, for every node.
-use ends::heads::count;
+// Which entry a frame is for: the one of the fitting kind, with the frame's source as remote address and its channel; and the index
+// by which it is found, at one cost however many entries there are.
+// Proved: `entry_for` and `put_in_index` are the definitions of specs/Lookup.antt, for every node. On an index that setup made, what is
+// found fits, and what fits is found (proofs/Found.antt).
 use frame::FrameType;
+use memory::put_word;
 use memory::word_at;
+use table::Entry;
+use table::Kind;
 use units::Address;
 use units::Channel;
 ghost use mathlib.Core.Path.{_≡_};
-ghost use Rattle.ends.specs.Ends.{loadEntry};
-ghost use Rattle.lookup.specs.Lookup.{forSender, fits, entryFor};
+ghost use Prim.Native.Nat.{_<_};
+ghost use Rattle.window.specs.Marks.{bit};
+ghost use Rattle.ends.specs.States.{isSends};
+ghost use Rattle.lookup.specs.Lookup.{forSender, rowIn, channelDigit, marked, indexed, firstFrom, entryFor};
 
 // Whether frames of a type are for senders.
 fn for_sender(t: FrameType) -> bool
@@ -21,36 +27,58 @@ fn for_sender(t: FrameType) -> bool
     }
 }
 
-// Whether entry i fits a kind, a source and a channel. The channel is looked at first: it tells most entries apart.
-fn entry_fits(node: &[u64], i: u8, sends: bool, source: Address, channel: Channel) -> bool
-    ensures { λ r. ⌜ r ≡ fits (loadEntry (now (node .entry)) i) sends (source .0) (channel .0) ⌝ }
+// Row v of the index.
+fn row(node: &[u64], v: u8) -> u64
+    ensures { λ r. ⌜ r ≡ rowIn (now (node .entry)) v ⌝ }
 {
-    let at = 64 + 32 * i as usize;
-    if word_at(node, at + 2) % 256 != channel.0 as u64 {
-        return false;
-    }
-    if word_at(node, at + 1) % 256 != source.0 as u64 {
-        return false;
-    }
-    let sender = word_at(node, at) % 2 == 0;
-    if sends {
-        return sender;
-    }
-    !sender
+    word_at(node, 64 + v as usize)
 }
 
-// The entry that a frame of a type from a source on a channel is for; the count of entries where there is none.
+// The lowest of 16 binary digits that is 1; 16 where none is.
+fn lowest(set: u64) -> u8
+    ensures { λ r. ⌜ r ≡ firstFrom (bit set) 0 16 ⌝ }
+{
+    u64::trailing_zeros(set | 65536) as u8
+}
+
+// The entry that a frame of a type from a source on a channel is for; 16 where there is none.
 pub fn entry_for(node: &[u64], t: FrameType, source: Address, channel: Channel) -> u8
     ensures { λ r. ⌜ r ≡ entryFor (now (node .entry)) t (source .0) (channel .0) ⌝ }
 {
-    let n = count(node);
-    let sends = for_sender(t);
-    let mut i: u8 = 0;
-    while i < n {
-        if entry_fits(node, i, sends, source, channel) {
-            return i;
-        }
-        i += 1;
+    let over = row(node, channel.0);
+    let from = row(node, source.0) >> 32;
+    if for_sender(t) {
+        return lowest(over & from);
     }
-    n
+    lowest((over >> 16) & from)
+}
+
+// Row v of the index with digit k too.
+fn mark(node: &mut [u64], v: u8, k: u8)
+    requires { ⌜ k < 64 ⌝ }
+    ensures { λ _. ⌜ now (node .exit) ≡ marked (now (node .entry)) v k ⌝ }
+{
+    let with = row(node, v) | (1 << k);
+    put_word(node, 64 + v as usize, with)
+}
+
+// Entry i's digit in the row of its channel.
+fn channel_digit(kind: Kind, i: u8) -> u8
+    requires { ⌜ i < 16 ⌝ }
+    ensures { λ r. ⌜ r ≡ channelDigit (isSends kind) i ⌝ }
+{
+    match kind {
+        Kind::Sends => i,
+        Kind::Receives => 16 + i,
+    }
+}
+
+// Entry i, which is e, is put into the index.
+pub fn put_in_index(node: &mut [u64], i: u8, e: Entry)
+    requires { ⌜ i < 16 ⌝ }
+    ensures { λ _. ⌜ now (node .exit) ≡ indexed (now (node .entry)) i e ⌝ }
+{
+    let kind = e.kind;
+    mark(node, e.channel.0, channel_digit(kind, i));
+    mark(node, e.remote.0, 32 + i)
 }

@@ -1,8 +1,11 @@
--- What lies where in the node (words of 64 bits) and in the book (words of 16 bits). One field a word, nothing packed.
+-- What lies where in the node (words of 64 bits) and in the book (words of 16 bits). One field a word, nothing packed but the index.
 -- Cited by whatever reads or writes either. All zeros is a new node. Assumes nothing.
 use Prim.Native.Nat.{ℕ, _+_, _*_}
 
 -- ---- the node
+
+abbrev pub nodeWords : ℕ
+nodeWords = 832
 
 -- its head: count of entries, own address, protocol ID, bytes of store in use
 abbrev pub countAt : ℕ
@@ -27,9 +30,13 @@ acksAt = 5
 abbrev pub ackAt : ℕ → ℕ
 ackAt k = 32 + k
 
+-- row v of the index, where frames find their entry: three sets of entries, a binary digit each (crates/lookup)
+abbrev pub rowAt : ℕ → ℕ
+rowAt v = 64 + v
+
 -- entry i: eight words of the table's, from the ninth on its state and its run
 abbrev pub entryAt : ℕ → ℕ
-entryAt i = 64 + 32 * i
+entryAt i = 320 + 32 * i
 
 -- ---- the book
 

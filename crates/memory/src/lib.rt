@@ -6,8 +6,8 @@ ghost use mathlib.Core.Path.{_≡_};
 ghost use lib.ListN.{getD, set};
 ghost use lib.Seq.{sets};
 
-// The node: a head, the waiting acknowledgements, sixteen entries (Layout.antt).
-pub const NODE_WORDS: usize = 576;
+// The node: a head, the waiting acknowledgements, the index, sixteen entries (Layout.antt).
+pub const NODE_WORDS: usize = 832;
 // The book: links of what waits, and each slot's length, timer and retries (Layout.antt).
 pub const BOOK_HALVES: usize = 10368;
 

@@ -18,7 +18,7 @@ ghost use Rattle.handing.specs.Handing.{handAnswer, handAfter};
 ghost use Rattle.ticking.specs.Ticking.{tickAnswer, tickAfter};
 
 // A node's words, and its book. All zeros is a new node.
-pub type Node = [u64; 576];
+pub type Node = [u64; 832];
 
 pub type Book = [u16; 10368];
 

@@ -19,6 +19,7 @@ use Rattle.ends.specs.Ends.{saved, savedEntry}
 use Rattle.ends.specs.Lent.{Lent}
 use Rattle.ends.specs.declared.State.the-variants.{Closed}
 use Rattle.ends.specs.declared.Run.{Run}
+use Rattle.lookup.specs.Lookup.{indexed}
 
 -- 1, 6
 unfoldable pub setupAnswer : Lent → List ℕ → Verdict
@@ -29,12 +30,12 @@ setupAnswer x t =
 abbrev pub firstRun : Run
 firstRun = record { window = newOf 0; taken = 0; handed = 0; accepted = record { 0 = 0 }; confirmed = record { 0 = 0 }; urgent = 0 }
 
--- the head, then the first k entries, each Closed
+-- the head, then the first k entries, each Closed and in the index
 abbrev pub headed : List ℕ → List ℕ → List ℕ
 headed t ws = sets ws 0 (countOf t ∷ ownOf t .0 ∷ protocolOf t ∷ storeOf t ∷ [])
 
 abbrev pub entered : List ℕ → ℕ → List ℕ → List ℕ
-entered t k ws = saved (savedEntry ws k (entryOf t k) (placeOf t k)) k Closed firstRun
+entered t k ws = indexed (saved (savedEntry ws k (entryOf t k) (placeOf t k)) k Closed firstRun) k (entryOf t k)
 
 unfoldable pub tabled : List ℕ → ℕ → List ℕ → List ℕ
 tabled t zero ws = ws

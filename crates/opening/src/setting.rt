@@ -3,6 +3,7 @@ use ends::Run;
 use ends::State;
 use ends::save;
 use ends::save_entry;
+use lookup::put_in_index;
 use memory::put_half;
 use memory::put_words;
 use table::Entry;
@@ -20,6 +21,7 @@ ghost use Rattle.table.specs.Layout.{countOf};
 ghost use Rattle.table.specs.Rules.{goodTable};
 ghost use Rattle.ends.specs.Ends.{saved, savedEntry};
 ghost use Rattle.ends.specs.declared.State.the-variants.{Closed};
+ghost use Rattle.lookup.specs.Lookup.{indexed};
 ghost use Rattle.opening.specs.Setup.{setupAnswer, setupAfter, firstRun, headed, tabled, emptied};
 
 // The node is set up from a table.
@@ -82,13 +84,14 @@ fn put_entries(node: &mut [u64], table: &[u8])
     }
 }
 
-// Entry k of the table, Closed, at a place in the store.
+// Entry k of the table, Closed, at a place in the store, and in the index.
 fn put_entry(node: &mut [u64], k: usize, e: Entry, place: u16)
-    requires { ⌜ k < 4096 ⌝ }
-    ensures { λ _. ⌜ now (node .exit) ≡ saved (savedEntry (now (node .entry)) k e place) k Closed firstRun ⌝ }
+    requires { ⌜ k < 16 ⌝ }
+    ensures { λ _. ⌜ now (node .exit) ≡ indexed (saved (savedEntry (now (node .entry)) k e place) k Closed firstRun) k e ⌝ }
 {
     save_entry(node, k, e, place);
-    save(node, k, State::Closed, first_run())
+    save(node, k, State::Closed, first_run());
+    put_in_index(node, k as u8, e)
 }
 
 // A run with nothing taken and the counts 0.

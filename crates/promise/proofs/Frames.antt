@@ -36,12 +36,12 @@ use Rattle.ends.specs.Heads.{countIn, needIn}
 use Rattle.ends.specs.States.{isSends}
 use Rattle.ends.specs.Lent.{Lent}
 use Rattle.ends.specs.declared.answers.HandedOut.the-variants.{Length, Refused}
+use Rattle.lookup.proofs.Found.{Fitting}
 use Rattle.slots.specs.Slots.{numberIn}
 use Rattle.handing.specs.declared.Next.{Next}
 use Rattle.handing.specs.Handing.{nextOut, resetEntry, urgentEntry, slotEntry, slotIn, fieldsTo, slotPayload, urgentPayload, ackFrame, resetFrame, urgentFrame, dataFrame, frameOut, handAnswer, handAfter}
 use Rattle.good.specs.Good.{Lists, Good}
 use Rattle.good.specs.Calls.{Memory, lent, hands-out, answer}
-use Rattle.good.proofs.Finding.{Fitting}
 use Rattle.promise.specs.History.{s-quiet, s-resets, s-sends, r-quiet, r-acks}
 use Rattle.promise.specs.Link.{names, s-out, s-seen, r-out, r-seen}
 use Rattle.promise.proofs.Stores.{read-own, end-entry}

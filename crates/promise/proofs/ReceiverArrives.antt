@@ -28,6 +28,7 @@ use Rattle.ends.specs.declared.State.the-variants.{Closed, Enabled, Open, Faili
 use Rattle.ends.specs.declared.EndPoint.{EndPoint}
 use Rattle.blocks.specs.Reading.{readBlock}
 use Rattle.lookup.specs.Lookup.{forSender}
+use Rattle.lookup.proofs.Found.{Fitting}
 use Rattle.acking.specs.Acking.{counts, ackedRun, openedRun, ackNode}
 use Rattle.receiving.specs.Receiving.{acknowledged, resetNode, resetAfter, withWindow, passing, dataAfter, urgentAfter}
 use Rattle.receiving.proofs.Taking.{dataAfter-new, dataAfter-other}
@@ -37,7 +38,6 @@ use Rattle.good.specs.Calls.{Memory, arrives, lent, kept, answer, after, Bytes}
 use Rattle.good.proofs.Framing.{entry-low}
 use Rattle.good.proofs.Turns.{turnedTo, anew-fresh, ring-of, saved-acks}
 use Rattle.good.proofs.ReceiveKeeps.{reset-acks, reset-end, reset-keeps}
-use Rattle.good.proofs.Finding.{Fitting}
 use Rattle.good.proofs.Arrivals.{Taken, Refused, taken-kind, arrives as arrival}
 use Rattle.good.proofs.ArriveKeeps.{arrive-keeps}
 use Rattle.promise.specs.History.{RSeen, r-quiet, r-resets}
@@ -212,7 +212,7 @@ module _ (u : List ℕ) (j : ℕ) (n : Memory) (r : Recv) (v : RView u j n r) (b
 -- the law, once Data for the receiver is such a step
 pub r-arrives : (u : List ℕ) (j : ℕ) (n : Memory) (r : Recv) (block f : List ℕ) → RView u j n r → Bytes f
     → ((a : Taken (lent n block) f) → a .entry ≡ j → a .header .kind ≡ type.Data → RLaw u j n (arrives block f) r) → RLaw u j n (arrives block f) r
-r-arrives u j n r block f v b d = sides (arrival (lent n block) f)
+r-arrives u j n r block f v b d = sides (arrival (lent n block) (v .good .tabled .index) f)
   where
     whose : (a : Taken (lent n block) f) → Dec (j ≡ a .entry) → RLaw u j n (arrives block f) r
     whose a (yes e) = own u j n r v block f a e (d a (sym e)) (a .header .kind) refl

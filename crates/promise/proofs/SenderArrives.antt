@@ -12,10 +12,10 @@ use Rattle.frame.specs.declared.FrameType.the-variants as type
 use Rattle.ends.specs.Ends.{loadEntry, endOf}
 use Rattle.ends.specs.States.{isSends}
 use Rattle.lookup.specs.Lookup.{forSender}
+use Rattle.lookup.proofs.Found.{Fitting}
 use Rattle.acking.specs.Acking.{ackAfter}
 use Rattle.arriving.specs.Arriving.{takenAfter, arrivalAfter}
 use Rattle.good.specs.Calls.{Memory, lent, kept, arrives, Bytes, answer, after}
-use Rattle.good.proofs.Finding.{Fitting}
 use Rattle.good.proofs.Arrivals.{Taken, Refused, taken-kind, arrives as arrival}
 use Rattle.good.proofs.ArriveKeeps.{arrive-keeps}
 use Rattle.promise.specs.History.{SSeen, s-hears}
@@ -86,7 +86,7 @@ module _ (t : List ℕ) (i : ℕ) (n : Memory) (s : Send) (block f : List ℕ) (
       sides (no d) = other (λ e. d (sym e)) q
 
 pub s-arrives : (t : List ℕ) (i : ℕ) (n : Memory) (s : Send) (block f : List ℕ) → Bytes f → SView t i n s → SLaw t i n (arrives block f) s
-s-arrives t i n s block f bytes v = sides (arrival (lent n block) f)
+s-arrives t i n s block f bytes v = sides (arrival (lent n block) (v .good .tabled .index) f)
   where
     sides : Refused (lent n block) f ⊎ Taken (lent n block) f → SLaw t i n (arrives block f) s
     sides (inl r) = s-same t i n (arrives block f) s (after-back n block f r) (s-seen-back n block f r (entryOf t i) i) v

@@ -14,6 +14,7 @@ use lib.Pow.{areBytes}
 use Rattle.units.specs.Bytes.{get16Of, be16, be32}
 use Rattle.units.specs.Sizes.{defaultSize}
 use Rattle.units.specs.declared.refusals.Verdict.the-variants.{Passed}
+use Rattle.memory.specs.Layout.{nodeWords}
 use Rattle.check8.specs.Polynomial.{timesX, timesXs, stepByte, checkFrom}
 use Rattle.waiting.specs.Queues.{appended, unlinked}
 use Rattle.waiting.specs.Acks.{pushed, popped, turns}
@@ -61,7 +62,7 @@ ends = tt
 
 -- the host's calls and the tick
 asked : Unit {0}
-unfolding setupAnswer setupAfter emptied tabled openAnswer openAfter sendAnswer sentRun sentBook sendAfter tickSlot tickSlots tickState tickEntry tickEntries recover recoverAll tickBoth tickAfter tickAnswer
+unfolding setupAnswer setupAfter emptied tabled lookup.indexed openAnswer openAfter sendAnswer sentRun sentBook sendAfter tickSlot tickSlots tickState tickEntry tickEntries recover recoverAll tickBoth tickAfter tickAnswer
 asked = tt
 
 -- handing out
@@ -71,7 +72,7 @@ going = tt
 
 -- arrival
 coming : Unit {0}
-unfolding lookup.fits lookup.firstFit lookup.entryFor acking.counts acking.ackedRun acking.openedRun acking.ackAnswer acking.stopped acking.ackNode acking.ackBook receiving.resetAnswer receiving.resetNode receiving.resetAfter receiving.withWindow receiving.given receiving.dataAnswer receiving.dataAfter takenAnswer entryAnswer readAnswer arrivalAnswer takenAfter entryAfter readAfter arrivalAfter
+unfolding lookup.firstFrom lookup.entryFor acking.counts acking.ackedRun acking.openedRun acking.ackAnswer acking.stopped acking.ackNode acking.ackBook receiving.resetAnswer receiving.resetNode receiving.resetAfter receiving.withWindow receiving.given receiving.dataAnswer receiving.dataAfter takenAnswer entryAnswer readAnswer arrivalAnswer takenAfter entryAfter readAfter arrivalAfter
 coming = tt
 
 blocks : Unit {0}
@@ -121,7 +122,7 @@ W = entryOf sends-table 0 .window
 
 -- the memory that a host lends, with whatever it held; the store's length is what the table takes
 abbrev pub lentWith : ℕ → Lent
-lentWith store = record { node = replicate 576 9; book = replicate 10368 9; store = replicate store 9; out = [] }
+lentWith store = record { node = replicate nodeWords 9; book = replicate 10368 9; store = replicate store 9; out = [] }
 
 abbrev setS : Memory
 setS = kept (setupAfter (lentWith 6) sends-table Passed)

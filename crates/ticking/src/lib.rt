@@ -43,7 +43,7 @@ fn tick_open(node: &mut [u64], book: &mut [u16], i: u8)
         (ticked i (endOf (now (node .entry)) i) false (now (book .entry))) ⌝ }
 {
     // Most ticks find nothing handed out: then nothing else of the end point is looked at.
-    if word_at(node, 64 + 32 * i as usize + 15) % 256 == 0 {
+    if word_at(node, 320 + 32 * i as usize + 15) % 256 == 0 {
         return;
     }
     let e = load(node, i as usize);

@@ -6,6 +6,7 @@ use native.Mathlib.Omega.{arith}
 use denote.Ref.{now}
 use lib.ListN.{getD}
 use borrow.Author.Needs.{needs}
+use Rattle.memory.specs.Layout.{entryAt}
 use Rattle.ends.specs.Ends.{endOf, loadRun}
 use Rattle.ticking.specs.Ticking.{ticked, tickSlots}
 use Rattle.ticking.proofs.tick_open.Statement.{statement}
@@ -30,7 +31,7 @@ returns : tie.Need-returns
 unfolding endOf loadRun tickSlots
 returns c =
     let a = c .before .before .before .before .before .args in
-    let h : getD (now (a .node)) (64 + 32 * a .i + 15) 0 % 256 ≡ 0 = rw (c .before .word-at .ensures) at (c .if1 .taken) in
+    let h : getD (now (a .node)) (entryAt (a .i) + 15) 0 % 256 ≡ 0 = rw (c .before .word-at .ensures) at (c .if1 .taken) in
     rw h
 
 load-requires : tie.Need-load-requires

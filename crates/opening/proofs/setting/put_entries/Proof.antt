@@ -15,6 +15,7 @@ use Rattle.table.proofs.Places.{place-next, area-in-store}
 use Rattle.table.proofs.Good.{good-head, good-store}
 use Rattle.ends.specs.Ends.{saved, savedEntry}
 use Rattle.ends.specs.declared.State.the-variants.{Closed}
+use Rattle.lookup.specs.Lookup.{indexed}
 use Rattle.opening.specs.Setup.{firstRun, tabled}
 use Rattle.opening.proofs.setting.put_entries.Statement.{statement}
 use Rattle.opening.proofs.setting.put_entries.Tie as tie
@@ -26,7 +27,7 @@ pub record Entered (t before after : List ℕ) (n place k : ℕ) : Type 0 where
   pub at : place ≡ placeOf t k
   pub is : after ≡ tabled t k before
 
-one-more : (t a b z : List ℕ) (k p : ℕ) (e : Entry) → b ≡ tabled t k a → e ≡ entryOf t k → p ≡ placeOf t k → z ≡ saved (savedEntry b k e p) k Closed firstRun → z ≡ tabled t (k + 1) a
+one-more : (t a b z : List ℕ) (k p : ℕ) (e : Entry) → b ≡ tabled t k a → e ≡ entryOf t k → p ≡ placeOf t k → z ≡ indexed (saved (savedEntry b k e p) k Closed firstRun) k e → z ≡ tabled t (k + 1) a
 unfolding tabled
 one-more t a b z k p e hb he hp q = rw (add-one, ← hb, ← he, ← hp) q
 
