@@ -1,13 +1,14 @@
 /* The peer to the harness: libpeer.a through its headers. */
 #include "frame.h"
 #include "node.h"
+#include "numbers.h"
 
 typedef struct node node_t;
 
 static inline int node_set_up(node_t *n, const uint8_t *store, size_t room, const uint8_t *table, size_t length)
 {
 	(void)store;
-	return node_setup(n, table, length, room);
+	return node_setup(n, room, table, length);
 }
 
 static inline int node_opens(node_t *n, unsigned index)
@@ -17,14 +18,14 @@ static inline int node_opens(node_t *n, unsigned index)
 
 static inline int node_sends(node_t *n, uint8_t *store, size_t room, unsigned index, const uint8_t *payload, size_t length)
 {
-	return node_send(n, index, payload, length, store, room);
+	return node_send(n, store, room, index, payload, length);
 }
 
 static inline int node_takes(node_t *n, uint8_t *store, size_t room, uint8_t *block, size_t block_room, const uint8_t *frame, size_t length)
 {
 	struct arrival arrival;
 
-	return node_arrival(n, frame, length, store, room, block, block_room, &arrival);
+	return node_arrival(n, store, room, block, block_room, frame, length, &arrival);
 }
 
 static inline size_t node_hands_out(node_t *n, const uint8_t *store, size_t room, uint8_t *frame, size_t frame_room)
@@ -55,7 +56,7 @@ static inline int reads(const uint8_t *bytes, size_t length)
 
 static inline int writes(uint8_t *buffer, size_t room, const uint8_t *payload, size_t length)
 {
-	static struct frame frame = {65, 238, 64, TYPE_DATA, 0, 7, 1, 0, NULL};
+	static struct frame frame = {65, 238, 64, TYPE_DATA, 0, 7, 1, NULL, 0};
 	size_t written;
 
 	frame.length = length;

@@ -2,121 +2,116 @@
 
 #include <string.h>
 
-/* Start 1 and nothing held, nor any acknowledgement of the entry waiting. */
-static void window_clear(struct node *node, unsigned index)
-{
-    struct entry *entry = &node->entries[index];
+#include "block.h"
 
-    entry->start = SEQUENCE_START;
-    entry->held_count = 0;
-    marks_clear(&entry->held);
-    acks_drop(&node->waiting.acks, index);
+void receiver_enable(struct end_point *end)
+{
+    end->state = STATE_ENABLED;
+    window_reset(&end->window);
 }
 
-void receiver_enable(struct node *node, unsigned index)
+bool acks_are_full(const struct waiting *waiting)
 {
-    window_clear(node, index);
-    node->entries[index].state = STATE_ENABLED;
+    return waiting->acks == UINT32_MAX;
 }
 
-void receiver_close(struct node *node, unsigned index)
+static void acknowledge(struct waiting *waiting, struct end_point *end,
+                        uint8_t sequence)
 {
-    window_clear(node, index);
-    node->entries[index].state = STATE_CLOSED;
+    unsigned place = lowest_bit(~(uint64_t)waiting->acks);
+    uint32_t bit = UINT32_C(1) << place;
+
+    waiting->acks |= bit;
+    end->acks |= bit;
+    waiting_put(waiting, LIST_ACK, ITEM_ACK + place, end->index, sequence);
 }
 
-size_t receiver_block_need(const struct entry *entry)
+void receiver_handed_out(struct waiting *waiting, struct end_point *end,
+                         unsigned item)
 {
-    size_t each = BLOCK_OFFSET + (size_t)entry->is.payload_max;
+    uint32_t bit = UINT32_C(1) << (item - ITEM_ACK);
 
-    return BLOCK_EMPTY + entry->is.window * each;
+    waiting->acks &= ~bit;
+    end->acks &= ~bit;
+    waiting_leave(waiting, item);
 }
 
-struct arrival receiver_reset(struct node *node, unsigned index)
+static void drop_acks(struct waiting *waiting, struct end_point *end)
 {
-    struct arrival arrival = { WAS_RESET, node->entries[index].held_count };
-
-    window_clear(node, index);
-    node->entries[index].state = STATE_OPEN;
-    acks_join(&node->waiting.acks, index, SEQUENCE_RESET);
-    return arrival;
+    while (end->acks != 0) {
+        receiver_handed_out(waiting, end, ITEM_ACK + lowest_bit(end->acks));
+    }
 }
 
-/* Puts a new payload of the window in its slot. Held already, or outside:
-   dropped, yet acknowledged by the caller all the same (002, 7.4.9, 7.4.10). */
-static void hold(struct node *node, unsigned index, const struct frame *frame,
+void receiver_close(struct waiting *waiting, struct end_point *end)
+{
+    drop_acks(waiting, end);
+    window_reset(&end->window);
+    end->state = STATE_CLOSED;
+}
+
+struct arrival receiver_reset(struct waiting *waiting, struct end_point *end)
+{
+    unsigned held = marks_count(end->window.marks);
+
+    end->state = STATE_OPEN;
+    window_reset(&end->window);
+    drop_acks(waiting, end);
+    acknowledge(waiting, end, RESET_SEQUENCE);
+    return (struct arrival){.what = ARRIVAL_RESET, .number = held};
+}
+
+/* Puts a payload that is new and in the window in its slot. */
+static void hold(struct end_point *end, const struct frame *frame,
                  uint8_t *store)
 {
-    struct entry *entry = &node->entries[index];
-    unsigned at = slot_of(entry, frame->sequence);
+    struct window *window = &end->window;
+    uint8_t distance = sequence_distance(window->start, frame->sequence);
+    unsigned slot = window_slot(window, frame->sequence);
 
-    if (!lies_within(entry->start, entry->is.window, frame->sequence) ||
-        marks_has(&entry->held, at))
+    if (!window_test(window->start, window->size, frame->sequence) ||
+        marks_has(window->marks, distance)) {
         return;
-    memcpy(store + slot_at(entry, at), frame->payload, frame->length);
-    node->slots[index][at].length = (uint16_t)frame->length;
-    marks_set(&entry->held, at);
-    entry->held_count++;
-}
-
-/* How many are held from the start on without a gap. */
-static unsigned run_from_start(const struct entry *entry)
-{
-    unsigned run = 0;
-
-    while (run < entry->held_count &&
-           marks_has(&entry->held, slot_of(entry, (uint8_t)(entry->start + run))))
-        run++;
-    return run;
-}
-
-/* Writes the run's payloads into the block, and the start passes them. */
-static uint32_t deliver(struct node *node, unsigned index, const uint8_t *store,
-                        uint8_t *block)
-{
-    struct entry *entry = &node->entries[index];
-    unsigned run = run_from_start(entry);
-    uint8_t *offset = block + BLOCK_COUNT;
-    uint32_t end = BLOCK_EMPTY + run * BLOCK_OFFSET;
-
-    put16(block, (uint16_t)run);
-    put32(offset, end);
-    for (unsigned i = 0; i < run; i++) {
-        unsigned at = slot_of(entry, entry->start);
-        uint16_t length = node->slots[index][at].length;
-
-        memcpy(block + end, store + slot_at(entry, at), length);
-        end += length;
-        offset += BLOCK_OFFSET;
-        put32(offset, end);
-        marks_unset(&entry->held, at);
-        entry->start++;
     }
-    entry->held_count = (uint8_t)(entry->held_count - run);
-    return end;
+    memcpy(store + slot_place(end, slot), frame->payload, frame->length);
+    end->length[slot] = (uint16_t)frame->length;
+    marks_set(&window->marks, distance);
 }
 
-struct arrival receiver_data(struct node *node, unsigned index,
+/* Writes the block of what the start passes, and passes it. */
+static size_t deliver(struct end_point *end, const uint8_t *store,
+                      uint8_t *bytes)
+{
+    uint8_t sequence = end->window.start;
+    unsigned count = window_pass(&end->window);
+    struct block block = block_begin(bytes, count);
+
+    for (unsigned i = 0; i < count; i++, sequence++) {
+        unsigned slot = window_slot(&end->window, sequence);
+
+        block_add(&block, store + slot_place(end, slot), end->length[slot]);
+    }
+    return block_finish(&block);
+}
+
+struct arrival receiver_data(struct waiting *waiting, struct end_point *end,
                              const struct frame *frame, uint8_t *store,
                              uint8_t *block)
 {
-    struct arrival arrival = { WAS_DATA, 0 };
+    struct arrival arrival = {.what = ARRIVAL_DATA};
 
-    hold(node, index, frame, store);
-    arrival.number = deliver(node, index, store, block);
-    acks_join(&node->waiting.acks, index, frame->sequence);
+    hold(end, frame, store);
+    arrival.block_length = deliver(end, store, block);
+    acknowledge(waiting, end, frame->sequence);
     return arrival;
 }
 
-/* Delivered at once, past what is held; it has no slot and no acknowledgement. */
 struct arrival receiver_urgent(const struct frame *frame, uint8_t *block)
 {
-    uint32_t begin = BLOCK_EMPTY + BLOCK_OFFSET;
-    struct arrival arrival = { WAS_URGENT, begin + (uint32_t)frame->length };
+    struct arrival arrival = {.what = ARRIVAL_URGENT};
+    struct block urgent = block_begin(block, 1);
 
-    put16(block, 1);
-    put32(block + BLOCK_COUNT, begin);
-    put32(block + BLOCK_COUNT + BLOCK_OFFSET, arrival.number);
-    memcpy(block + begin, frame->payload, frame->length);
+    block_add(&urgent, frame->payload, frame->length);
+    arrival.block_length = block_finish(&urgent);
     return arrival;
 }

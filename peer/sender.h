@@ -1,45 +1,34 @@
-/* What a sending end point does in calls the node has found good (01, End
-   points). */
+/* A sending end point (01, "End points"; 002, 7.2 and 7.5). */
 #ifndef PEER_SENDER_H
 #define PEER_SENDER_H
 
-#include "frame.h"
+#include <stdint.h>
+
+#include "end_point.h"
 #include "node.h"
+#include "waiting.h"
 
-/* Becomes Enabled, with a Reset waiting. */
-void sender_enable(struct node *node, unsigned index);
+/* Becomes Enabled from Closed or from Failing. */
+void sender_enable(struct waiting *waiting, struct end_point *end);
+void sender_close(struct waiting *waiting, struct end_point *end);
 
-/* Becomes Closed: its timers and waiting frames go. */
-void sender_close(struct node *node, unsigned index);
+/* At Open, with a number left to take and room for the payload. */
+void sender_send(struct waiting *waiting, struct end_point *end,
+                 uint8_t *store, const uint8_t *payload, uint16_t length);
 
-/* At Open, with a number free: the payload takes it and waits as data. */
-void sender_send(struct node *node, unsigned index, const uint8_t *payload,
-                 size_t length, uint8_t *store);
+/* At Open, with no Urgent waiting. */
+void sender_urgent(struct waiting *waiting, struct end_point *end,
+                   uint8_t *store, const uint8_t *payload, uint16_t length);
 
-/* At Open, with no Urgent waiting: the payload waits as one. */
-void sender_urgent(struct node *node, unsigned index, const uint8_t *payload,
-                   size_t length, uint8_t *store);
+/* At any state but Closed. */
+struct arrival sender_acknowledged(struct waiting *waiting,
+                                   struct end_point *end, uint8_t sequence);
 
-/* An acknowledgement arrived, at any state but Closed. */
-struct arrival sender_acknowledged(struct node *node, unsigned index,
-                                   uint8_t sequence);
+/* A frame of the sender's was handed out: it no longer waits. */
+void sender_handed_out(struct waiting *waiting, struct end_point *end,
+                       unsigned item);
 
-/* Every running timer of the entry falls by one. */
-void sender_timers_fall(struct node *node, unsigned index);
-
-/* The end of a tick: Failing with no timer running becomes Enabled (true). */
-bool sender_recovers(struct node *node, unsigned index);
-
-/* Type, sequence and payload of a waiting slot's or Urgent's frame. */
-void sender_slot_frame(const struct node *node, uint16_t id, const uint8_t *store,
-                       struct frame *frame);
-void sender_urgent_frame(const struct node *node, unsigned index,
-                         const uint8_t *store, struct frame *frame);
-
-/* It was handed out. */
-void sender_reset_went(struct node *node, unsigned index);
-void sender_urgent_went(struct node *node, unsigned index);
-void sender_retransmission_went(struct node *node, uint16_t id);
-void sender_data_went(struct node *node, uint16_t id);
+/* What the tick that is now does to its timers. */
+void sender_tick(struct waiting *waiting, struct end_point *end);
 
 #endif

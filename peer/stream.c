@@ -1,91 +1,83 @@
 #include "stream.h"
 
 #include <stdio.h>
+#include <stdlib.h>
 #include <string.h>
 
-enum { KEPT_MAX = 65536, FIELD_MAX = 64 };
-
-static char kept[KEPT_MAX];
-static size_t kept_len;
-static int line_begun;
-static int failed;
-
-size_t stream_read(uint8_t *to, size_t room)
+size_t input_read(uint8_t *bytes, size_t room)
 {
-    return fread(to, 1, room, stdin);
+    return fread(bytes, 1, room, stdin);
 }
 
-static void flush(void)
+bool input_take(struct input *input, size_t length, const uint8_t **bytes)
 {
-    if (fwrite(kept, 1, kept_len, stdout) != kept_len)
-        failed = 1;
-    kept_len = 0;
+    if (input->left < length) {
+        return false;
+    }
+    *bytes = input->at;
+    input->at += length;
+    input->left -= length;
+    return true;
 }
 
-static void keep(const char *text, size_t len)
+static void write_out(struct lines *lines)
 {
-    if (kept_len + len > KEPT_MAX)
-        flush();
-    memcpy(kept + kept_len, text, len);
-    kept_len += len;
+    fwrite(lines->text, 1, lines->used, stdout);
+    lines->used = 0;
 }
 
-static void keep_field(const char *text, size_t len)
+static void put(struct lines *lines, const char *text, size_t length)
 {
-    if (line_begun)
-        keep(" ", 1);
-    line_begun = 1;
-    keep(text, len);
+    if (length > sizeof lines->text - lines->used) {
+        write_out(lines);
+    }
+    memcpy(lines->text + lines->used, text, length);
+    lines->used += length;
 }
 
-void line_number(uint32_t number)
+/* A word of a line, parted from the one before it. */
+static void put_word(struct lines *lines, const char *word, size_t length)
+{
+    if (lines->begun) {
+        put(lines, " ", 1);
+    }
+    lines->begun = true;
+    put(lines, word, length);
+}
+
+void lines_text(struct lines *lines, const char *text)
+{
+    put_word(lines, text, strlen(text));
+}
+
+void lines_number(struct lines *lines, uint32_t number)
 {
     char digits[10];
-    size_t at = sizeof digits;
+    size_t first = sizeof digits;
 
     do {
-        digits[--at] = (char)('0' + number % 10);
+        digits[--first] = (char)('0' + number % 10);
         number /= 10;
     } while (number != 0);
-    keep_field(digits + at, sizeof digits - at);
+    put_word(lines, digits + first, sizeof digits - first);
 }
 
-void line_bytes(const uint8_t *bytes, size_t len)
+void lines_bytes(struct lines *lines, const uint8_t *bytes, size_t length)
 {
-    for (size_t i = 0; i < len; i++)
-        line_number(bytes[i]);
-}
-
-void line_text(const char *text)
-{
-    size_t len = strlen(text);
-
-    keep_field(text, len < FIELD_MAX ? len : FIELD_MAX);
-}
-
-void line_end(void)
-{
-    keep("\n", 1);
-    line_begun = 0;
-}
-
-int stream_end(void)
-{
-    flush();
-    if (fflush(stdout) != 0)
-        failed = 1;
-    return failed;
-}
-
-int stream_program(uint8_t *input, size_t room, size_t most, void (*run)(size_t len))
-{
-    size_t len = stream_read(input, room);
-
-    if (len > most) {
-        line_text("too long");
-        line_end();
-    } else {
-        run(len);
+    for (size_t i = 0; i < length; i++) {
+        lines_number(lines, bytes[i]);
     }
-    return stream_end();
+}
+
+void lines_end(struct lines *lines)
+{
+    put(lines, "\n", 1);
+    lines->begun = false;
+}
+
+int lines_finish(struct lines *lines)
+{
+    write_out(lines);
+    return fflush(stdout) == 0 && !ferror(stdout) ? EXIT_SUCCESS
+                                                  : EXIT_FAILURE;
 }

@@ -1,24 +1,36 @@
-/* What the programs share: standard input whole, and lines of decimal numbers. */
+/* What the programs share: standard input whole, output line by line. */
 #ifndef PEER_STREAM_H
 #define PEER_STREAM_H
 
+#include <stdbool.h>
 #include <stddef.h>
 #include <stdint.h>
 
-/* Reads standard input to its end or until room bytes are had; how many. */
-size_t stream_read(uint8_t *to, size_t room);
+/* Input bytes that are taken from front to back. */
+struct input {
+    const uint8_t *at;
+    size_t left;
+};
 
-/* Fields of a line, each after the first with a space before it. */
-void line_number(uint32_t number);
-void line_bytes(const uint8_t *bytes, size_t len);
-void line_text(const char *text);
-void line_end(void);
+/* Lines of numbers parted by one space, written out as the text fills. */
+struct lines {
+    size_t used;
+    bool begun; /* the present line has something */
+    char text[65536];
+};
 
-/* Writes out what is still kept; the program's exit status. */
-int stream_end(void);
+/* Reads to the end of standard input, but no more than the room; how many. */
+size_t input_read(uint8_t *bytes, size_t room);
 
-/* The whole of a program that runs a stream: standard input into room bytes, then run of its length, or the one
- * line "too long" where it has more than most; the program's exit status. */
-int stream_program(uint8_t *input, size_t room, size_t most, void (*run)(size_t len));
+/* Takes bytes off the front; false, and none taken, if too few are left. */
+bool input_take(struct input *input, size_t length, const uint8_t **bytes);
+
+void lines_text(struct lines *lines, const char *text);
+void lines_number(struct lines *lines, uint32_t number);
+void lines_bytes(struct lines *lines, const uint8_t *bytes, size_t length);
+void lines_end(struct lines *lines);
+
+/* Writes out what is left; the program's exit status. */
+int lines_finish(struct lines *lines);
 
 #endif

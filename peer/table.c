@@ -2,96 +2,105 @@
 
 #include <stdbool.h>
 
-static bool is_address(uint8_t byte)
+#include "bytes.h"
+
+static bool is_address(uint8_t address)
 {
-    return byte >= ADDRESS_MIN && byte <= ADDRESS_MAX;
+    return address >= ADDRESS_LEAST && address <= ADDRESS_MOST;
 }
 
-/* W in force, or 0 where the rule is broken: 0 stands for the default, else
-   exactly one bit set and at most 128. */
-static uint16_t window_in_force(uint16_t w)
+/* Exactly one bit set and at most 128. */
+static bool is_window(uint16_t window)
 {
-    if (w == 0)
-        return WINDOW_DEFAULT;
-    if (w > WINDOW_MAX || (w & (w - 1)) != 0)
-        return 0;
-    return w;
+    return window != 0 && (window & (window - 1)) == 0 &&
+           window <= WINDOW_MOST;
 }
 
-/* A sender must time its frames out; a receiver has nothing to time. */
-static bool timing_fits_kind(const struct channel *c)
+static bool is_timing(uint8_t kind, uint8_t retries, uint16_t timeout)
 {
-    if (c->kind == KIND_SENDS)
-        return c->timeout != 0;
-    return c->timeout == 0 && c->retries == 0;
+    if (kind == KIND_SENDS) {
+        return timeout != 0;
+    }
+    return timeout == 0 && retries == 0;
 }
 
-static bool read_entry(const uint8_t *at, struct channel *c)
+static bool entry_read(const uint8_t *bytes, struct entry *entry)
 {
-    c->kind = at[ENTRY_KIND];
-    c->remote = at[ENTRY_REMOTE];
-    c->channel = at[ENTRY_CHANNEL];
-    c->retries = at[ENTRY_RETRIES];
-    c->window = window_in_force(get16(at + ENTRY_WINDOW));
-    c->payload_max = get16(at + ENTRY_PAYLOAD);
-    c->timeout = get16(at + ENTRY_TIMEOUT);
+    uint16_t window = get16(bytes + ENTRY_WINDOW);
 
-    return c->kind <= KIND_RECEIVES && is_address(c->remote) && c->window != 0 &&
-           c->payload_max >= 1 && c->payload_max <= PAYLOAD_MAX &&
-           timing_fits_kind(c) && get16(at + ENTRY_ZEROS) == 0;
+    if (window == 0) {
+        window = WINDOW_DEFAULT;
+    }
+    entry->kind = bytes[ENTRY_KIND];
+    entry->remote = bytes[ENTRY_REMOTE];
+    entry->channel = bytes[ENTRY_CHANNEL];
+    entry->retries = bytes[ENTRY_RETRIES];
+    entry->window = (uint8_t)window;
+    entry->payload = get16(bytes + ENTRY_PAYLOAD);
+    entry->timeout = get16(bytes + ENTRY_TIMEOUT);
+    return entry->kind <= KIND_RECEIVES && is_address(entry->remote) &&
+           is_window(window) && entry->payload >= 1 &&
+           entry->payload <= PAYLOAD_MOST &&
+           is_timing(entry->kind, entry->retries, entry->timeout) &&
+           get16(bytes + ENTRY_ZEROS) == 0;
 }
 
-/* Gives the entry its part of the store; false when the sum grows too large. */
-static bool place(struct channel *c, uint32_t *need)
+/* Whether an entry before this one has its kind, remote and channel. */
+static bool is_repeated(const struct table *table, unsigned index)
 {
-    uint32_t slots = c->window + (c->kind == KIND_SENDS ? 1u : 0u);
-
-    c->store_at = (uint16_t)*need;
-    *need += slots * c->payload_max;
-    return *need <= STORE_MAX;
-}
-
-static bool named_before(const struct table *t, unsigned index)
-{
-    const struct channel *c = &t->entries[index];
-    uint32_t key = channel_key(c->kind, c->remote, c->channel);
+    const struct entry *entry = &table->entry[index];
 
     for (unsigned i = 0; i < index; i++) {
-        const struct channel *b = &t->entries[i];
+        const struct entry *other = &table->entry[i];
 
-        if (channel_key(b->kind, b->remote, b->channel) == key)
+        if (other->kind == entry->kind && other->remote == entry->remote &&
+            other->channel == entry->channel) {
             return true;
+        }
     }
     return false;
 }
 
-static bool read_header(const uint8_t *bytes, size_t len, struct table *t)
+static bool header_read(const uint8_t *bytes, size_t length,
+                        struct table *table)
 {
-    uint16_t count;
+    if (length < TABLE_HEADER) {
+        return false;
+    }
+    uint16_t count = get16(bytes + TABLE_COUNT);
 
-    if (len < TABLE_HEADER)
-        return false;
-    count = get16(bytes + TABLE_COUNT);
-    t->own = bytes[TABLE_OWN];
-    t->protocol = bytes[TABLE_PROTOCOL];
-    if (count > ENTRIES_MAX || len != TABLE_HEADER + (size_t)count * ENTRY_SIZE)
-        return false;
-    t->count = (uint8_t)count;
-    return get16(bytes + TABLE_OFFSET) == TABLE_HEADER && is_address(t->own) &&
-           t->protocol != 0 && get16(bytes + TABLE_ZEROS) == 0;
+    table->count = (uint8_t)count;
+    table->own = bytes[TABLE_OWN];
+    table->protocol = bytes[TABLE_PROTOCOL];
+    table->store = 0;
+    return count <= TABLE_COUNT_MOST &&
+           length == TABLE_HEADER + (size_t)TABLE_ENTRY * count &&
+           get16(bytes + TABLE_OFFSET) == TABLE_HEADER &&
+           is_address(table->own) && table->protocol != 0 &&
+           get16(bytes + TABLE_ZEROS) == 0;
 }
 
-enum refusal table_read(const uint8_t *bytes, size_t len, struct table *table)
+uint32_t entry_store(const struct entry *entry)
 {
-    if (!read_header(bytes, len, table))
-        return REFUSED_TABLE;
-    table->store_need = 0;
-    for (unsigned i = 0; i < table->count; i++) {
-        struct channel *c = &table->entries[i];
+    uint32_t slots = entry->window;
 
-        if (!read_entry(bytes + TABLE_HEADER + i * ENTRY_SIZE, c) ||
-            !place(c, &table->store_need) || named_before(table, i))
-            return REFUSED_TABLE;
+    if (entry->kind == KIND_SENDS) {
+        slots++; /* the last is for its Urgent */
     }
-    return DONE;
+    return slots * entry->payload;
+}
+
+int table_read(const uint8_t *bytes, size_t length, struct table *table)
+{
+    if (!header_read(bytes, length, table)) {
+        return REFUSED_TABLE;
+    }
+    bytes += TABLE_HEADER;
+    for (unsigned i = 0; i < table->count; i++, bytes += TABLE_ENTRY) {
+        if (!entry_read(bytes, &table->entry[i]) || is_repeated(table, i)) {
+            return REFUSED_TABLE;
+        }
+        table->store += entry_store(&table->entry[i]);
+    }
+    return table->store <= STORE_MOST ? NOT_REFUSED : REFUSED_TABLE;
 }

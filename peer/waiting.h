@@ -1,120 +1,162 @@
 /*
- * What waits to be handed out (01, End points: Handing out). Five sorts, each
- * in the order it began to wait. Acknowledgements are a ring: they come and go
- * at its ends, save when a receiver's are dropped. The other sorts are linked,
- * for one of them may leave from the middle at any time.
- *
- * Links are numbers, not pointers, so a node may be copied or moved. All zeros
+ * What waits: frames to be handed out, each sort in the order it began to
+ * wait, and running timers, each entry's in the order they run out. Every
+ * item is in one list at most, so it joins and leaves in one step. All zeros
  * is nothing waiting.
  */
 #ifndef PEER_WAITING_H
 #define PEER_WAITING_H
 
+#include <stdbool.h>
 #include <stdint.h>
 
-#include "protocol.h"
+#include "numbers.h"
 
-struct ack {
-    uint8_t entry;
-    uint8_t sequence;
+/* The sorts of frame in the order of handing out, then the timers. */
+enum list {
+    LIST_NONE,
+    LIST_ACK,
+    LIST_RESET,
+    LIST_URGENT,
+    LIST_AGAIN, /* retransmissions */
+    LIST_DATA,
+    LIST_TIMERS, /* of entry 0; the other entries' follow */
+    LISTS = LIST_TIMERS + TABLE_COUNT_MOST
 };
 
-struct acks {
-    uint8_t waiting;
-    uint8_t first;
-    uint8_t of_entry[ENTRIES_MAX];  /* how many of them are each entry's */
-    struct ack ring[ACKS_MAX];
+/* Items by number: 32 acknowledgements, then what each entry can have. */
+enum item_number {
+    ITEM_NONE,
+    ITEM_ACK,
+    ITEM_RESET = ITEM_ACK + ACKS_MOST,
+    ITEM_URGENT = ITEM_RESET + TABLE_COUNT_MOST,
+    ITEM_DATA = ITEM_URGENT + TABLE_COUNT_MOST,
+    ITEMS = ITEM_DATA + TABLE_COUNT_MOST * WINDOW_MOST
 };
 
-struct link {
+struct item {
+    uint32_t due; /* the tick at which its timer runs out */
+    uint16_t next;
     uint16_t before;
-    uint16_t after;
+    uint8_t list;
+    uint8_t index; /* of its entry */
+    uint8_t sequence;
+    uint8_t retries;
 };
 
-/* first and last, and the links at both ends, mean nothing while none waits. */
-struct order {
-    uint16_t waiting;
+struct list_ends {
     uint16_t first;
     uint16_t last;
 };
 
-/* A slot waits as data or as a retransmission, never both: one set of links
-   serves the two sorts. */
 struct waiting {
-    struct acks acks;
-    struct order resets;            /* by entry */
-    struct order urgents;           /* by entry */
-    struct order retransmissions;   /* by slot_id */
-    struct order data;              /* by slot_id */
-    struct link reset_links[ENTRIES_MAX];
-    struct link urgent_links[ENTRIES_MAX];
-    struct link slot_links[ENTRIES_MAX * WINDOW_MAX];
+    uint32_t now;  /* ticks so far; wraps, no timer runs that long */
+    uint32_t acks; /* bit i: acknowledgement item i waits */
+    struct list_ends list[LISTS];
+    struct item item[ITEMS];
 };
 
-static inline uint16_t slot_id(unsigned entry, unsigned slot)
+static inline unsigned item_reset(unsigned index)
 {
-    return (uint16_t)(entry * WINDOW_MAX + slot);
+    return ITEM_RESET + index;
 }
 
-static inline unsigned slot_id_entry(uint16_t id)
+static inline unsigned item_urgent(unsigned index)
 {
-    return id / WINDOW_MAX;
+    return ITEM_URGENT + index;
 }
 
-static inline unsigned slot_id_slot(uint16_t id)
+static inline unsigned item_data(unsigned index, unsigned slot)
 {
-    return id % WINDOW_MAX;
+    return ITEM_DATA + index * WINDOW_MOST + slot;
 }
 
-static inline void order_join(struct order *order, struct link *links, uint16_t id)
+static inline void waiting_join(struct waiting *waiting, unsigned list,
+                                unsigned number)
 {
-    if (order->waiting == 0) {
-        order->first = id;
+    struct list_ends *ends = &waiting->list[list];
+    struct item *item = &waiting->item[number];
+
+    item->list = (uint8_t)list;
+    item->before = ends->last;
+    item->next = ITEM_NONE;
+    if (ends->last == ITEM_NONE) {
+        ends->first = (uint16_t)number;
     } else {
-        links[order->last].after = id;
-        links[id].before = order->last;
+        waiting->item[ends->last].next = (uint16_t)number;
     }
-    order->last = id;
-    order->waiting++;
+    ends->last = (uint16_t)number;
 }
 
-static inline void order_leave(struct order *order, struct link *links, uint16_t id)
+/* From whatever list it is in, if any. */
+static inline void waiting_leave(struct waiting *waiting, unsigned number)
 {
-    struct link gone = links[id];
+    struct item *item = &waiting->item[number];
+    struct list_ends *ends = &waiting->list[item->list];
 
-    if (id == order->first)
-        order->first = gone.after;
-    else
-        links[gone.before].after = gone.after;
-    if (id == order->last)
-        order->last = gone.before;
-    else
-        links[gone.after].before = gone.before;
-    order->waiting--;
+    if (item->list == LIST_NONE) {
+        return;
+    }
+    if (item->before == ITEM_NONE) {
+        ends->first = item->next;
+    } else {
+        waiting->item[item->before].next = item->next;
+    }
+    if (item->next == ITEM_NONE) {
+        ends->last = item->before;
+    } else {
+        waiting->item[item->next].before = item->before;
+    }
+    item->list = LIST_NONE;
 }
 
-/* The caller has tested that fewer than ACKS_MAX wait. */
-static inline void acks_join(struct acks *acks, unsigned entry, uint8_t sequence)
+/* A frame of this entry and sequence number begins to wait. */
+static inline void waiting_put(struct waiting *waiting, enum list list,
+                               unsigned number, uint8_t index,
+                               uint8_t sequence)
 {
-    struct ack *ack = &acks->ring[(acks->first + acks->waiting) % ACKS_MAX];
-
-    ack->entry = (uint8_t)entry;
-    ack->sequence = sequence;
-    acks->waiting++;
-    acks->of_entry[entry]++;
+    waiting->item[number].index = index;
+    waiting->item[number].sequence = sequence;
+    waiting_join(waiting, list, number);
 }
 
-static inline void acks_first_leaves(struct acks *acks)
+/* The item to hand out next. */
+static inline unsigned waiting_first(const struct waiting *waiting)
 {
-    acks->of_entry[acks->ring[acks->first].entry]--;
-    acks->first = (uint8_t)((acks->first + 1) % ACKS_MAX);
-    acks->waiting--;
+    for (unsigned list = LIST_ACK; list <= LIST_DATA; list++) {
+        if (waiting->list[list].first != ITEM_NONE) {
+            return waiting->list[list].first;
+        }
+    }
+    return ITEM_NONE;
 }
 
-/* Drops one entry's; the others keep their order. */
-void acks_drop(struct acks *acks, unsigned entry);
+static inline bool timers_run(const struct waiting *waiting, unsigned index)
+{
+    return waiting->list[LIST_TIMERS + index].first != ITEM_NONE;
+}
 
-/* Nothing waits afterwards. */
-void waiting_clear(struct waiting *waiting);
+/* An entry's timers all start at its T: the oldest runs out first. */
+static inline void timer_start(struct waiting *waiting, unsigned number,
+                               uint16_t timeout)
+{
+    struct item *item = &waiting->item[number];
+
+    item->due = waiting->now + timeout;
+    waiting_join(waiting, LIST_TIMERS + item->index, number);
+}
+
+/* Takes out a timer of the entry that is at zero now, if there is one. */
+static inline unsigned timer_take_expired(struct waiting *waiting,
+                                          unsigned index)
+{
+    unsigned number = waiting->list[LIST_TIMERS + index].first;
+
+    if (number == ITEM_NONE || waiting->item[number].due != waiting->now) {
+        return ITEM_NONE;
+    }
+    waiting_leave(waiting, number);
+    return number;
+}
 
 #endif

@@ -1,0 +1,81 @@
+#include "frame.h"
+#include "node.h"
+#include "receiver.h"
+#include "sender.h"
+
+static uint8_t type_of(unsigned list)
+{
+    switch (list) {
+    case LIST_ACK:
+        return TYPE_ACKNOWLEDGE;
+    case LIST_RESET:
+        return TYPE_RESET;
+    case LIST_URGENT:
+        return TYPE_URGENT;
+    default:
+        return TYPE_DATA;
+    }
+}
+
+/* Lends the frame its payload from the store, if its type has one. */
+static void lend_payload(struct frame *frame, const struct end_point *end,
+                         const uint8_t *store)
+{
+    unsigned slot;
+
+    if (frame->type == TYPE_DATA) {
+        slot = window_slot(&end->window, frame->sequence);
+    } else if (frame->type == TYPE_URGENT) {
+        slot = urgent_slot(end);
+    } else {
+        return;
+    }
+    frame->payload = store + slot_place(end, slot);
+    frame->length = end->length[slot];
+}
+
+static struct frame frame_of(const struct node *node, const struct item *item,
+                             const uint8_t *store)
+{
+    const struct end_point *end = &node->end[item->index];
+    struct frame frame = {
+        .destination = end->entry.remote,
+        .protocol = node->protocol,
+        .source = node->own,
+        .type = type_of(item->list),
+        .channel = end->entry.channel,
+        .sequence = item->sequence,
+    };
+
+    lend_payload(&frame, end, store);
+    return frame;
+}
+
+int node_hand_out(struct node *node, const uint8_t *store,
+                  size_t store_length, uint8_t *buffer, size_t buffer_length,
+                  size_t *written)
+{
+    unsigned number = waiting_first(&node->waiting);
+
+    if (store_length < node->store) {
+        return REFUSED_ROOM;
+    }
+    if (number == ITEM_NONE) {
+        *written = 0; /* with any frame buffer */
+        return NOT_REFUSED;
+    }
+    const struct item *item = &node->waiting.item[number];
+    struct end_point *end = &node->end[item->index];
+    struct frame frame = frame_of(node, item, store);
+    int refusal = frame_write(&frame, buffer, buffer_length, written);
+
+    if (refusal != NOT_REFUSED) {
+        return refusal;
+    }
+    if (frame.type == TYPE_ACKNOWLEDGE) {
+        receiver_handed_out(&node->waiting, end, number);
+    } else {
+        sender_handed_out(&node->waiting, end, number);
+    }
+    return NOT_REFUSED;
+}

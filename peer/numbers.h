@@ -1,0 +1,106 @@
+/* Every number of the protocol: papers 01 and 002. */
+#ifndef PEER_NUMBERS_H
+#define PEER_NUMBERS_H
+
+/* Frame types: the low nibble of the control byte (002, 5.1.4.2). */
+enum frame_type {
+    TYPE_DATA = 0,
+    TYPE_ACKNOWLEDGE = 1,
+    TYPE_RESET = 2,
+    TYPE_URGENT = 3
+};
+
+/* Where a frame has its bytes (01, "The frame"). */
+enum {
+    FRAME_DESTINATION = 0,
+    FRAME_PROTOCOL = 1,
+    FRAME_SOURCE = 2,
+    FRAME_CONTROL = 3,
+    FRAME_LENGTH = 4,
+    FRAME_CHANNEL = 6,
+    FRAME_SEQUENCE = 7,
+    FRAME_PAYLOAD = 8,
+    FRAME_OVERHEAD = 9, /* header and check byte */
+    FRAME_PAYLOAD_MOST = 65520
+};
+
+enum {
+    CHECK_START = 0xFF
+};
+
+/* The channel table (01, "The channel table"). */
+enum {
+    TABLE_COUNT = 0,
+    TABLE_OFFSET = 2,
+    TABLE_OWN = 4,
+    TABLE_PROTOCOL = 5,
+    TABLE_ZEROS = 6,
+    TABLE_HEADER = 8,
+    TABLE_ENTRY = 12,
+    TABLE_COUNT_MOST = 16,
+    TABLE_MOST = TABLE_HEADER + TABLE_ENTRY * TABLE_COUNT_MOST
+};
+
+/* Where a table's entry has its bytes. */
+enum {
+    ENTRY_KIND = 0,
+    ENTRY_REMOTE = 1,
+    ENTRY_CHANNEL = 2,
+    ENTRY_RETRIES = 3,
+    ENTRY_WINDOW = 4,
+    ENTRY_PAYLOAD = 6,
+    ENTRY_TIMEOUT = 8,
+    ENTRY_ZEROS = 10
+};
+
+enum entry_kind {
+    KIND_SENDS = 0,
+    KIND_RECEIVES = 1
+};
+
+enum {
+    ADDRESS_LEAST = 32,
+    ADDRESS_MOST = 254,
+    WINDOW_DEFAULT = 16,
+    WINDOW_MOST = 128,
+    PAYLOAD_MOST = 32768,
+    STORE_MOST = 32768,
+    SEQUENCES = 256
+};
+
+/* End points and what waits (01, "End points"). */
+enum {
+    RESET_SEQUENCE = 0,
+    URGENT_SEQUENCE = 0,
+    WINDOW_START = 1,
+    ACKS_MOST = 32
+};
+
+/* The host's block: a count, then one offset more than the count. */
+enum {
+    BLOCK_COUNT = 2,
+    BLOCK_OFFSET = 4,
+    BLOCK_EMPTY = BLOCK_COUNT + BLOCK_OFFSET,
+    BLOCK_MOST = BLOCK_EMPTY + WINDOW_MOST * BLOCK_OFFSET + STORE_MOST
+};
+
+/* Refusal numbers (01, "Refusal numbers"); 0 is no refusal. */
+enum refusal {
+    NOT_REFUSED = 0,
+    REFUSED_TABLE = 1,
+    REFUSED_INDEX = 2,
+    REFUSED_KIND = 3,
+    REFUSED_STATE = 4,
+    REFUSED_PAYLOAD = 5,
+    REFUSED_ROOM = 6,
+    REFUSED_WINDOW = 7,
+    REFUSED_COUNT = 8,
+    REFUSED_URGENT = 9,
+    REFUSED_FRAME = 10,
+    REFUSED_ADDRESS = 11,
+    REFUSED_RULES = 12,
+    REFUSED_ENTRY = 13,
+    REFUSED_ACKS = 14
+};
+
+#endif
