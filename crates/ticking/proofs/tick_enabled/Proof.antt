@@ -1,11 +1,13 @@
 -- `ticking::tick_enabled` meets its contract. Assumes nothing.
+use mathlib.Core.Path.{refl}
+use mathlib.Core.Bool.{true≢false}
 use borrow.Author.Tests.{eq-eqb, ne-eqb}
 use borrow.Author.Needs.{needs}
 use Rattle.ticking.proofs.tick_enabled.Statement.{statement}
 use Rattle.ticking.proofs.tick_enabled.Tie as tie
 
 returns : tie.Need-returns
-returns c = rw (eq-eqb _ 0 (c .if1 .taken))
+returns c = (rw (eq-eqb _ 0 (c .if1 .taken)), λ h. refl)
 
 load-requires : tie.Need-load-requires
 load-requires c κs = search needs
@@ -29,13 +31,13 @@ same-length-2 : tie.Need-same-length-2
 same-length-2 c = search needs
 
 returns-2 : tie.Need-returns-2
-returns-2 c = rw (ne-eqb _ 0 (c .before .before .before .before .before .before .before .before .before .before .before .before .if1 .left), eq-eqb _ 1 (c .before .before .before .before .if2 .taken), c .before .before .append .ensures, c .before .before .before .before .before .before .before .save .ensures, c .before .before .before .before .before .before .before .before .before .before .load .ensures)
+returns-2 c = (rw (ne-eqb _ 0 (c .before .before .before .before .before .before .before .before .before .before .before .before .if1 .left), eq-eqb _ 1 (c .before .before .before .before .if2 .taken), c .before .before .append .ensures, c .before .before .before .before .before .before .before .save .ensures, c .before .before .before .before .before .before .before .before .before .before .load .ensures), λ h. absurd (true≢false h))
 
 same-length-3 : tie.Need-same-length-3
 same-length-3 c = search needs
 
 returns-3 : tie.Need-returns-3
-returns-3 c = rw (ne-eqb _ 0 (c .before .before .before .before .before .before .before .before .if1 .left), ne-eqb _ 1 (c .if2 .left), c .before .before .before .save .ensures, c .before .before .before .before .before .before .load .ensures)
+returns-3 c = (rw (ne-eqb _ 0 (c .before .before .before .before .before .before .before .before .if1 .left), ne-eqb _ 1 (c .if2 .left), c .before .before .before .save .ensures, c .before .before .before .before .before .before .load .ensures), λ h. absurd (true≢false h))
 
 pub tick-enabled-spec : {M : Type 1} → statement M
 tick-enabled-spec =

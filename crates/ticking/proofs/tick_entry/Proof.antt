@@ -1,12 +1,14 @@
 -- `ticking::tick_entry` meets its contract. Assumes nothing.
-use mathlib.Core.Path.{_≡_, sym, ap, _∙_}
+use mathlib.Core.Path.{_≡_, refl, sym, ap, _∙_}
+use mathlib.Core.Bool.{false, true≢false}
+use mathlib.Core.List.{List}
 use Prim.Native.Nat.{ℕ}
 use borrow.Author.Needs.{needs}
 use Rattle.ends.specs.declared.State.the-variants.{Closed, Enabled, Open, Failing}
 use Rattle.ends.specs.declared.State.{State}
 use Rattle.ends.specs.Lent.{Lent}
 use Rattle.ends.specs.Ends.{loadState, endOf}
-use Rattle.ticking.specs.Ticking.{tickState, tickEntry}
+use Rattle.ticking.specs.Ticking.{tickState, tickEntry, isOver}
 use Rattle.ticking.proofs.tick_entry.Statement.{statement}
 use Rattle.ticking.proofs.tick_entry.Tie as tie
 
@@ -14,6 +16,10 @@ use Rattle.ticking.proofs.tick_entry.Tie as tie
 known : (x : Lent) (i : ℕ) (s : State) → loadState (x .node) i ≡ s → tickState x i (endOf (x .node) i) s ≡ tickEntry i x
 unfolding tickEntry endOf
 known x i s q = ap (tickState x i (endOf (x .node) i)) (sym q)
+
+not-over : (ws : List ℕ) (i : ℕ) (s : State) → loadState ws i ≡ s → isOver s ≡ false → isOver (endOf ws i .state) ≡ false
+unfolding endOf
+not-over ws i s q h = rw q h
 
 load-state-requires : tie.Need-load-state-requires
 load-state-requires c κs = search needs
@@ -44,7 +50,9 @@ same-length c = search needs
 
 returns : tie.Need-returns
 unfolding tickState
-returns c = known _ _ Closed (sym (c .before .before .load-state .ensures) ∙ c .enum-told .given .1)
+returns c =
+    let q = sym (c .before .before .load-state .ensures) ∙ c .enum-told .given .1 in
+    (known _ _ Closed q, λ h. (refl, not-over _ _ Closed q refl))
 
 same-length-2 : tie.Need-same-length-2
 same-length-2 c = search needs
@@ -54,7 +62,10 @@ same-length-3 c = search needs
 
 returns-2 : tie.Need-returns-2
 unfolding tickState
-returns-2 c = c .before .before .before .before .tick-enabled .ensures ∙ known _ _ (Enabled _ _) (sym (c .before .before .before .before .before .before .before .before .before .before .load-state .ensures) ∙ c .before .before .before .before .before .before .before .before .state .given .1)
+returns-2 c =
+    let q = sym (c .before .before .before .before .before .before .before .before .before .before .load-state .ensures) ∙ c .before .before .before .before .before .before .before .before .state .given .1 in
+    let t = c .before .before .before .before .tick-enabled .ensures in
+    (t .0 ∙ known _ _ (Enabled _ _) q, λ h. (t .1 h, not-over _ _ (Enabled _ _) q refl))
 
 same-length-4 : tie.Need-same-length-4
 same-length-4 c = search needs
@@ -64,7 +75,10 @@ same-length-5 c = search needs
 
 returns-3 : tie.Need-returns-3
 unfolding tickState
-returns-3 c = c .before .before .before .before .tick-open .ensures ∙ known _ _ Open (sym (c .before .before .before .before .before .before .before .before .before .load-state .ensures) ∙ c .before .before .before .before .before .before .before .enum-told2 .given .1)
+returns-3 c =
+    let q = sym (c .before .before .before .before .before .before .before .before .before .load-state .ensures) ∙ c .before .before .before .before .before .before .before .enum-told2 .given .1 in
+    let t = c .before .before .before .before .tick-open .ensures in
+    (t .0 ∙ known _ _ Open q, λ h. (t .1 h, not-over _ _ Open q refl))
 
 same-length-6 : tie.Need-same-length-6
 same-length-6 c = search needs
@@ -74,7 +88,9 @@ same-length-7 c = search needs
 
 returns-4 : tie.Need-returns-4
 unfolding tickState
-returns-4 c = c .before .before .before .before .tick-failing .ensures ∙ known _ _ (Failing _) (sym (c .before .before .before .before .before .before .before .before .before .load-state .ensures) ∙ c .before .before .before .before .before .before .before .enum-told3 .given .1)
+returns-4 c =
+    let q = sym (c .before .before .before .before .before .before .before .before .before .load-state .ensures) ∙ c .before .before .before .before .before .before .before .enum-told3 .given .1 in
+    (c .before .before .before .before .tick-failing .ensures ∙ known _ _ (Failing _) q, λ h. absurd (true≢false h))
 
 pub tick-entry-spec : {M : Type 1} → statement M
 tick-entry-spec =
