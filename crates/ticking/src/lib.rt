@@ -86,6 +86,7 @@ fn tick_entry(node: &mut [u64], book: &mut [u16], i: u8) -> bool
     }
 }
 
+// One or the other, both worked out beforehand.
 fn either(a: bool, b: bool) -> bool
     ensures { λ r. ⌜ r ≡ (a || b) ⌝ }
 {
