@@ -1,7 +1,7 @@
 -- The index that setup makes says of each entry what the table does. Assumes that the table's elements are bytes.
 use Prim.Native.Nat.{ℕ, zero, suc, _≤_, _<_}
 use mathlib.Core.Path.{_≡_, refl, sym, ap, _∙_}
-use mathlib.Core.Bool.{Bool, true, false, _&&_, _||_}
+use mathlib.Core.Bool.{Bool, true, false, _&&_, _||_, and-true, and-false, or-false, and-assoc}
 use mathlib.Core.List.{List}
 use native.Mathlib.Decide.{ℕ-discrete, decLt}
 use native.Mathlib.Omega.{arith}
@@ -31,25 +31,13 @@ eqb-sym a b = sides (ℕ-discrete a b)
     sides (yes e) = eq-eqb a b e ∙ sym (eq-eqb b a (sym e))
     sides (no n) = ne-eqb a b n ∙ sym (ne-eqb b a (λ e. n (sym e)))
 
-and-true : (a : Bool) → (a && true) ≡ a
-and-true true = refl
-and-true false = refl
-
-and-none : (a : Bool) → (a && false) ≡ false
-and-none true = refl
-and-none false = refl
-
-or-not : (a : Bool) → (a || false) ≡ a
-or-not true = refl
-or-not false = refl
-
 -- of the first k numbers those that p holds of, and k too where it holds of it, are those of the first k + 1
 one-more : (p : ℕ → Bool) (k i : ℕ) → ((ltb i k && p i) || (p k && eqb i k)) ≡ (ltb i (suc k) && p i)
 one-more p k i = sides (ℕ-discrete i k)
   where
     sides : Dec (i ≡ k) → ((ltb i k && p i) || (p k && eqb i k)) ≡ (ltb i (suc k) && p i)
     sides (yes e) = rw (e, le-ltb k k (omega arith), eq-eqb k k refl, lt-ltb k (suc k) (omega arith)) (and-true (p k))
-    sides (no n) = rw (ne-eqb i k n, and-none (p k), or-not (ltb i k && p i)) (ap (λ (b : Bool). b && p i) (below (decLt i k)))
+    sides (no n) = rw (ne-eqb i k n, and-false (p k), or-false (ltb i k && p i)) (ap (λ (b : Bool). b && p i) (below (decLt i k)))
       where
         below : Dec (i < k) → ltb i k ≡ ltb i (suc k)
         below (yes l) = lt-ltb i k l ∙ sym (lt-ltb i (suc k) (omega arith))
@@ -64,16 +52,12 @@ module _ (t : List ℕ) (g : goodTable t ≡ true) (bytes : (j : ℕ) → getD t
   from : ℕ → ℕ → Bool
   from v i = eqb (entryOf t i .remote .0) v
 
-  regroup : (a b c : Bool) → (a && (b && c)) ≡ ((a && b) && c)
-  regroup true b c = refl
-  regroup false b c = refl
-
   tabled-channel : (k : ℕ) → k ≤ countOf t → (sends : Bool) (v i : ℕ) → i < 16 → bit (rowIn (tabled t k ws) v) (channelDigit sends i) ≡ (ltb i k && over sends v i)
   unfolding tabled over
   tabled-channel zero le sends v i h = rw (blank v, le-ltb i 0 (omega arith)) (bit-of-zero (channelDigit sends i))
   tabled-channel (suc k) le sends v i h =
       entered-channel t k (tabled t k ws) g bytes (omega arith) (tabled-long t k ws ∙ long) sends v i h
-      ∙ rw (eqb-sym v (entryOf t k .channel .0), tabled-channel k (omega arith) sends v i h, regroup (eqb (entryOf t k .channel .0) v) (same sends (isSends (entryOf t k .kind))) (eqb i k)) (one-more (over sends v) k i)
+      ∙ rw (eqb-sym v (entryOf t k .channel .0), tabled-channel k (omega arith) sends v i h, ← and-assoc (eqb (entryOf t k .channel .0) v) (same sends (isSends (entryOf t k .kind))) (eqb i k)) (one-more (over sends v) k i)
 
   tabled-remote : (k : ℕ) → k ≤ countOf t → (v i : ℕ) → i < 16 → bit (rowIn (tabled t k ws) v) (remoteDigit i) ≡ (ltb i k && from v i)
   unfolding tabled from

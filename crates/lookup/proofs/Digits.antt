@@ -1,6 +1,6 @@
 -- Laws of a number's binary digits: those of an `and`, and the lowest that is 1. Assumes nothing.
 use Prim.Native.Nat.{ℕ, zero, suc, _+_, _*_, _/_, _%_, _^_, _≤_, _<_, min, zero-le}
-use mathlib.Core.Bool.{Bool, true, false, _&&_, _||_, true≢false}
+use mathlib.Core.Bool.{Bool, true, false, _&&_, _||_, true≢false, or-true, or-false}
 use mathlib.Core.Path.{_≡_, refl, sym, ap, _∙_}
 use native.Mathlib.Decide.{decLe}
 use native.Mathlib.Nat.{le-of-suc-le-suc, not-suc-le-zero}
@@ -55,17 +55,9 @@ trailing-one (suc k) n h = go (n % 2) refl (trailing-one k (n / 2)) h
 
 -- ---- the lowest of 16, which a 1 above them ends
 
-or-false : (a b : Bool) → (a || b) ≡ false → a ≡ false
-or-false false b h = refl
-or-false true b h = absurd (true≢false h)
-
-or-true : (a : Bool) → (a || true) ≡ true
-or-true true = refl
-or-true false = refl
-
-or-not : (a : Bool) → (a || false) ≡ a
-or-not true = refl
-or-not false = refl
+or-left : (a b : Bool) → (a || b) ≡ false → a ≡ false
+or-left false b h = refl
+or-left true b h = absurd (true≢false h)
 
 module _ (n : ℕ) where
   abbrev ended : ℕ
@@ -87,6 +79,6 @@ module _ (n : ℕ) where
   pub lowest-is : firstFrom (bit n) 0 16 ≡ trailingZeros 64 ended
   lowest-is =
       first-is (bit n) 0 16 (trailingZeros 64 ended) zero-le ended-le
-      (λ i l h. or-false (bit n i) (eqb i 16) (sym (ended-bit i) ∙ trailing-zero 64 ended i h))
-      (λ h. sym (or-not (bit n (trailingZeros 64 ended))) ∙ ap (λ (b : Bool). bit n (trailingZeros 64 ended) || b) (sym (ne-eqb (trailingZeros 64 ended) 16 (λ e. omega arith)))
+      (λ i l h. or-left (bit n i) (eqb i 16) (sym (ended-bit i) ∙ trailing-zero 64 ended i h))
+      (λ h. sym (or-false (bit n (trailingZeros 64 ended))) ∙ ap (λ (b : Bool). bit n (trailingZeros 64 ended) || b) (sym (ne-eqb (trailingZeros 64 ended) 16 (λ e. omega arith)))
       ∙ sym (ended-bit (trailingZeros 64 ended)) ∙ trailing-one 64 ended (omega arith))

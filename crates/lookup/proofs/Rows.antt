@@ -1,6 +1,6 @@
 -- What putting an entry into the index does: to each row's digits, and to no other word. Assumes nothing.
 use Prim.Native.Nat.{ℕ, _+_, _^_, _≤_, _<_}
-use mathlib.Core.Bool.{Bool, true, false, _&&_, _||_}
+use mathlib.Core.Bool.{Bool, true, false, _&&_, _||_, or-false, and-false}
 use mathlib.Core.List.{List}
 use mathlib.Core.Logic.{_⊎_, inl, inr, _≢_}
 use mathlib.Core.Path.{_≡_, refl, sym, ap, _∙_}
@@ -20,10 +20,6 @@ use Rattle.ends.specs.States.{isSends}
 use Rattle.lookup.specs.Lookup.{same, rowIn, channelDigit, remoteDigit, marked, indexed}
 
 -- ---- one mark
-
-or-not : (a : Bool) → (a || false) ≡ a
-or-not true = refl
-or-not false = refl
 
 -- a row is its word
 pub row-ext : (ws vs : List ℕ) (u : ℕ) → (u < 256 → getD ws (rowAt u) 0 ≡ getD vs (rowAt u) 0) → rowIn ws u ≡ rowIn vs u
@@ -56,7 +52,7 @@ module _ (ws : List ℕ) (long : 320 ≤ length ws) (v : ℕ) (low : v < 256) (k
       sides (yes e) =
           rw (e, eq-eqb v v refl)
           (ap (λ (n : ℕ). bit n j) mark-here ∙ bit-or (rowIn ws v) (2 ^ k) j ∙ ap (λ (b : Bool). bit (rowIn ws v) j || b) (bit-pow k j))
-      sides (no n) = rw (ne-eqb u v n, mark-there u n) (sym (or-not (bit (rowIn ws u) j)))
+      sides (no n) = rw (ne-eqb u v n, mark-there u n) (sym (or-false (bit (rowIn ws u) j)))
 
 -- ---- an entry
 
@@ -70,13 +66,9 @@ same-digit false false i j hi hj = sides (ℕ-discrete i j)
 same-digit true false i j hi hj = ne-eqb i (16 + j) (λ e. omega arith)
 same-digit false true i j hi hj = ne-eqb (16 + i) j (λ e. omega arith)
 
-digit-low : (b : Bool) (i : ℕ) → i < 16 → channelDigit b i < 32
+pub digit-low : (b : Bool) (i : ℕ) → i < 16 → channelDigit b i < 32
 digit-low true i h = omega arith
 digit-low false i h = omega arith
-
-and-none : (a : Bool) → (a && false) ≡ false
-and-none true = refl
-and-none false = refl
 
 module _ (ws : List ℕ) (long : 320 ≤ length ws) (i : ℕ) (low : i < 16) (e : Entry) (over : e .channel .0 < 256) (from : e .remote .0 < 256) where
   abbrev digit : ℕ
@@ -99,13 +91,13 @@ module _ (ws : List ℕ) (long : 320 ≤ length ws) (i : ℕ) (low : i < 16) (e 
       → bit (rowIn (indexed ws i e) u) (channelDigit sends j) ≡ (bit (rowIn ws u) (channelDigit sends j) || (eqb u (e .channel .0) && (same sends (isSends (e .kind)) && eqb j i)))
   indexed-channel sends u j h =
       indexed-digit u (channelDigit sends j)
-      ∙ rw (same-digit sends (isSends (e .kind)) j i h low, ne-eqb (channelDigit sends j) (remoteDigit i) (λ q. let d = digit-low sends j h in omega arith), and-none (eqb u (e .remote .0))) (or-not _)
+      ∙ rw (same-digit sends (isSends (e .kind)) j i h low, ne-eqb (channelDigit sends j) (remoteDigit i) (λ q. let d = digit-low sends j h in omega arith), and-false (eqb u (e .remote .0))) (or-false _)
 
   -- those with a remote address
   pub indexed-remote : (u j : ℕ) → j < 16 → bit (rowIn (indexed ws i e) u) (remoteDigit j) ≡ (bit (rowIn ws u) (remoteDigit j) || (eqb u (e .remote .0) && eqb j i))
   indexed-remote u j h =
       indexed-digit u (remoteDigit j)
-      ∙ rw (ne-eqb (remoteDigit j) digit (λ q. let d = digit-low (isSends (e .kind)) i low in omega arith), and-none (eqb u (e .channel .0)), or-not (bit (rowIn ws u) (remoteDigit j))) (far (ℕ-discrete j i))
+      ∙ rw (ne-eqb (remoteDigit j) digit (λ q. let d = digit-low (isSends (e .kind)) i low in omega arith), and-false (eqb u (e .channel .0)), or-false (bit (rowIn ws u) (remoteDigit j))) (far (ℕ-discrete j i))
     where
       far : Dec (j ≡ i) → (bit (rowIn ws u) (remoteDigit j) || (eqb u (e .remote .0) && eqb (remoteDigit j) (remoteDigit i))) ≡ (bit (rowIn ws u) (remoteDigit j) || (eqb u (e .remote .0) && eqb j i))
       far (yes q) = rw (eq-eqb j i q, eq-eqb (remoteDigit j) (remoteDigit i) (omega arith))

@@ -1,17 +1,11 @@
 -- `lookup::put_in_index` meets its contract. Assumes nothing.
-use Prim.Native.Nat.{ℕ, _<_}
-use mathlib.Core.Path.{_≡_}
-use mathlib.Core.Bool.{Bool, true, false}
 use native.Mathlib.Omega.{arith}
 use borrow.Author.Needs.{needs}
 use Rattle.ends.specs.States.{isSends}
-use Rattle.lookup.specs.Lookup.{channelDigit, indexed}
+use Rattle.lookup.specs.Lookup.{indexed}
+use Rattle.lookup.proofs.Rows.{digit-low}
 use Rattle.lookup.proofs.put_in_index.Statement.{statement}
 use Rattle.lookup.proofs.put_in_index.Tie as tie
-
-digit-low : (b : Bool) (i : ℕ) → i < 16 → channelDigit b i < 64
-digit-low true i h = omega arith
-digit-low false i h = omega arith
 
 channel-digit-requires : tie.Need-channel-digit-requires
 channel-digit-requires c κs = search needs
@@ -19,7 +13,7 @@ channel-digit-requires c κs = search needs
 mark-requires : tie.Need-mark-requires
 mark-requires c κs =
     let a = c .before .before .before .args in
-    rw (c .channel-digit .ensures) (digit-low (isSends (a .e .kind)) (a .i) (c .before .before .before .pre))
+    rw (c .channel-digit .ensures) (omega (arith, digit-low (isSends (a .e .kind)) (a .i) (c .before .before .before .pre)))
 
 add-mark : tie.Need-add-mark
 add-mark c = search needs

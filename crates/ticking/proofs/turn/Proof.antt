@@ -6,6 +6,7 @@ use mathlib.Core.List.{List, []}
 use denote.Ref.{now}
 use lib.Dec.{eqb}
 use borrow.Author.Tests.{eqb-true}
+use Rattle.table.proofs.Every.{both}
 use Rattle.ends.specs.Ends.{word, stateOf, loadRun, endOf}
 use Rattle.ends.specs.Lent.{Lent}
 use Rattle.ticking.specs.Ticking.{tickSlots, tickState, tickEntry, isOver}
@@ -16,10 +17,6 @@ use Rattle.ticking.proofs.turn.Tie as tie
 neither : (a b : Bool) → (a || b) ≡ false → (a ≡ false) × (b ≡ false)
 neither false b h = (refl, h)
 neither true b h = absurd (true≢false h)
-
-both-true : (a b : Bool) → (a && b) ≡ true → (a ≡ true) × (b ≡ true)
-both-true true b h = (refl, h)
-both-true false b h = absurd (true≢false (sym h))
 
 -- an idle entry ticks without effect, and is not one to recover
 same : (x : Lent) (i : ℕ) → word (x .node) i 8 % 4 ≡ 2 → word (x .node) i 15 % 256 ≡ 0 → tickEntry i x ≡ x
@@ -33,7 +30,7 @@ open-not-over ws i t = rw t
 idle : (ws b : List ℕ) (i : ℕ) → (eqb (word ws i 8 % 4) 2 && eqb (word ws i 15 % 256) 0) ≡ true
     → (tickEntry i (record { node = ws; book = b; store = []; out = [] }) ≡ record { node = ws; book = b; store = []; out = [] }) × (isOver (endOf ws i .state) ≡ false)
 idle ws b i h =
-    let p = both-true (eqb (word ws i 8 % 4) 2) (eqb (word ws i 15 % 256) 0) h in
+    let p = both (eqb (word ws i 8 % 4) 2) (eqb (word ws i 15 % 256) 0) h in
     let t = eqb-true (word ws i 8 % 4) 2 (p .0) in
     (same (record { node = ws; book = b; store = []; out = [] }) i t (eqb-true (word ws i 15 % 256) 0 (p .1)), open-not-over ws i t)
 
