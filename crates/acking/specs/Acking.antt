@@ -11,7 +11,7 @@ use Rattle.waiting.specs.Queues.{unlinked}
 use Rattle.window.specs.Windows.{offsetOf, acceptOf, passOf, resetOf}
 use Rattle.window.specs.declared.Passed.{Passed}
 use Rattle.ends.specs.Ends.{saved}
-use Rattle.ends.specs.States.{isNew}
+use Rattle.ends.specs.Runs.{isNew}
 use Rattle.ends.specs.Lent.{Lent}
 use Rattle.ends.specs.declared.EndPoint.{EndPoint}
 use Rattle.ends.specs.declared.State.{State}

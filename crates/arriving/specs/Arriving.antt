@@ -12,6 +12,7 @@ use Rattle.units.specs.declared.refusals.Verdict.{Verdict}
 use Rattle.units.specs.declared.refusals.Verdict.the-variants as verdicts
 use Rattle.waiting.specs.Acks.{waitingOf}
 use Rattle.frame.specs.Layout.{payloadOf}
+use Rattle.frame.specs.Types.{carries, answered}
 use Rattle.frame.specs.Reading.{soundOf, headerOf}
 use Rattle.frame.specs.declared.Header.{Header}
 use Rattle.frame.specs.declared.Read.{Read}
@@ -33,19 +34,6 @@ use Rattle.lookup.specs.Lookup.{entryFor}
 abbrev pub ours : List ℕ → List ℕ → Bool
 ours ws f = eqb (getD f 0 0) (ownIn ws .0) && eqb (getD f 1 0) (protocolIn ws)
 
--- Data and Urgent carry a payload into a block; Data and Reset are acknowledged
-abbrev pub delivers : FrameType → Bool
-delivers type.Data = true
-delivers type.Acknowledge = false
-delivers type.Reset = false
-delivers type.Urgent = true
-
-abbrev pub answered : FrameType → Bool
-answered type.Data = true
-answered type.Acknowledge = false
-answered type.Reset = true
-answered type.Urgent = false
-
 -- the room that Data and Urgent need
 abbrev pub blockRoom : EndPoint → ℕ
 blockRoom e = 6 + e .run .window .size * (4 + e .entry .largest)
@@ -57,11 +45,11 @@ abbrev pub entryTests : List ℕ → ℕ → EndPoint → FrameType → ℕ → 
 entryTests ws i e t n store block =
     (leb (countIn ws) i, refusal.NoEndPoint)
     ∷ (isClosed (e .state), refusal.NoEndPoint)
-    ∷ (delivers t && not (isOpen (e .state)), refusal.NoEndPoint)
-    ∷ (delivers t && ltb (e .entry .largest) n, refusal.PayloadLength)
+    ∷ (carries t && not (isOpen (e .state)), refusal.NoEndPoint)
+    ∷ (carries t && ltb (e .entry .largest) n, refusal.PayloadLength)
     ∷ (answered t && leb 32 (waitingOf ws), refusal.AcksFull)
     ∷ (ltb store (needIn ws), refusal.TooShort)
-    ∷ (delivers t && ltb block (blockRoom e), refusal.TooShort)
+    ∷ (carries t && ltb block (blockRoom e), refusal.TooShort)
     ∷ []
 
 -- the entry that a frame is for, and the verdict there

@@ -9,7 +9,8 @@ use lib.Seq.{sets, set-comm, length-sets}
 use Rattle.units.specs.Bytes.{be16, be32}
 use Rattle.units.proofs.Runs.{sets-append}
 use Rattle.window.specs.declared.Window.{Window}
-use Rattle.blocks.specs.Blocks.{offsets, joinedUp, blockOf, payloadAt, payloads}
+use Rattle.blocks.specs.Blocks.{offsets, joinedUp, blockOf}
+use Rattle.blocks.specs.Payloads.{payloadAt, payloads}
 
 -- ---- one payload more
 

@@ -18,7 +18,8 @@ ghost use Prim.Native.Nat.{_+_, _*_, _<_};
 ghost use lib.ListN.{length};
 ghost use lib.Seq.{sets};
 ghost use Rattle.units.specs.Bytes.{be32};
-ghost use Rattle.blocks.specs.Blocks.{blockOf, payloadAt, payloads};
+ghost use Rattle.blocks.specs.Blocks.{blockOf};
+ghost use Rattle.blocks.specs.Payloads.{payloadAt, payloads};
 
 // The payload of number k past the start.
 fn payload<'a>(

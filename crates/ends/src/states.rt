@@ -4,7 +4,8 @@ use super::State;
 use table::Kind;
 use window::Found;
 ghost use mathlib.Core.Path.{_≡_};
-ghost use Rattle.ends.specs.States.{isSends, isClosed, isOpen, isNew, anew, urgentGone};
+ghost use Rattle.ends.specs.States.{isSends, isClosed, isOpen};
+ghost use Rattle.ends.specs.Runs.{isNew, anew, urgentGone};
 
 pub fn is_sends(k: Kind) -> bool
     ensures { λ r. ⌜ r ≡ isSends k ⌝ }

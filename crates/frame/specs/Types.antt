@@ -34,6 +34,20 @@ carries Acknowledge = false
 carries Reset = false
 carries Urgent = true
 
+-- whether they are acknowledged
+abbrev pub answered : FrameType → Bool
+answered Data = true
+answered Acknowledge = false
+answered Reset = true
+answered Urgent = false
+
+-- whether they are for a sender: acknowledgements are, all else is for a receiver
+abbrev pub forSender : FrameType → Bool
+forSender Data = false
+forSender Acknowledge = true
+forSender Reset = false
+forSender Urgent = false
+
 -- whether a payload of n bytes fits a type
 abbrev pub suits : FrameType → ℕ → Bool
 suits t n = pick (carries t) (leb 1 n && leb n 65520) (eqb n 0)

@@ -21,7 +21,7 @@ use Rattle.window.proofs.Holding.{held-below}
 use Rattle.window.proofs.Passing.{run-held, pass-run, pass-size, pass-good, pass-held, pass-first}
 use Rattle.table.proofs.Every.{both}
 use Rattle.kept.proofs.Kept.{RunFits}
-use Rattle.ends.specs.States.{isNew}
+use Rattle.ends.specs.Runs.{isNew}
 use Rattle.ends.specs.declared.Run.{Run}
 use Rattle.slots.specs.Slots.{cell, past, timerIn}
 use Rattle.acking.specs.Acking.{counts, passing, moved, stopped, fewer}

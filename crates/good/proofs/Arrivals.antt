@@ -18,7 +18,7 @@ use Rattle.units.proofs.Judging.{clear}
 use Rattle.waiting.specs.Acks.{waitingOf}
 use Rattle.frame.specs.Layout.{payloadOf, typeAt}
 use Rattle.frame.specs.Reading.{soundOf, headerOf, readOf}
-use Rattle.frame.specs.Types.{typeOf, suits, seqGiven}
+use Rattle.frame.specs.Types.{typeOf, suits, seqGiven, forSender, carries, answered}
 use Rattle.frame.specs.declared.Header.{Header}
 use Rattle.frame.specs.declared.Read.{Read}
 use Rattle.frame.specs.declared.Read.the-variants as read
@@ -31,9 +31,9 @@ use Rattle.ends.specs.States.{isSends, isClosed, isOpen}
 use Rattle.ends.specs.Lent.{Lent}
 use Rattle.ends.specs.declared.State.the-variants.{Open}
 use Rattle.ends.specs.declared.answers.Arrived.the-variants as arrived
-use Rattle.lookup.specs.Lookup.{forSender, Indexed, entryFor}
+use Rattle.lookup.specs.Lookup.{Indexed, entryFor}
 use Rattle.lookup.proofs.Found.{Fitting, found-fits}
-use Rattle.arriving.specs.Arriving.{delivers, answered, blockRoom, entryTests, entryOf, entryVerdict, takenAnswer, takenAfter, answerAs, afterAs, entryAnswer, entryAfter, readAnswer, readAfter, frameTests, arrivalAnswer, arrivalAfter}
+use Rattle.arriving.specs.Arriving.{blockRoom, entryTests, entryOf, entryVerdict, takenAnswer, takenAfter, answerAs, afterAs, entryAnswer, entryAfter, readAnswer, readAfter, frameTests, arrivalAnswer, arrivalAfter}
 use Rattle.table.proofs.Every.{both}
 use Rattle.good.proofs.Known.{is-open}
 
@@ -46,12 +46,12 @@ pub record Taken (x : Lent) (f : List ℕ) : Type 0 where
   pub known : entry < countIn (x .node)
   pub fit : Fitting (loadEntry (x .node) entry) (forSender (header .kind)) (header .source .0) (header .channel .0)
   pub up : isClosed (endOf (x .node) entry .state) ≡ false
-  pub opened : delivers (header .kind) ≡ true → endOf (x .node) entry .state ≡ Open
-  pub short : delivers (header .kind) ≡ true → length (payloadOf f) ≤ endOf (x .node) entry .entry .largest
-  pub some : delivers (header .kind) ≡ true → 1 ≤ length (payloadOf f)
+  pub opened : carries (header .kind) ≡ true → endOf (x .node) entry .state ≡ Open
+  pub short : carries (header .kind) ≡ true → length (payloadOf f) ≤ endOf (x .node) entry .entry .largest
+  pub some : carries (header .kind) ≡ true → 1 ≤ length (payloadOf f)
   pub room : answered (header .kind) ≡ true → waitingOf (x .node) < 32
   pub need : needIn (x .node) ≤ length (x .store)
-  pub block : delivers (header .kind) ≡ true → blockRoom (endOf (x .node) entry) ≤ length (x .out)
+  pub block : carries (header .kind) ≡ true → blockRoom (endOf (x .node) entry) ≤ length (x .out)
   pub byte : ((k : ℕ) → getD f k 0 < 256) → header .seq .0 < 256
   pub answer : arrivalAnswer x f ≡ takenAnswer x entry (endOf (x .node) entry) (header .kind) (header .seq .0) (payloadOf f)
   pub after : arrivalAfter x f ≡ takenAfter x entry (endOf (x .node) entry) (header .kind) (header .seq .0) (payloadOf f)
@@ -72,7 +72,7 @@ and-false true b h e = h
 and-false false b h e = absurd (true≢false (sym e))
 
 -- a payload is as long as the header says, and there is one where one is delivered
-pub payload-size : (f : List ℕ) (h : Header) → readOf f ≡ read.Frame h → (length (payloadOf f) ≡ h .length) × (delivers (h .kind) ≡ true → 1 ≤ length (payloadOf f))
+pub payload-size : (f : List ℕ) (h : Header) → readOf f ≡ read.Frame h → (length (payloadOf f) ≡ h .length) × (carries (h .kind) ≡ true → 1 ≤ length (payloadOf f))
 unfolding payloadOf
 payload-size f h e =
     let t = framed f h e in
@@ -82,7 +82,7 @@ payload-size f h e =
     let q : typeOf (typeAt f) ≡ h .kind = ap (λ (x : Header). x .kind) (t .1) in
     (n ∙ l, λ d. rw n (carried (typeOf (typeAt f)) (get16Of f 4) (rw q d) (t .0 .fits)))
   where
-    carried : (t : FrameType) (n : ℕ) → delivers t ≡ true → suits t n ≡ true → 1 ≤ n
+    carried : (t : FrameType) (n : ℕ) → carries t ≡ true → suits t n ≡ true → 1 ≤ n
     carried type.Data n d s = leb-true 1 n (both (leb 1 n) (leb n 65520) s .0)
     carried type.Acknowledge n d s = absurd (true≢false (sym d))
     carried type.Reset n d s = absurd (true≢false (sym d))
@@ -94,7 +94,7 @@ seq-byte type.Acknowledge s h = h
 seq-byte type.Reset s h = h
 seq-byte type.Urgent s h = omega arith
 
-header-byte : (f : List ℕ) (h : Header) → readOf f ≡ read.Frame h → ((k : ℕ) → getD f k 0 < 256) → h .seq .0 < 256
+pub header-byte : (f : List ℕ) (h : Header) → readOf f ≡ read.Frame h → ((k : ℕ) → getD f k 0 < 256) → h .seq .0 < 256
 header-byte f h e b =
     let t = framed f h e in
     let q : seqGiven (typeOf (typeAt f)) (getD f 7 0) ≡ h .seq .0 = ap (λ (x : Header). x .seq .0) (t .1) in
@@ -125,12 +125,12 @@ module _ (x : Lent) (index : Indexed (x .node)) (f : List ℕ) (h : Header) (r :
         known = known;
         fit = found-fits (x .node) index (forSender (h .kind)) (h .source .0) (h .channel .0) known;
         up = c .1 .0;
-        opened = λ d. is-open (endOf (x .node) i .state) (not-false (isOpen (endOf (x .node) i .state)) (and-false (delivers (h .kind)) _ (c .1 .1 .0) d));
-        short = λ d. rw (p .0) (ltb-false _ _ (and-false (delivers (h .kind)) _ (c .1 .1 .1 .0) d));
+        opened = λ d. is-open (endOf (x .node) i .state) (not-false (isOpen (endOf (x .node) i .state)) (and-false (carries (h .kind)) _ (c .1 .1 .0) d));
+        short = λ d. rw (p .0) (ltb-false _ _ (and-false (carries (h .kind)) _ (c .1 .1 .1 .0) d));
         some = p .1;
         room = λ d. leb-false 32 (waitingOf (x .node)) (and-false (answered (h .kind)) _ (c .1 .1 .1 .1 .0) d);
         need = ltb-false (length (x .store)) (needIn (x .node)) (c .1 .1 .1 .1 .1 .0);
-        block = λ d. ltb-false _ _ (and-false (delivers (h .kind)) _ (c .1 .1 .1 .1 .1 .1 .0) d);
+        block = λ d. ltb-false _ _ (and-false (carries (h .kind)) _ (c .1 .1 .1 .1 .1 .1 .0) d);
         byte = header-byte f h r;
         answer = answer ∙ ap (λ (v : Verdict). answerAs v (takenAnswer x (entryOf x h) (endOf (x .node) (entryOf x h)) (h .kind) (h .seq .0) (payloadOf f))) e;
         after = after ∙ ap (λ (v : Verdict). afterAs v x (takenAfter x (entryOf x h) (endOf (x .node) (entryOf x h)) (h .kind) (h .seq .0) (payloadOf f))) e;

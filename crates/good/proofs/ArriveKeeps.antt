@@ -14,8 +14,8 @@ use Rattle.ends.specs.States.{isSends}
 use Rattle.ends.specs.Lent.{Lent}
 use Rattle.ends.specs.declared.State.the-variants.{Open}
 use Rattle.receiving.specs.Receiving.{urgentAfter}
-use Rattle.lookup.specs.Lookup.{forSender}
-use Rattle.arriving.specs.Arriving.{delivers, answered, takenAfter, arrivalAfter}
+use Rattle.frame.specs.Types.{forSender, carries, answered}
+use Rattle.arriving.specs.Arriving.{takenAfter, arrivalAfter}
 use Rattle.good.specs.Good.{Lists, Good}
 use Rattle.good.proofs.Framing.{apart-same, within-same}
 use Rattle.good.proofs.Turns.{Kept}
@@ -26,7 +26,7 @@ use Rattle.good.proofs.ReceiveKeeps.{reset-keeps, data-keeps}
 module _ (t : List ℕ) (x : Lent) (l : Lists) (g : Good t (x .node) (x .book) l) (i : ℕ) (li : i < countIn (x .node)) (s : ℕ) (byte : s < 256) (p : List ℕ) where
   -- a frame of each type
   taken-keeps : (q : FrameType) → isSends (endOf (x .node) i .entry .kind) ≡ forSender q
-      → (delivers q ≡ true → endOf (x .node) i .state ≡ Open) → (delivers q ≡ true → length p ≤ endOf (x .node) i .entry .largest) → (delivers q ≡ true → 1 ≤ length p)
+      → (carries q ≡ true → endOf (x .node) i .state ≡ Open) → (carries q ≡ true → length p ≤ endOf (x .node) i .entry .largest) → (carries q ≡ true → 1 ≤ length p)
       → (answered q ≡ true → waitingOf (x .node) < 32) → Kept t x (takenAfter x i (endOf (x .node) i) q s p) l i
   unfolding takenAfter urgentAfter
   taken-keeps type.Data k o m n w = data-keeps t x l g i li k (o refl) s byte p (n refl) (m refl) (w refl)

@@ -16,7 +16,7 @@ use Rattle.frame.specs.Layout.{payloadOf, headBytes, bodyBytes, frameBytes}
 use Rattle.frame.specs.Reading.{soundOf, headerOf, readOf}
 use Rattle.frame.specs.declared.Header.{Header}
 use Rattle.frame.specs.declared.Read.the-variants as read
-use Rattle.frame.specs.Types.{typeNumber, typeOf, suits, seqWrites}
+use Rattle.frame.specs.Types.{typeNumber, typeOf, suits, seqWrites, forSender, carries, answered}
 use Rattle.frame.specs.declared.FrameType.{FrameType}
 use Rattle.frame.specs.declared.FrameType.the-variants as type
 use Rattle.frame.proofs.ReadLaws.{taken as framed, headerFor, payload-frame, read-frame}
@@ -31,9 +31,9 @@ use Rattle.ends.specs.States.{isSends, isClosed, isOpen}
 use Rattle.ends.specs.Lent.{Lent}
 use Rattle.ends.specs.declared.State.{State}
 use Rattle.ends.specs.declared.State.the-variants.{Open}
-use Rattle.lookup.specs.Lookup.{forSender, entryFor}
+use Rattle.lookup.specs.Lookup.{entryFor}
 use Rattle.lookup.proofs.Found.{Fitting, found-once}
-use Rattle.arriving.specs.Arriving.{ours, delivers, answered, blockRoom, entryVerdict, takenAnswer, takenAfter, entryAnswer, entryAfter, readAnswer, readAfter, arrivalAnswer, arrivalAfter}
+use Rattle.arriving.specs.Arriving.{ours, blockRoom, entryVerdict, takenAnswer, takenAfter, entryAnswer, entryAfter, readAnswer, readAfter, arrivalAnswer, arrivalAfter}
 use Rattle.good.specs.Good.{Lists, Good}
 use Rattle.good.specs.Steps.{Comes, fieldsFor, WrittenComes}
 use Rattle.good.proofs.Arrivals.{payload-size}
@@ -77,11 +77,11 @@ and-not false b h = refl
 -- what the entry must be for a frame of type q with payload p
 pub record May (x : Lent) (i : ℕ) (q : FrameType) (p : List ℕ) : Type 0 where
   pub up : isClosed (endOf (x .node) i .state) ≡ false
-  pub opened : delivers q ≡ true → endOf (x .node) i .state ≡ Open
-  pub short : delivers q ≡ true → length p ≤ endOf (x .node) i .entry .largest
+  pub opened : carries q ≡ true → endOf (x .node) i .state ≡ Open
+  pub short : carries q ≡ true → length p ≤ endOf (x .node) i .entry .largest
   pub acks : answered q ≡ true → waitingOf (x .node) < 32
   pub store : needIn (x .node) ≤ length (x .store)
-  pub block : delivers q ≡ true → blockRoom (endOf (x .node) i) ≤ length (x .out)
+  pub block : carries q ≡ true → blockRoom (endOf (x .node) i) ≤ length (x .out)
 
 module _ (t : List ℕ) (x : Lent) (l : Lists) (g : Good t (x .node) (x .book) l) (f : List ℕ) (i : ℕ) (h : Header) (reads : readOf f ≡ read.Frame h)
     (own : ours (x .node) f ≡ true) (known : i < countIn (x .node)) (fit : Fitting (loadEntry (x .node) i) (forSender (h .kind)) (h .source .0) (h .channel .0))
@@ -99,11 +99,11 @@ module _ (t : List ℕ) (x : Lent) (l : Lists) (g : Good t (x .node) (x .book) l
       rw (
         lt-leb (countIn (x .node)) i known,
         y .up,
-        and-not (delivers q) (not (isOpen (e .state))) (λ d. ap (λ (s : State). not (isOpen s)) (y .opened d)),
-        and-not (delivers q) (ltb (e .entry .largest) (h .length)) (λ d. le-ltb (e .entry .largest) (h .length) (let z = y .short d in omega (arith, payload-size f h reads .0))),
+        and-not (carries q) (not (isOpen (e .state))) (λ d. ap (λ (s : State). not (isOpen s)) (y .opened d)),
+        and-not (carries q) (ltb (e .entry .largest) (h .length)) (λ d. le-ltb (e .entry .largest) (h .length) (let z = y .short d in omega (arith, payload-size f h reads .0))),
         and-not (answered q) (leb 32 (waitingOf (x .node))) (λ d. lt-leb 32 (waitingOf (x .node)) (y .acks d)),
         le-ltb (length (x .store)) (needIn (x .node)) (y .store),
-        and-not (delivers q) (ltb (length (x .out)) (blockRoom e)) (λ d. le-ltb (length (x .out)) (blockRoom e) (y .block d)),
+        and-not (carries q) (ltb (length (x .out)) (blockRoom e)) (λ d. le-ltb (length (x .out)) (blockRoom e) (y .block d)),
       )
 
   header : headerOf f ≡ read.Frame h
@@ -127,10 +127,10 @@ module _ (x : Lent) (f : List ℕ) (i : ℕ) (q : FrameType) (s : ℕ) (p : List
   may-here : May x i q p → May x i (c .header .kind) (payloadOf f)
   may-here y = rw (c .type, c .payload) y
 
-  pub come-some : delivers q ≡ true → 1 ≤ length p
+  pub come-some : carries q ≡ true → 1 ≤ length p
   come-some d =
       subst (λ (w : List ℕ). 1 ≤ length w) (c .payload)
-      (payload-size f (c .header) (c .reads) .1 (subst (λ (k : FrameType). delivers k ≡ true) (sym (c .type)) d))
+      (payload-size f (c .header) (c .reads) .1 (subst (λ (k : FrameType). carries k ≡ true) (sym (c .type)) d))
 
   module _ (t : List ℕ) (l : Lists) (g : Good t (x .node) (x .book) l) (y : May x i q p) where
     pub come-answer : arrivalAnswer x f ≡ takenAnswer x i (endOf (x .node) i) q s p

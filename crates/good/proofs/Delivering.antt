@@ -26,13 +26,15 @@ use Rattle.window.proofs.Sizes.{size-pos}
 use Rattle.window.proofs.WindowLaw.{distance-back}
 use Rattle.ends.specs.Ends.{endOf}
 use Rattle.ends.specs.Heads.{countIn, needIn}
-use Rattle.ends.specs.States.{isSends, isNew}
+use Rattle.ends.specs.States.{isSends}
+use Rattle.ends.specs.Runs.{isNew}
 use Rattle.ends.specs.Lent.{Lent}
 use Rattle.ends.specs.Answers.{arrivedOf}
 use Rattle.ends.specs.declared.State.the-variants.{Open}
 use Rattle.ends.specs.declared.EndPoint.{EndPoint}
 use Rattle.slots.specs.Slots.{slotFor, cell, spot, past, lengthIn}
-use Rattle.blocks.specs.Blocks.{joinedUp, blockOf, payloadAt, payloads}
+use Rattle.blocks.specs.Blocks.{joinedUp, blockOf}
+use Rattle.blocks.specs.Payloads.{payloadAt, payloads}
 use Rattle.blocks.specs.Reading.{readBlock}
 use Rattle.blocks.proofs.Appending.{length-block}
 use Rattle.blocks.proofs.Reading.{read-written}
@@ -40,7 +42,8 @@ use Rattle.receiving.specs.Receiving.{acknowledged, withWindow, putStore, putBo
 use Rattle.receiving.proofs.Taking.{dataAnswer-new, dataAfter-new, dataAnswer-other, dataAfter-other}
 use Rattle.arriving.specs.Arriving.{blockRoom}
 use Rattle.good.specs.Good.{Lists, OpenReceiver, Stated, Good}
-use Rattle.good.specs.Calls.{Memory, Answer, lent, kept}
+use Rattle.good.specs.Calls.{Memory, lent, kept}
+use Rattle.machine.specs.Calls.{Answer}
 use Rattle.good.specs.Steps.{at, windowAt, storedAt, storedFrom, Told, Delivers, Holds, Repeats}
 use Rattle.good.proofs.Known.{stated-as}
 use Rattle.good.proofs.Framing.{entry-low}

@@ -29,7 +29,8 @@ use Rattle.ends.specs.States.{isSends}
 use Rattle.ends.specs.declared.State.the-variants.{Closed}
 use Rattle.ends.specs.declared.Run.{Run}
 use Rattle.ends.specs.declared.EndPoint.{EndPoint}
-use Rattle.lookup.specs.Lookup.{same, rowIn, channelDigit, remoteDigit}
+use Rattle.lookup.specs.Lookup.{rowIn, channelDigit, remoteDigit}
+use Rattle.lookup.specs.Fitting.{same}
 use Rattle.lookup.proofs.Rows.{row-ext, indexed-channel, indexed-remote, indexed-word, indexed-long}
 use Rattle.opening.specs.Setup.{firstRun, entered, tabled}
 

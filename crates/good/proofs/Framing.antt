@@ -34,7 +34,7 @@ use Rattle.slots.specs.Slots.{slotFor, cell, past, lengthIn, timerIn}
 use Rattle.table.proofs.Good.{good-head}
 use Rattle.good.specs.Good.{Lists, Lines, ownerOf, Ranged, mine, Share, Resends, Silent, Filled, Sending, Receiving, running, Anew, Stated, Entered, Tabled, Owed, Good}
 use Rattle.good.specs.Independence.{cellOwner}
-use Rattle.good.proofs.Members.{mine-append, mine-other, mine-apart, without-in}
+use Rattle.good.proofs.Members.{mine-append, mine-other, mine-apart, without-in, rest, rest-append, rest-own, rest-without}
 use Rattle.good.proofs.Lined.{added, less, added-here, added-there, added-in, append-lines, append-cells, unlink-lines, unlink-cells, set-lines}
 
 -- ---- the book: only entry i's cells and share alter
@@ -44,9 +44,11 @@ pub record Within (i : ℕ) (b b′ : List ℕ) (l l′ : Lists) : Type 0 where
   pub cells : (k : ℕ) → 4224 ≤ k → cellOwner k ≢ i → getD b′ k 0 ≡ getD b k 0
   pub shares : (j : ℕ) → j ≢ i → (q : ℕ) → q < 4 → mine j (l′ q) ≡ mine j (l q)
   pub known : (q : ℕ) → q < 4 → (x : ℕ) → List·Memᴰ x (l′ q) → List·Memᴰ x (l q) ⊎ ((ownerOf x ≡ i) × Ranged q x)
+  -- what is not entry i's keeps its order
+  pub order : (q : ℕ) → q < 4 → rest i (l′ q) ≡ rest i (l q)
 
 pub within-same : (i : ℕ) (b : List ℕ) (l : Lists) → Lines b l → Within i b b l l
-within-same i b l L = record { lines = L; cells = λ k h n. refl; shares = λ j n q h. refl; known = λ q h x m. inl m }
+within-same i b l L = record { lines = L; cells = λ k h n. refl; shares = λ j n q h. refl; known = λ q h x m. inl m; order = λ q h. refl }
 
 pub within-then : (i : ℕ) (a b c : List ℕ) (k l m : Lists) → Within i a b k l → Within i b c l m → Within i a c k m
 within-then i a b c k l m v w =
@@ -55,6 +57,7 @@ within-then i a b c k l m v w =
       cells = λ x h n. w .cells x h n ∙ v .cells x h n;
       shares = λ j n q h. w .shares j n q h ∙ v .shares j n q h;
       known = λ q h x e. sides q x (v .known q h x) (w .known q h x e);
+      order = λ q h. w .order q h ∙ v .order q h;
     }
   where
     sides : (q x : ℕ) → (List·Memᴰ x (l q) → List·Memᴰ x (k q) ⊎ ((ownerOf x ≡ i) × Ranged q x)) → List·Memᴰ x (l q) ⊎ ((ownerOf x ≡ i) × Ranged q x)
@@ -71,8 +74,15 @@ within-append i b l L q x hq low hx none o g =
       cells = λ k h n. append-cells b l L q x hq low hx none k h;
       shares = λ j n r hr. share j n r (ℕ-discrete r q);
       known = λ r hr y m. sides r y (added-in l q x r y m);
+      order = λ r hr. stays r (ℕ-discrete r q);
     }
   where
+    stays : (r : ℕ) → Dec (r ≡ q) → rest i (added l q x r) ≡ rest i (l r)
+    stays r (yes e) =
+        ap (λ (k : ℕ). rest i (added l q x k)) e ∙ ap (rest i) (added-here l q x) ∙ rest-append i (l q) (x ∷ [])
+        ∙ ap (λ (ys : List ℕ). rest i (l q) ++ ys) (rest-own i x o) ∙ append-nil (rest i (l q)) ∙ ap (λ (k : ℕ). rest i (l k)) (sym e)
+    stays r (no d) = ap (rest i) (added-there l q x r d)
+
     share : (j : ℕ) → j ≢ i → (r : ℕ) → Dec (r ≡ q) → mine j (added l q x r) ≡ mine j (l r)
     share j n r (yes e) =
         ap (λ (k : ℕ). mine j (added l q x k)) e ∙ ap (mine j) (added-here l q x) ∙ mine-append j (l q) (x ∷ [])
@@ -92,6 +102,7 @@ within-unlink i b l L q x hq m o =
       cells = λ k h n. unlink-cells b l L q x hq m k h;
       shares = λ j n r hr. mine-apart j x (l r) (λ e. n (sym e ∙ o));
       known = λ r hr y k. inl (without-in x y (l r) k .0);
+      order = λ r hr. rest-without i x (l r) o;
     }
 
 -- a store in a cell of entry i's
@@ -102,6 +113,7 @@ within-set i b l L k v h o =
       cells = λ j g n. getD-set-other b k j v 0 (λ e. n (ap cellOwner e ∙ o));
       shares = λ j n q g. refl;
       known = λ q g x m. inl m;
+      order = λ q g. refl;
     }
 
 -- ---- the node: only entry i's end point alters, and perhaps the waiting acknowledgements

@@ -13,7 +13,8 @@ use Rattle.order.specs.Order.{acksIn}
 use Rattle.window.specs.Windows.{held}
 use Rattle.ends.specs.Ends.{endOf}
 use Rattle.ends.specs.Heads.{countIn}
-use Rattle.ends.specs.States.{isSends, urgentGone}
+use Rattle.ends.specs.States.{isSends}
+use Rattle.ends.specs.Runs.{urgentGone}
 use Rattle.ends.specs.Lent.{Lent}
 use Rattle.ends.specs.declared.State.the-variants.{Enabled, Open}
 use Rattle.ends.specs.declared.answers.HandedOut.the-variants.{Length, Refused}

@@ -11,7 +11,8 @@ use Rattle.ends.specs.Lent.{Lent}
 use Rattle.waiting.specs.Acks.{ackOf}
 use Rattle.handing.specs.Handing.{handAnswer, handAfter}
 use Rattle.good.specs.Good.{Lists, Good}
-use Rattle.good.specs.Calls.{Memory, Call, opens, closes, counts, sends, urges, arrives, hands-out, ticks, lent, bare, after}
+use Rattle.good.specs.Calls.{Memory, lent, bare, after}
+use Rattle.machine.specs.Calls.{Call, opens, closes, counts, sends, urges, arrives, hands-out, ticks}
 use Rattle.good.specs.Independence.{Aside, On, Alone, Independent}
 use Rattle.good.proofs.Framing.{Within, Apart}
 use Rattle.good.proofs.Turns.{Kept}

@@ -18,7 +18,8 @@ use Rattle.table.proofs.Good.{good-head}
 use Rattle.ends.specs.Ends.{loadEntry}
 use Rattle.ends.specs.Heads.{countIn}
 use Rattle.ends.specs.States.{isSends}
-use Rattle.lookup.specs.Lookup.{same, rowIn, channelDigit, remoteDigit, Indexed}
+use Rattle.lookup.specs.Lookup.{rowIn, channelDigit, remoteDigit, Indexed}
+use Rattle.lookup.specs.Fitting.{same}
 use Rattle.opening.specs.Setup.{tabled}
 use Rattle.good.proofs.Entering.{entered-channel, entered-remote, tabled-long}
 

@@ -39,3 +39,5 @@ pub mod Stepping
 pub mod Stored
 pub mod TickSteps
 pub mod TickTimers
+pub mod Stores
+pub mod Payloads

@@ -4,6 +4,7 @@ use mathlib.Core.Path.{_≡_, refl, sym, ap, _∙_}
 use mathlib.Core.Logic.{_≢_, _⊎_, inl, inr}
 use mathlib.Core.Bool.{Bool, true, false}
 use mathlib.Core.List.{List, [], _∷_, _++_, List·Memᴰ, List·Memᴰ·head, List·Memᴰ·tail, List·Memᴰ·cases-cons, List·Memᴰ·not-nil, Memᴰ·append-right}
+use native.Mathlib.Omega.{arith}
 use lib.Dec.{eqb}
 use borrow.Author.Tests.{eq-eqb, ne-eqb, eqb-true, eqb-false}
 use Rattle.units.specs.Refusals.{pick}
@@ -163,3 +164,54 @@ mine-without i x (y ∷ ys) = sides (mine-without i x ys) (eqb y x) (eqb (ownerO
 
 pub mine-apart : (i x : ℕ) (xs : List ℕ) → ownerOf x ≢ i → mine i (without x xs) ≡ mine i xs
 mine-apart i x xs n = mine-without i x xs ∙ without-out x (mine i xs) (mem-out x (mine i xs) (λ m. n (mine-in i x xs m .1)))
+
+-- ---- what is not entry i's, in its order
+
+abbrev pub rest : ℕ → List ℕ → List ℕ
+rest i [] = []
+rest i (x ∷ xs) = pick (eqb (ownerOf x) i) (rest i xs) (x ∷ rest i xs)
+
+pub rest-append : (i : ℕ) (xs ys : List ℕ) → rest i (xs ++ ys) ≡ rest i xs ++ rest i ys
+rest-append i [] ys = refl
+rest-append i (x ∷ xs) ys = sides (rest-append i xs ys) (eqb (ownerOf x) i)
+  where
+    sides : rest i (xs ++ ys) ≡ rest i xs ++ rest i ys → (t : Bool) → pick t (rest i (xs ++ ys)) (x ∷ rest i (xs ++ ys)) ≡ pick t (rest i xs) (x ∷ rest i xs) ++ rest i ys
+    sides below true = below
+    sides below false = ap (λ (l : List ℕ). x ∷ l) below
+
+pub rest-own : (i x : ℕ) → ownerOf x ≡ i → rest i (x ∷ []) ≡ []
+rest-own i x o = rw (eq-eqb (ownerOf x) i o)
+
+pub rest-without : (i x : ℕ) (xs : List ℕ) → ownerOf x ≡ i → rest i (without x xs) ≡ rest i xs
+rest-without i x [] o = refl
+rest-without i x (y ∷ ys) o = sides (rest-without i x ys o) (eqb y x) refl
+  where
+    sides : rest i (without x ys) ≡ rest i ys → (t : Bool) → eqb y x ≡ t → rest i (pick t (without x ys) (y ∷ without x ys)) ≡ pick (eqb (ownerOf y) i) (rest i ys) (y ∷ rest i ys)
+    sides below true e = rw (eq-eqb (ownerOf y) i (ap ownerOf (eqb-true y x e) ∙ o)) below
+    sides below false e = rw below
+
+-- where nothing is entry i's that is all
+pub rest-all : (i : ℕ) (xs : List ℕ) → mine i xs ≡ [] → rest i xs ≡ xs
+rest-all i [] h = refl
+rest-all i (x ∷ xs) h = sides (rest-all i xs) (eqb (ownerOf x) i) h
+  where
+    sides : (mine i xs ≡ [] → rest i xs ≡ xs) → (t : Bool) → pick t (x ∷ mine i xs) (mine i xs) ≡ [] → pick t (rest i xs) (x ∷ rest i xs) ≡ x ∷ xs
+    sides below true e = absurd (let z : _≡_ {A = ℕ} 0 1 = cc in omega arith)
+    sides below false e = ap (λ (l : List ℕ). x ∷ l) (below e)
+
+pub rest-in : (i x : ℕ) (xs : List ℕ) → List·Memᴰ x (rest i xs) → List·Memᴰ x xs × (ownerOf x ≢ i)
+rest-in i x [] m = absurd (List·Memᴰ·not-nil m)
+rest-in i x (y ∷ ys) m = sides (rest-in i x ys) (eqb (ownerOf y) i) refl m
+  where
+    deeper : List·Memᴰ x ys × (ownerOf x ≢ i) → List·Memᴰ x (y ∷ ys) × (ownerOf x ≢ i)
+    deeper p = (List·Memᴰ·tail (p .0), p .1)
+
+    here : (List·Memᴰ x (rest i ys) → List·Memᴰ x ys × (ownerOf x ≢ i)) → eqb (ownerOf y) i ≡ false → (x ≡ y) ⊎ List·Memᴰ x (rest i ys)
+        → List·Memᴰ x (y ∷ ys) × (ownerOf x ≢ i)
+    here below e (inl z) = (List·Memᴰ·head z, λ o. eqb-false (ownerOf y) i e (ap ownerOf (sym z) ∙ o))
+    here below e (inr k) = deeper (below k)
+
+    sides : (List·Memᴰ x (rest i ys) → List·Memᴰ x ys × (ownerOf x ≢ i)) → (t : Bool) → eqb (ownerOf y) i ≡ t → List·Memᴰ x (pick t (rest i ys) (y ∷ rest i ys))
+        → List·Memᴰ x (y ∷ ys) × (ownerOf x ≢ i)
+    sides below true e k = deeper (below k)
+    sides below false e k = here below e (List·Memᴰ·cases-cons k)

@@ -20,7 +20,8 @@ use Rattle.lookup.proofs.Rows.{row-zero}
 use Rattle.ticking.specs.Ticking.{tickAfter, tickBoth, recoverAll, tickEntries}
 use Rattle.handing.specs.Handing.{handAnswer, handAfter, nextOut, handedOut, outNode, outBook}
 use Rattle.handing.specs.declared.Next.the-variants as next
-use Rattle.good.specs.Calls.{Memory, Call, opens, closes, counts, sends, urges, arrives, hands-out, ticks, lent, bare, kept, keptBare, after}
+use Rattle.good.specs.Calls.{Memory, lent, bare, kept, keptBare, after}
+use Rattle.machine.specs.Calls.{Call, opens, closes, counts, sends, urges, arrives, hands-out, ticks}
 use Rattle.good.specs.NewNode.{newNode, NewStays}
 use Rattle.good.proofs.OpenKeeps.{open-refused}
 use Rattle.good.proofs.CloseKeeps.{close-refused}

@@ -16,7 +16,9 @@ use Rattle.ends.specs.States.{isSends}
 use Rattle.ends.specs.declared.State.{State}
 use Rattle.ends.specs.declared.State.the-variants.{Closed, Enabled, Open, Failing}
 use Rattle.ends.specs.declared.EndPoint.{EndPoint}
-use Rattle.lookup.specs.Lookup.{forSender, fits, firstFrom, entryFor}
+use Rattle.lookup.specs.Lookup.{firstFrom, entryFor}
+use Rattle.frame.specs.Types.{forSender}
+use Rattle.lookup.specs.Fitting.{fits}
 use Rattle.lookup.proofs.Found.{first-fit}
 use Rattle.good.specs.Good.{Lists, Stated, Good}
 use Rattle.good.specs.Corners.{NoCorner, NoCorners}

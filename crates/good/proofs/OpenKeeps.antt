@@ -17,7 +17,8 @@ use Rattle.waiting.specs.Queues.{appended}
 use Rattle.window.specs.Windows.{Good as GoodWindow}
 use Rattle.ends.specs.Ends.{endOf, saved}
 use Rattle.ends.specs.Heads.{countIn}
-use Rattle.ends.specs.States.{isSends, isClosed, anew}
+use Rattle.ends.specs.States.{isSends, isClosed}
+use Rattle.ends.specs.Runs.{anew}
 use Rattle.ends.specs.Lent.{Lent}
 use Rattle.ends.specs.declared.State.the-variants.{Closed, Enabled}
 use Rattle.ends.specs.declared.EndPoint.{EndPoint}

@@ -23,13 +23,14 @@ use Rattle.sending.specs.Sending.{sendAnswer, sendAfter, urgentAnswer, urgentAf
 use Rattle.window.specs.Windows.{acceptOf}
 use Rattle.frame.specs.declared.FrameType.{FrameType}
 use Rattle.frame.specs.declared.FrameType.the-variants as type
-use Rattle.ends.specs.States.{isNew}
+use Rattle.ends.specs.Runs.{isNew}
 use Rattle.ends.specs.declared.EndPoint.{EndPoint}
 use Rattle.receiving.specs.Receiving.{resetAfter, taken, repeated, dataAfter, urgentAfter as receivedUrgent}
 use Rattle.units.specs.Refusals.{pick}
 use Rattle.arriving.specs.Arriving.{takenAfter}
 use Rattle.good.specs.Good.{Lists, Good}
-use Rattle.good.specs.Calls.{Memory, Call, opens, closes, counts, sends, urges, arrives, hands-out, ticks, lent, bare, after, Fed, SetUp, at-setup, by-call}
+use Rattle.good.specs.Calls.{Memory, lent, bare, after, SetUp, at-setup, by-call}
+use Rattle.machine.specs.Calls.{Call, opens, closes, counts, sends, urges, arrives, hands-out, ticks, Fed}
 use Rattle.good.specs.Reaching.{ReachIsGood}
 use Rattle.good.proofs.SetupGood.{setup-good}
 use Rattle.good.proofs.OpenKeeps.{open-keeps, open-refused}

@@ -25,7 +25,8 @@ use Rattle.window.proofs.Resetting.{new-held, reset-good}
 use Rattle.window.proofs.WindowLaw.{distance-back}
 use Rattle.ends.specs.Ends.{endOf, saved}
 use Rattle.ends.specs.Heads.{countIn}
-use Rattle.ends.specs.States.{isSends, isNew, anew}
+use Rattle.ends.specs.States.{isSends}
+use Rattle.ends.specs.Runs.{isNew, anew}
 use Rattle.ends.specs.Lent.{Lent}
 use Rattle.ends.specs.declared.State.the-variants.{Open}
 use Rattle.ends.specs.declared.Run.{Run}

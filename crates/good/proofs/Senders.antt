@@ -21,7 +21,8 @@ use Rattle.table.specs.Layout.{countOf}
 use Rattle.table.proofs.Good.{GoodEntry, good-entry}
 use Rattle.ends.specs.Ends.{word, loadEntry, endOf}
 use Rattle.ends.specs.Heads.{countIn}
-use Rattle.ends.specs.States.{isSends, anew, urgentGone}
+use Rattle.ends.specs.States.{isSends}
+use Rattle.ends.specs.Runs.{anew, urgentGone}
 use Rattle.ends.specs.declared.State.{State}
 use Rattle.ends.specs.declared.State.the-variants.{Enabled}
 use Rattle.ends.specs.declared.Run.{Run}

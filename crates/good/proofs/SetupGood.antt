@@ -190,3 +190,9 @@ pub setup-good : (x : Lent) (t : List ℕ) → length (x .node) ≡ nodeWords �
     → Good t (setupAfter x t Passed .node) (setupAfter x t Passed .book) (λ q. [])
 unfolding setupAfter
 setup-good x t n b bytes h = rw n (set-up t (x .book) (passed-table x t h) bytes b)
+
+-- and every entry is Closed, with no acknowledgement waiting
+pub setup-ends : (x : Lent) (t : List ℕ) → length (x .node) ≡ nodeWords → ((k : ℕ) → getD t k 0 < 256) → setupAnswer x t ≡ Passed
+    → ((i : ℕ) → i < countOf t → endOf (setupAfter x t Passed .node) i ≡ closedAt t i) × (acksIn (setupAfter x t Passed .node) ≡ [])
+unfolding setupAfter
+setup-ends x t n bytes h = rw n (node-end t (passed-table x t h) bytes, acks-none t (passed-table x t h) bytes)

@@ -18,7 +18,8 @@ use Rattle.frame.specs.declared.FrameType.{FrameType}
 use Rattle.frame.specs.declared.FrameType.the-variants as type
 use Rattle.ends.specs.Ends.{endOf}
 use Rattle.ends.specs.Heads.{countIn, needIn}
-use Rattle.ends.specs.States.{isSends, isClosed, anew}
+use Rattle.ends.specs.States.{isSends, isClosed}
+use Rattle.ends.specs.Runs.{anew}
 use Rattle.ends.specs.Lent.{Lent}
 use Rattle.ends.specs.Answers.{answerOf, arrivedOf}
 use Rattle.ends.specs.declared.State.{State}
@@ -34,7 +35,8 @@ use Rattle.sending.specs.Sending.{nextNumber, sentRun, sendAnswer, sendAfter, u
 use Rattle.receiving.specs.Receiving.{acknowledged, resetAnswer, resetAfter, resetNode, urgentAnswer as receivedAnswer, urgentAfter as receivedAfter}
 use Rattle.arriving.specs.Arriving.{blockRoom, takenAnswer, takenAfter}
 use Rattle.good.specs.Good.{Lists, mine, ids, idAt, Stated, Good}
-use Rattle.good.specs.Calls.{Memory, Answer, sends, arrives, lent, bare, kept, answer, after}
+use Rattle.good.specs.Calls.{Memory, lent, bare, kept, answer, after}
+use Rattle.machine.specs.Calls.{Answer, sends, arrives}
 use Rattle.good.specs.Steps.{at, windowAt, storedAt, MayUrge, CloseCloses, CountsTold, UrgentTakes, UrgentDelivers, Comes, Ready, Delivers, Holds, Repeats, Opens, Runs, Confirms, Begins, MaySend, Takes, StartDelivers, LaterHeld, OtherAcked, AckOpens, AckConfirms, ResetBegins, SendTakes, OpenEnables, WaitingGoesOut, TimersFall, ExpiredResends, ExpiredFails, ResetTimerFalls}
 use Rattle.good.proofs.Known.{stated-as, silent-nil}
 use Rattle.good.proofs.Offsets.{ids-more}

@@ -20,7 +20,8 @@ use Rattle.ends.specs.Ends.{loadRun, endOf}
 use Rattle.ends.specs.Heads.{countIn, needIn}
 use Rattle.ends.specs.States.{isSends}
 use Rattle.slots.specs.Slots.{slotFor, cell, spot, past, lengthIn}
-use Rattle.blocks.specs.Blocks.{joinedUp, blockOf, payloadAt, payloads}
+use Rattle.blocks.specs.Blocks.{joinedUp, blockOf}
+use Rattle.blocks.specs.Payloads.{payloadAt, payloads}
 use Rattle.blocks.proofs.Appending.{joinedUp-more, length-block, length-payloads}
 use Rattle.good.specs.Good.{Lists, Good}
 use Rattle.good.proofs.Framing.{slot-lt}

@@ -15,7 +15,8 @@ use Rattle.kept.proofs.Kept.{StateFits, RunFits}
 use Rattle.window.specs.Windows.{Good as GoodWindow}
 use Rattle.ends.specs.Ends.{endOf, saved}
 use Rattle.ends.specs.Heads.{countIn}
-use Rattle.ends.specs.States.{isSends, urgentGone}
+use Rattle.ends.specs.States.{isSends}
+use Rattle.ends.specs.Runs.{urgentGone}
 use Rattle.ends.specs.Lent.{Lent}
 use Rattle.ends.specs.declared.State.{State}
 use Rattle.ends.specs.declared.State.the-variants.{Closed, Enabled, Open, Failing}

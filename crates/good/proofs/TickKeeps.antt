@@ -19,14 +19,16 @@ use Rattle.kept.proofs.Kept.{RunFits}
 use Rattle.table.specs.declared.Entry.{Entry}
 use Rattle.ends.specs.Ends.{endOf}
 use Rattle.ends.specs.Heads.{countIn}
-use Rattle.ends.specs.States.{isSends, anew, urgentGone}
+use Rattle.ends.specs.States.{isSends}
+use Rattle.ends.specs.Runs.{anew, urgentGone}
 use Rattle.ends.specs.Lent.{Lent}
 use Rattle.ends.specs.declared.State.{State}
 use Rattle.ends.specs.declared.State.the-variants.{Closed, Enabled, Open, Failing}
 use Rattle.ends.specs.declared.Run.{Run}
 use Rattle.ends.specs.declared.EndPoint.{EndPoint}
 use Rattle.slots.specs.Slots.{lengthIn}
-use Rattle.ticking.specs.Ticking.{tickEntry, tickEntries, Recovered, again, isOver, recover, recoverAll, entries, tickBoth, tickAfter, tickAnswer}
+use Rattle.ticking.specs.Ticking.{tickEntry, tickEntries, Recovered, again, recover, recoverAll, entries, tickBoth, tickAfter, tickAnswer}
+use Rattle.ends.specs.States.{isOver}
 use Rattle.ticking.proofs.Apart.{after-head}
 use Rattle.good.specs.Good.{Lists, Silent, Stated, Entered, Good}
 use Rattle.good.proofs.Lined.{added}

@@ -16,13 +16,15 @@ use Rattle.kept.proofs.Kept.{StateFits}
 use Rattle.window.specs.Windows.{held, Good as GoodWindow}
 use Rattle.ends.specs.Ends.{endOf, saved}
 use Rattle.ends.specs.Heads.{countIn}
-use Rattle.ends.specs.States.{isSends, anew, urgentGone}
+use Rattle.ends.specs.States.{isSends}
+use Rattle.ends.specs.Runs.{anew, urgentGone}
 use Rattle.ends.specs.Lent.{Lent}
 use Rattle.ends.specs.declared.State.{State}
 use Rattle.ends.specs.declared.State.the-variants.{Closed, Enabled, Open, Failing}
 use Rattle.ends.specs.declared.EndPoint.{EndPoint}
 use Rattle.slots.specs.Slots.{cell, past, timerIn, retriesIn}
-use Rattle.ticking.specs.Ticking.{ticked, tickState, tickEntry, tickEntries, Recovered, again, isOver, recover, recoverAll, entries, tickBoth, tickAfter}
+use Rattle.ticking.specs.Ticking.{ticked, tickState, tickEntry, tickEntries, Recovered, again, recover, recoverAll, entries, tickBoth, tickAfter}
+use Rattle.ends.specs.States.{isOver}
 use Rattle.ticking.proofs.Apart.{timed, after-table, tick-finds, recover-finds, after-own}
 use Rattle.good.specs.Good.{Lists, mine, idAt, Silent, OpenSender, Stated, Good}
 use Rattle.good.specs.Independence.{cellOwner}

@@ -22,7 +22,8 @@ use Rattle.window.specs.Windows.{Good as GoodWindow}
 use Rattle.window.proofs.Resetting.{reset-good}
 use Rattle.ends.specs.Ends.{stateOf, loadRun, endOf, saved, word}
 use Rattle.ends.specs.Heads.{countIn}
-use Rattle.ends.specs.States.{isSends, anew, urgentGone}
+use Rattle.ends.specs.States.{isSends}
+use Rattle.ends.specs.Runs.{anew, urgentGone}
 use Rattle.ends.specs.Lent.{Lent}
 use Rattle.ends.specs.declared.State.{State}
 use Rattle.ends.specs.declared.State.the-variants.{Closed, Enabled, Open, Failing}

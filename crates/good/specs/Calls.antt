@@ -1,9 +1,9 @@
 -- A node with its store, and its public calls as one: what each answers, in the paper's numbers, and what it leaves, as the contracts of
 -- crates/node have it; and the nodes that a setup and calls after it can give. Cited by what is proved of such nodes. Assumes nothing.
-use Prim.Native.Nat.{ℕ, _<_}
+use Prim.Native.Nat.{ℕ}
 use mathlib.Core.Path.{_≡_}
 use mathlib.Core.List.{List, [], _∷_}
-use lib.ListN.{length, getD}
+use lib.ListN.{length}
 use Rattle.units.specs.declared.refusals.Verdict.the-variants.{Passed}
 use Rattle.memory.specs.Layout.{nodeWords}
 use Rattle.ends.specs.Lent.{Lent}
@@ -15,6 +15,7 @@ use Rattle.sending.specs.Sending.{sendAnswer, sendAfter, urgentAnswer, urgentAf
 use Rattle.arriving.specs.Arriving.{arrivalAnswer, arrivalAfter}
 use Rattle.handing.specs.Handing.{handAnswer, handAfter}
 use Rattle.ticking.specs.Ticking.{tickAnswer, tickAfter}
+use Rattle.machine.specs.Calls.{Call, opens, closes, counts, sends, urges, arrives, hands-out, ticks, Answer, Bytes, Fed}
 
 -- ---- the calls
 
@@ -23,17 +24,6 @@ pub record Memory : Type 0 where
   pub node : List ℕ
   pub book : List ℕ
   pub store : List ℕ
-
--- a call with what it is given; an arrival also with its block, handing out with its frame buffer
-pub data Call : Type 0 where
-  opens : (index : ℕ) → Call
-  closes : (index : ℕ) → Call
-  counts : (index : ℕ) → Call
-  sends : (index : ℕ) (payload : List ℕ) → Call
-  urges : (index : ℕ) (payload : List ℕ) → Call
-  arrives : (block frame : List ℕ) → Call
-  hands-out : (buffer : List ℕ) → Call
-  ticks : Call
 
 -- what is lent to it: of some calls the store too, with a block or a frame buffer
 abbrev pub lent : Memory → List ℕ → Lent
@@ -48,11 +38,6 @@ kept x = record { node = x .node; book = x .book; store = x .store }
 
 abbrev pub keptBare : Memory → Lent → Memory
 keptBare n x = record { node = x .node; book = x .book; store = n .store }
-
--- what comes back: the paper's numbers, and what block or frame buffer hold then
-pub record Answer : Type 0 where
-  pub numbers : List ℕ
-  pub out : List ℕ
 
 unfoldable pub answer : Memory → Call → Answer
 answer n (opens i) = record { numbers = answerOf (openAnswer (bare n) i); out = [] }
@@ -74,20 +59,6 @@ after n (urges i p) = kept (urgentAfter (lent n []) i p (urgentAnswer (lent n []
 after n (arrives block f) = kept (arrivalAfter (lent n block) f)
 after n (hands-out buffer) = kept (handAfter (lent n buffer) (handAnswer (lent n buffer)))
 after n ticks = keptBare n (tickAfter (bare n))
-
--- a frame that arrives is bytes
-abbrev pub Bytes : List ℕ → Type 0
-Bytes l = (k : ℕ) → getD l k 0 < 256
-
-abbrev pub Fed : Call → Type 0
-Fed (opens i) = Unit {0}
-Fed (closes i) = Unit {0}
-Fed (counts i) = Unit {0}
-Fed (sends i p) = Unit {0}
-Fed (urges i p) = Unit {0}
-Fed (arrives block f) = Bytes f
-Fed (hands-out buffer) = Unit {0}
-Fed ticks = Unit {0}
 
 -- ---- what setup and calls can give
 

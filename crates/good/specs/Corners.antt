@@ -14,7 +14,9 @@ use Rattle.table.specs.Areas.{slotsOf}
 use Rattle.ends.specs.Ends.{loadEntry, endOf}
 use Rattle.ends.specs.Heads.{countIn, needIn}
 use Rattle.ends.specs.States.{isSends}
-use Rattle.lookup.specs.Lookup.{forSender, fits, firstFrom, entryFor}
+use Rattle.lookup.specs.Lookup.{firstFrom, entryFor}
+use Rattle.frame.specs.Types.{forSender}
+use Rattle.lookup.specs.Fitting.{fits}
 use Rattle.slots.specs.Slots.{cell, spot}
 use Rattle.good.specs.Good.{Lists, Good}
 

@@ -7,7 +7,8 @@ use mathlib.Core.List.{List}
 use lib.ListN.{getD}
 use Rattle.ends.specs.Ends.{endOf}
 use Rattle.good.specs.Good.{Lists, Good, mine}
-use Rattle.good.specs.Calls.{Memory, Call, opens, closes, counts, sends, urges, arrives, hands-out, ticks, after, Fed}
+use Rattle.good.specs.Calls.{Memory, after}
+use Rattle.machine.specs.Calls.{Call, opens, closes, counts, sends, urges, arrives, hands-out, ticks, Fed}
 
 -- whose a word of the book beyond the links is: lengths, timers and retries lie by entry
 abbrev pub cellOwner : ℕ → ℕ

@@ -4,7 +4,8 @@ use mathlib.Core.Path.{_≡_}
 use mathlib.Core.List.{List}
 use lib.ListN.{replicate}
 use Rattle.memory.specs.Layout.{nodeWords}
-use Rattle.good.specs.Calls.{Memory, Call, after}
+use Rattle.good.specs.Calls.{Memory, after}
+use Rattle.machine.specs.Calls.{Call}
 
 abbrev pub newNode : List ℕ → Memory
 newNode store = record { node = replicate nodeWords 0; book = replicate 10368 0; store = store }

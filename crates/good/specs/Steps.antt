@@ -15,7 +15,7 @@ use Rattle.window.specs.Windows.{offsetOf, insideOf, held, heldCount, newOf}
 use Rattle.window.specs.declared.Window.{Window}
 use Rattle.frame.specs.Layout.{payloadOf, frameBytes}
 use Rattle.frame.specs.Reading.{readOf}
-use Rattle.frame.specs.Types.{typeNumber, suits, seqWrites}
+use Rattle.frame.specs.Types.{typeNumber, suits, seqWrites, forSender}
 use Rattle.frame.specs.declared.Fields.{Fields}
 use Rattle.frame.specs.declared.Header.{Header}
 use Rattle.frame.specs.declared.Read.the-variants as read
@@ -28,13 +28,14 @@ use Rattle.ends.specs.declared.EndPoint.{EndPoint}
 use Rattle.ends.specs.declared.State.{State}
 use Rattle.ends.specs.declared.State.the-variants.{Closed, Enabled, Open, Failing}
 use Rattle.slots.specs.Slots.{cell, spot, past, timerIn, retriesIn}
-use Rattle.blocks.specs.Blocks.{blockOf, payloadAt}
+use Rattle.blocks.specs.Blocks.{blockOf}
+use Rattle.blocks.specs.Payloads.{payloadAt}
 use Rattle.blocks.specs.Reading.{readBlock}
-use Rattle.lookup.specs.Lookup.{forSender}
 use Rattle.arriving.specs.Arriving.{ours, blockRoom}
 use Rattle.handing.specs.Handing.{nextOut, frameOut}
 use Rattle.good.specs.Good.{Lists, Good, mine, idAt}
-use Rattle.good.specs.Calls.{Memory, opens, closes, counts, sends, urges, arrives, hands-out, ticks, lent, Answer, answer, after}
+use Rattle.good.specs.Calls.{Memory, lent, answer, after}
+use Rattle.machine.specs.Calls.{opens, closes, counts, sends, urges, arrives, hands-out, ticks, Answer}
 
 -- entry i of a node, and its window
 abbrev pub at : Memory → ℕ → EndPoint

@@ -20,7 +20,7 @@ use Rattle.frame.specs.declared.FrameType.the-variants as type
 use Rattle.frame.specs.declared.Fields.{Fields}
 use Rattle.ends.specs.Ends.{endOf, saved}
 use Rattle.ends.specs.Heads.{ownIn, protocolIn, needIn}
-use Rattle.ends.specs.States.{urgentGone}
+use Rattle.ends.specs.Runs.{urgentGone}
 use Rattle.ends.specs.Lent.{Lent}
 use Rattle.ends.specs.declared.EndPoint.{EndPoint}
 use Rattle.ends.specs.declared.State.the-variants.{Enabled}

@@ -13,7 +13,9 @@ use Rattle.table.proofs.Every.{both}
 use Rattle.ends.specs.Ends.{loadEntry}
 use Rattle.ends.specs.Heads.{countIn}
 use Rattle.ends.specs.States.{isSends}
-use Rattle.lookup.specs.Lookup.{forSender, same, fits, Indexed, listed, firstFrom, entryFor}
+use Rattle.lookup.specs.Lookup.{Indexed, listed, firstFrom, entryFor}
+use Rattle.frame.specs.Types.{forSender}
+use Rattle.lookup.specs.Fitting.{same, fits}
 use Rattle.lookup.proofs.First.{first-holds, first-is, first-ext}
 
 -- ---- an entry that fits

@@ -17,7 +17,8 @@ use Rattle.window.specs.Marks.{bit}
 use Rattle.window.proofs.Bits.{bit-or, bit-pow}
 use Rattle.table.specs.declared.Entry.{Entry}
 use Rattle.ends.specs.States.{isSends}
-use Rattle.lookup.specs.Lookup.{same, rowIn, channelDigit, remoteDigit, marked, indexed}
+use Rattle.lookup.specs.Lookup.{rowIn, channelDigit, remoteDigit, marked, indexed}
+use Rattle.lookup.specs.Fitting.{same}
 
 -- ---- one mark
 

@@ -10,29 +10,13 @@ use lib.Dec.{eqb, ltb}
 use Rattle.units.specs.Refusals.{pick}
 use Rattle.memory.specs.Layout.{rowAt}
 use Rattle.window.specs.Marks.{bit}
+use Rattle.frame.specs.Types.{forSender}
 use Rattle.frame.specs.declared.FrameType.{FrameType}
-use Rattle.frame.specs.declared.FrameType.the-variants as type
 use Rattle.table.specs.declared.Entry.{Entry}
 use Rattle.ends.specs.Ends.{loadEntry}
 use Rattle.ends.specs.Heads.{countIn}
 use Rattle.ends.specs.States.{isSends}
-
--- ---- an entry that fits
-
--- acknowledgements are for senders, all else for receivers
-abbrev pub forSender : FrameType → Bool
-forSender type.Data = false
-forSender type.Acknowledge = true
-forSender type.Reset = false
-forSender type.Urgent = false
-
-abbrev pub same : Bool → Bool → Bool
-same true b = b
-same false b = not b
-
--- an entry fits a kind, a source and a channel
-unfoldable pub fits : Entry → Bool → ℕ → ℕ → Bool
-fits e sends source channel = eqb (e .channel .0) channel && (eqb (e .remote .0) source && same sends (isSends (e .kind)))
+use Rattle.lookup.specs.Fitting.{same}
 
 -- ---- the index
 

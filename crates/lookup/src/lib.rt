@@ -13,7 +13,8 @@ ghost use mathlib.Core.Path.{_≡_};
 ghost use Prim.Native.Nat.{_<_};
 ghost use Rattle.window.specs.Marks.{bit};
 ghost use Rattle.ends.specs.States.{isSends};
-ghost use Rattle.lookup.specs.Lookup.{forSender, rowIn, channelDigit, marked, indexed, firstFrom, entryFor};
+ghost use Rattle.lookup.specs.Lookup.{rowIn, channelDigit, marked, indexed, firstFrom, entryFor};
+ghost use Rattle.frame.specs.Types.{forSender};
 
 // Whether frames of a type are for senders.
 fn for_sender(t: FrameType) -> bool

@@ -13,7 +13,8 @@ use Rattle.waiting.specs.Queues.{appended, unlinked}
 use Rattle.waiting.specs.Acks.{dropped}
 use Rattle.ends.specs.Ends.{endOf, saved}
 use Rattle.ends.specs.Heads.{countIn}
-use Rattle.ends.specs.States.{isSends, isClosed, anew}
+use Rattle.ends.specs.States.{isSends, isClosed}
+use Rattle.ends.specs.Runs.{anew}
 use Rattle.ends.specs.Lent.{Lent}
 use Rattle.ends.specs.declared.EndPoint.{EndPoint}
 use Rattle.ends.specs.declared.State.{State}

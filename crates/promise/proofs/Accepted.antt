@@ -16,7 +16,7 @@ use Rattle.window.specs.declared.Found.the-variants.{New, Held, Outside}
 use Rattle.window.proofs.Accepting.{accept-size, accept-good, accept-held}
 use Rattle.window.proofs.Holding.{held-beyond}
 use Rattle.window.proofs.Passing.{run-unique, pass-run, pass-held}
-use Rattle.ends.specs.States.{isNew}
+use Rattle.ends.specs.Runs.{isNew}
 use Rattle.promise.proofs.Windows.{Marks, mark, shift, run, run-all, run-end}
 
 module _ (w : Window) (g : GoodWindow w) (m : Marks) (same : (k : ℕ) → m k ≡ held w k) (s : ℕ) where

@@ -15,7 +15,7 @@ use Rattle.ends.specs.Answers.{arrivedOf}
 use Rattle.ends.specs.Ends.{endOf}
 use Rattle.ends.specs.Heads.{countIn}
 use Rattle.ends.specs.Lent.{Lent}
-use Rattle.ends.specs.States.{isNew}
+use Rattle.ends.specs.Runs.{isNew}
 use Rattle.ends.specs.declared.EndPoint.{EndPoint}
 use Rattle.ends.specs.declared.State.{State}
 use Rattle.ends.specs.declared.State.the-variants.{Closed, Enabled, Open, Failing}
@@ -25,14 +25,16 @@ use Rattle.slots.specs.Slots.{slotFor}
 use Rattle.blocks.specs.Reading.{readBlock}
 use Rattle.acking.specs.Acking.{counts, passing, ackAnswer}
 use Rattle.receiving.specs.Receiving.{resetAnswer, resetAfter, dataAnswer, dataAfter, urgentAnswer, urgentAfter, taken, repeated}
-use Rattle.arriving.specs.Arriving.{delivers, takenAnswer, takenAfter, arrivalAfter}
+use Rattle.arriving.specs.Arriving.{takenAnswer, takenAfter, arrivalAfter}
+use Rattle.frame.specs.Types.{carries}
 use Rattle.good.specs.Good.{Lists, Good}
-use Rattle.good.specs.Calls.{Memory, lent, arrives, answer, after}
+use Rattle.good.specs.Calls.{Memory, lent, answer, after}
+use Rattle.machine.specs.Calls.{arrives}
 use Rattle.good.proofs.Arrivals.{Taken, Refused}
 use Rattle.promise.specs.History.{s-quiet, r-quiet}
 use Rattle.promise.specs.Link.{isDone, s-came, s-seen, r-came, r-seen}
-use Rattle.promise.proofs.Stores.{slot-low}
-use Rattle.promise.proofs.Views.{Stored, unaltered, put}
+use Rattle.good.proofs.Stores.{slot-low}
+use Rattle.good.proofs.Payloads.{Stored, unaltered, put}
 use Rattle.promise.proofs.SenderLaw.{refused-done}
 
 -- ---- what is seen
@@ -90,7 +92,7 @@ module _ (n : Memory) (block f : List ℕ) where
 
 module _ (t : List ℕ) (n : Memory) (block : List ℕ) (l : Lists) (G : Good t (n .node) (n .book) l) (k : ℕ) (lk : k < countIn (n .node)) (s : ℕ) (p : List ℕ) where
   -- Data that is new puts its payload in its slot; nothing else is stored
-  taken-stored : (q : FrameType) → (delivers q ≡ true → length p ≤ endOf (n .node) k .entry .largest)
+  taken-stored : (q : FrameType) → (carries q ≡ true → length p ≤ endOf (n .node) k .entry .largest)
       → Stored t n (takenAfter (lent n block) k (endOf (n .node) k) q s p .store) k
   unfolding takenAfter dataAfter resetAfter urgentAfter
   taken-stored type.Data m = sides (isNew (acceptOf (endOf (n .node) k .run .window) s .found))

@@ -41,10 +41,11 @@ use Rattle.slots.specs.Slots.{numberIn}
 use Rattle.handing.specs.declared.Next.{Next}
 use Rattle.handing.specs.Handing.{nextOut, resetEntry, urgentEntry, slotEntry, slotIn, fieldsTo, slotPayload, urgentPayload, ackFrame, resetFrame, urgentFrame, dataFrame, frameOut, handAnswer, handAfter}
 use Rattle.good.specs.Good.{Lists, Good}
-use Rattle.good.specs.Calls.{Memory, lent, hands-out, answer}
+use Rattle.good.specs.Calls.{Memory, lent, answer}
+use Rattle.machine.specs.Calls.{hands-out}
 use Rattle.promise.specs.History.{s-quiet, s-resets, s-sends, r-quiet, r-acks}
 use Rattle.promise.specs.Link.{names, s-out, s-seen, r-out, r-seen}
-use Rattle.promise.proofs.Stores.{read-own, end-entry}
+use Rattle.good.proofs.Stores.{read-own, end-entry}
 use Rattle.promise.proofs.SenderLaw.{refused-done}
 
 -- ---- which entry a frame names

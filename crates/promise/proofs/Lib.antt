@@ -10,13 +10,11 @@ pub mod Laws
 pub mod Lifting
 pub mod Worked
 pub mod TurnTooFar
-pub mod Stores
 pub mod Views
 pub mod Accepted
 pub mod Frames
 pub mod Arriving
 pub mod SenderLaw
-pub mod OwnSlots
 pub mod SenderOpens
 pub mod SenderCloses
 pub mod SenderCounts

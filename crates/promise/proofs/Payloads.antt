@@ -7,7 +7,8 @@ use native.Mathlib.Omega.{arith}
 use lib.ListN.{length, length-append}
 use Rattle.window.specs.Numbers.{byteOf, slotOf}
 use Rattle.window.specs.declared.Window.{Window}
-use Rattle.blocks.specs.Blocks.{joinedUp, blockOf, payloadAt, payloads}
+use Rattle.blocks.specs.Blocks.{joinedUp, blockOf}
+use Rattle.blocks.specs.Payloads.{payloadAt, payloads}
 use Rattle.blocks.proofs.Appending.{joinedUp-more, length-block, length-payloads}
 use Rattle.promise.specs.History.{Pay}
 use Rattle.promise.proofs.Channel.{outs}

@@ -11,7 +11,8 @@ use Rattle.table.specs.Rules.{goodTable}
 use Rattle.table.specs.declared.Kind.the-variants.{Sends, Receives}
 use Rattle.table.proofs.Good.{good-entry}
 use Rattle.ends.specs.Heads.{countIn}
-use Rattle.good.specs.Calls.{Memory, Call, opens, closes, counts, sends, urges, arrives, hands-out, ticks, Fed, SetUp}
+use Rattle.good.specs.Calls.{Memory, SetUp}
+use Rattle.machine.specs.Calls.{Call, opens, closes, counts, sends, urges, arrives, hands-out, ticks, Fed}
 use Rattle.good.specs.Calls as nodes
 use Rattle.good.specs.Reaching.{ReachIsGood}
 use Rattle.good.proofs.ReachGood.{setup-holds, reach-is-good}
@@ -21,7 +22,7 @@ use Rattle.promise.specs.Link.{Event, Did, sender, receiver, s-seen, r-s
 use Rattle.promise.proofs.Channel.{Send, Recv}
 use Rattle.promise.proofs.Laws.{SNext, RNext, SLaws, RLaws}
 use Rattle.promise.proofs.Lifting.{demand-3-nodes}
-use Rattle.promise.proofs.Stores.{end-entry}
+use Rattle.good.proofs.Stores.{end-entry}
 use Rattle.promise.proofs.Views.{SView, RView, s-view, r-view, s-first-view, r-first-view}
 use Rattle.promise.proofs.SenderLaw.{SLaw}
 use Rattle.promise.proofs.SenderOpens.{s-opens}

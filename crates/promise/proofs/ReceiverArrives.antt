@@ -21,20 +21,22 @@ use Rattle.window.proofs.Resetting.{new-held}
 use Rattle.table.specs.Layout.{entryOf}
 use Rattle.ends.specs.Ends.{loadEntry, endOf}
 use Rattle.ends.specs.Heads.{countIn}
-use Rattle.ends.specs.States.{isSends, isClosed, isNew, anew}
+use Rattle.ends.specs.States.{isSends, isClosed}
+use Rattle.ends.specs.Runs.{isNew, anew}
 use Rattle.ends.specs.Lent.{Lent}
 use Rattle.ends.specs.declared.State.{State}
 use Rattle.ends.specs.declared.State.the-variants.{Closed, Enabled, Open, Failing}
 use Rattle.ends.specs.declared.EndPoint.{EndPoint}
 use Rattle.blocks.specs.Reading.{readBlock}
-use Rattle.lookup.specs.Lookup.{forSender}
+use Rattle.frame.specs.Types.{forSender, answered}
 use Rattle.lookup.proofs.Found.{Fitting}
 use Rattle.acking.specs.Acking.{counts, ackedRun, openedRun, ackNode}
 use Rattle.receiving.specs.Receiving.{acknowledged, resetNode, resetAfter, withWindow, passing, dataAfter, urgentAfter}
 use Rattle.receiving.proofs.Taking.{dataAfter-new, dataAfter-other}
-use Rattle.arriving.specs.Arriving.{answered, takenAfter, arrivalAfter}
+use Rattle.arriving.specs.Arriving.{takenAfter, arrivalAfter}
 use Rattle.good.specs.Good.{Lists, Good}
-use Rattle.good.specs.Calls.{Memory, arrives, lent, kept, answer, after, Bytes}
+use Rattle.good.specs.Calls.{Memory, lent, kept, answer, after}
+use Rattle.machine.specs.Calls.{arrives, Bytes}
 use Rattle.good.proofs.Framing.{entry-low}
 use Rattle.good.proofs.Turns.{turnedTo, anew-fresh, ring-of, saved-acks}
 use Rattle.good.proofs.ReceiveKeeps.{reset-acks, reset-end, reset-keeps}
@@ -44,7 +46,8 @@ use Rattle.promise.specs.History.{RSeen, r-quiet, r-resets}
 use Rattle.promise.specs.Link.{names, r-came, owedTo, r-seen}
 use Rattle.promise.proofs.Channel.{Recv, Up, r-reset}
 use Rattle.promise.proofs.Laws.{rn-same, rn-reset}
-use Rattle.promise.proofs.Views.{r-state-of, payloadOf, REnd, RView, fresh-held, r-elsewhere}
+use Rattle.promise.proofs.Views.{r-state-of, REnd, RView, r-elsewhere}
+use Rattle.good.proofs.Payloads.{payloadOf, fresh-held}
 use Rattle.promise.proofs.Frames.{fit-own, fit-other}
 use Rattle.promise.proofs.Arriving.{r-seen-back, after-back, r-seen-in, arrive-stored}
 use Rattle.promise.proofs.Owing.{owed-push, owed-push-other, owed-dropped, owed-dropped-other}

@@ -17,13 +17,15 @@ use Rattle.order.specs.Order.{acksIn, notOf}
 use Rattle.order.proofs.Ringed.{Ring, drop-acks}
 use Rattle.ends.specs.Answers.{answerOf}
 use Rattle.ends.specs.Ends.{endOf, saved}
-use Rattle.ends.specs.States.{isSends, anew}
+use Rattle.ends.specs.States.{isSends}
+use Rattle.ends.specs.Runs.{anew}
 use Rattle.ends.specs.Lent.{Lent}
 use Rattle.ends.specs.declared.State.the-variants.{Closed}
 use Rattle.ends.specs.declared.Run.{Run}
 use Rattle.ends.specs.declared.EndPoint.{EndPoint}
 use Rattle.opening.specs.Opening.{closeAnswer, closeAfter}
-use Rattle.good.specs.Calls.{Memory, closes, bare, keptBare, answer, after}
+use Rattle.good.specs.Calls.{Memory, bare, keptBare, answer, after}
+use Rattle.machine.specs.Calls.{closes}
 use Rattle.good.proofs.Turns.{ring-of, saved-acks}
 use Rattle.good.proofs.CloseKeeps.{close-keeps, close-known, close-passed}
 use Rattle.promise.specs.History.{RSeen, r-quiet}
@@ -31,7 +33,8 @@ use Rattle.promise.specs.History as history
 use Rattle.promise.specs.Link.{isDone, owedTo, r-seen}
 use Rattle.promise.proofs.Channel.{Recv}
 use Rattle.promise.proofs.Laws.{rn-same, rn-close}
-use Rattle.promise.proofs.Views.{r-state-of, RView, unaltered, r-elsewhere, r-view, r-first-view}
+use Rattle.promise.proofs.Views.{r-state-of, RView, r-elsewhere, r-view, r-first-view}
+use Rattle.good.proofs.Payloads.{unaltered}
 use Rattle.promise.proofs.SenderLaw.{refused-done}
 use Rattle.promise.proofs.Owing.{owed-dropped, owed-dropped-other}
 use Rattle.promise.proofs.ReceiverLaw.{RStep, RLaw}

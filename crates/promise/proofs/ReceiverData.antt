@@ -28,19 +28,21 @@ use Rattle.frame.specs.Layout.{payloadOf as payloadIn}
 use Rattle.frame.specs.declared.FrameType.{FrameType}
 use Rattle.frame.specs.declared.FrameType.the-variants as type
 use Rattle.ends.specs.Ends.{endOf, saved}
-use Rattle.ends.specs.States.{isNew}
+use Rattle.ends.specs.Runs.{isNew}
 use Rattle.ends.specs.Lent.{Lent}
 use Rattle.ends.specs.declared.State.the-variants as state
 use Rattle.ends.specs.declared.EndPoint.{EndPoint}
 use Rattle.slots.specs.Slots.{slotFor, cell, past, spot, lengthIn}
-use Rattle.blocks.specs.Blocks.{blockOf, payloadAt}
+use Rattle.blocks.specs.Blocks.{blockOf}
+use Rattle.blocks.specs.Payloads.{payloadAt}
 use Rattle.blocks.specs.Reading.{readBlock}
 use Rattle.blocks.proofs.Reading.{read-written}
 use Rattle.receiving.specs.Receiving.{acknowledged, withWindow, putStore, putBook, delivered, taken, repeated, dataAfter}
 use Rattle.receiving.proofs.Taking.{dataAfter-new, dataAfter-other}
-use Rattle.lookup.specs.Lookup.{forSender}
-use Rattle.arriving.specs.Arriving.{delivers, answered, blockRoom, takenAfter, arrivalAfter}
-use Rattle.good.specs.Calls.{Memory, arrives, Bytes, lent, kept, answer, after}
+use Rattle.frame.specs.Types.{forSender, carries, answered}
+use Rattle.arriving.specs.Arriving.{blockRoom, takenAfter, arrivalAfter}
+use Rattle.good.specs.Calls.{Memory, lent, kept, answer, after}
+use Rattle.machine.specs.Calls.{arrives, Bytes}
 use Rattle.good.proofs.Framing.{entry-low}
 use Rattle.good.proofs.Offsets.{slot-inj, cell-pass}
 use Rattle.good.proofs.Turns.{turnedTo, ring-of, saved-acks, push-end, Kept}
@@ -51,8 +53,9 @@ use Rattle.promise.specs.Link.{names, owedTo, r-seen}
 use Rattle.promise.proofs.Windows.{mark, run, put, put-same, put-other}
 use Rattle.promise.proofs.Channel.{Recv, outs, Taken as Given, r-data, r-take, r-drop}
 use Rattle.promise.proofs.Laws.{RNext, rn-data}
-use Rattle.promise.proofs.Stores.{read-own, slots-stay, slot-room, slot-low, end-size}
-use Rattle.promise.proofs.Views.{r-state-of, RView, REnd, payloadBy, payloadOf, r-filled, slot-of}
+use Rattle.good.proofs.Stores.{read-own, slots-stay, slot-room, slot-low, end-size}
+use Rattle.promise.proofs.Views.{r-state-of, RView, REnd, slot-of}
+use Rattle.good.proofs.Payloads.{payloadBy, payloadOf, r-filled}
 use Rattle.promise.proofs.Accepted.{new-is, marks-then, run-is}
 use Rattle.promise.proofs.Payloads.{payloads-outs, length-none, block-fits}
 use Rattle.promise.proofs.Frames.{fit-own}
@@ -306,7 +309,7 @@ module _ (u : List ℕ) (n : Memory) (r : Recv) (block f : List ℕ) (a : Taken 
   data-own : Bytes f → RLaw u (a .entry) n (arrives block f) r
   unfolding after
   data-own b =
-      let d : delivers (a .header .kind) ≡ true = ap delivers k in
+      let d : carries (a .header .kind) ≡ true = ap carries k in
       let w : answered (a .header .kind) ≡ true = ap answered k in
       let z = data-step u (a .entry) n r v (a .header .seq .0) (a .byte b) (payloadIn f) (a .opened d) (a .some d) (a .short d) (a .room w) block (a .block d) in
       (z .0, subst (λ (x : RSeen). RNext (entryOf u (a .entry) .window) r x (z .0)) (sym data-seen) (z .1), subst (λ (y : Lent). RView u (a .entry) (kept y) (z .0)) (sym data-after) (z .2))

@@ -21,14 +21,16 @@ use Rattle.handing.specs.declared.Next.{Next}
 use Rattle.handing.specs.declared.Next.the-variants as next
 use Rattle.handing.specs.Handing.{frameOut, handAnswer, handAfter}
 use Rattle.good.specs.Good.{Lists, Good}
-use Rattle.good.specs.Calls.{Memory, hands-out, lent, kept, answer, after}
+use Rattle.good.specs.Calls.{Memory, lent, kept, answer, after}
+use Rattle.machine.specs.Calls.{hands-out}
 use Rattle.good.proofs.Handed.{Went, Alone, AckOut, Handed, refused, nothing, acked, reset, urgent, resent, handed, HandKept}
 use Rattle.good.proofs.HandKeeps.{hand-keeps}
 use Rattle.promise.specs.History.{RSeen, r-quiet, r-acks}
 use Rattle.promise.specs.Link.{names, owedTo, r-seen, r-out}
 use Rattle.promise.proofs.Channel.{Recv, r-wait}
 use Rattle.promise.proofs.Laws.{RNext, rn-ack}
-use Rattle.promise.proofs.Views.{RView, payloadOf, r-elsewhere, unaltered}
+use Rattle.promise.proofs.Views.{RView, r-elsewhere}
+use Rattle.good.proofs.Payloads.{payloadOf, unaltered}
 use Rattle.promise.proofs.Frames.{names-own, names-other, r-out-nothing, r-out-ack, r-out-reset, r-out-urgent, r-out-data, r-seen-refused, r-seen-out}
 use Rattle.promise.proofs.ReceiverLaw.{RLaw, r-still, r-same}
 

@@ -15,14 +15,16 @@ use Rattle.ends.specs.States.{isSends}
 use Rattle.ends.specs.declared.State.the-variants.{Failing}
 use Rattle.ends.specs.declared.EndPoint.{EndPoint}
 use Rattle.good.specs.Good.{Lists, Good}
-use Rattle.good.specs.Calls.{Memory, Call, answer, after}
+use Rattle.good.specs.Calls.{Memory, answer, after}
+use Rattle.machine.specs.Calls.{Call}
 use Rattle.good.proofs.Framing.{Apart}
 use Rattle.good.proofs.Known.{stated-as}
 use Rattle.promise.specs.History.{RSeen, r-quiet}
 use Rattle.promise.specs.Link.{owedTo, r-seen}
 use Rattle.promise.proofs.Channel.{Recv}
 use Rattle.promise.proofs.Laws.{RNext, rn-same}
-use Rattle.promise.proofs.Views.{payloadOf, REnd, RView}
+use Rattle.promise.proofs.Views.{REnd, RView}
+use Rattle.good.proofs.Payloads.{payloadOf}
 
 -- what was seen of a call that left m is a step of entry j, viewed as r, of a node that was set up from table u
 abbrev pub RStep : List ℕ → ℕ → RSeen → Memory → Recv → Type 0

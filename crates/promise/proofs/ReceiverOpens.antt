@@ -15,13 +15,14 @@ use Rattle.window.specs.declared.Window.{Window}
 use Rattle.table.specs.Layout.{entryOf}
 use Rattle.ends.specs.Ends.{endOf}
 use Rattle.ends.specs.Heads.{countIn}
-use Rattle.ends.specs.States.{anew}
+use Rattle.ends.specs.Runs.{anew}
 use Rattle.ends.specs.Lent.{Lent}
 use Rattle.ends.specs.declared.State.the-variants.{Closed, Enabled}
 use Rattle.ends.specs.declared.Run.{Run}
 use Rattle.opening.specs.Opening.{openAnswer, openAfter}
 use Rattle.good.specs.Good.{Fresh}
-use Rattle.good.specs.Calls.{Memory, opens, bare, keptBare, after}
+use Rattle.good.specs.Calls.{Memory, bare, keptBare, after}
+use Rattle.machine.specs.Calls.{opens}
 use Rattle.good.proofs.Known.{stated-as}
 use Rattle.good.proofs.Turns.{turnedTo, anew-fresh, anew-size, saved-acks}
 use Rattle.good.proofs.OpenKeeps.{open-keeps, open-refused, open-passed}
@@ -29,7 +30,8 @@ use Rattle.promise.specs.History.{r-quiet}
 use Rattle.promise.specs.Link.{owedTo, r-seen}
 use Rattle.promise.proofs.Channel.{Recv, r-enabled, r-state}
 use Rattle.promise.proofs.Laws.{rn-same, rn-open}
-use Rattle.promise.proofs.Views.{r-state-of, payloadOf, REnd, RView, fresh-held, unaltered, r-elsewhere}
+use Rattle.promise.proofs.Views.{r-state-of, REnd, RView, r-elsewhere}
+use Rattle.good.proofs.Payloads.{payloadOf, fresh-held, unaltered}
 use Rattle.promise.proofs.ReceiverLaw.{RStep, RLaw, r-turned}
 
 -- a run begun anew, of one that was fresh, has its window

@@ -13,7 +13,8 @@ use Rattle.ends.specs.States.{isSends}
 use Rattle.ends.specs.Lent.{Lent}
 use Rattle.slots.specs.Slots.{slotFor}
 use Rattle.sending.specs.Sending.{nextNumber, sendAnswer, sentRun, sendAfter, urgentAnswer, urgentRun, urgentAfter}
-use Rattle.good.specs.Calls.{Memory, counts, sends, urges, lent, kept, after}
+use Rattle.good.specs.Calls.{Memory, lent, kept, after}
+use Rattle.machine.specs.Calls.{counts, sends, urges}
 use Rattle.good.proofs.Turns.{saved-acks}
 use Rattle.good.proofs.SendKeeps.{send-keeps, send-passed}
 use Rattle.good.proofs.UrgentKeeps.{urgent-keeps, urgent-passed}
@@ -21,8 +22,9 @@ use Rattle.promise.specs.History.{r-quiet}
 use Rattle.promise.specs.Link.{owedTo, r-seen}
 use Rattle.promise.proofs.Channel.{Recv}
 use Rattle.promise.proofs.Laws.{rn-same}
-use Rattle.promise.proofs.Stores.{slot-low, urgent-low}
-use Rattle.promise.proofs.Views.{RView, put, r-elsewhere}
+use Rattle.good.proofs.Stores.{slot-low, urgent-low}
+use Rattle.promise.proofs.Views.{RView, r-elsewhere}
+use Rattle.good.proofs.Payloads.{put}
 use Rattle.promise.proofs.ReceiverLaw.{RStep, RLaw}
 
 -- ---- the calls

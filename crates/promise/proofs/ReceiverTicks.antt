@@ -16,7 +16,8 @@ use Rattle.ends.specs.declared.State.the-variants.{Failing}
 use Rattle.ends.specs.declared.EndPoint.{EndPoint}
 use Rattle.slots.specs.Slots.{cell, past}
 use Rattle.ticking.specs.Ticking.{tickAfter}
-use Rattle.good.specs.Calls.{Memory, ticks, bare, keptBare, after}
+use Rattle.good.specs.Calls.{Memory, bare, keptBare, after}
+use Rattle.machine.specs.Calls.{ticks}
 use Rattle.good.proofs.Framing.{entry-low, cell-low}
 use Rattle.good.proofs.TickEntry.{Ticks, closed, enabled, opened, failed, failing, Alike, ticks-alike}
 use Rattle.good.proofs.TickKeeps.{TickKept, tick-keeps, tick-receiver}
@@ -24,7 +25,8 @@ use Rattle.promise.specs.History.{r-quiet}
 use Rattle.promise.specs.Link.{owedTo, r-seen}
 use Rattle.promise.proofs.Channel.{Recv}
 use Rattle.promise.proofs.Laws.{rn-same}
-use Rattle.promise.proofs.Views.{r-state-of, payloadOf, REnd, RView}
+use Rattle.promise.proofs.Views.{r-state-of, REnd, RView}
+use Rattle.good.proofs.Payloads.{payloadOf}
 use Rattle.promise.proofs.ReceiverLaw.{RStep, RLaw, never-failing}
 
 -- a receiver never fails, so its state stays, as it is viewed

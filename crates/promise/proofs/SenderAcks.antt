@@ -23,7 +23,7 @@ use Rattle.ends.specs.declared.State.the-variants.{Closed, Enabled, Open, Faili
 use Rattle.ends.specs.declared.EndPoint.{EndPoint}
 use Rattle.ends.specs.declared.answers.Arrived.the-variants as arrived
 use Rattle.slots.specs.Slots.{timerIn, slotFor, cell, past}
-use Rattle.blocks.specs.Blocks.{payloadAt}
+use Rattle.blocks.specs.Payloads.{payloadAt}
 use Rattle.acking.specs.Acking.{counts, passing, fewer, ackedRun, openedRun, ackAnswer, ackAfter}
 use Rattle.good.specs.Good.{Sending}
 use Rattle.good.specs.Calls.{Memory, lent, kept}
@@ -37,8 +37,9 @@ use Rattle.promise.specs.History.{Pay, SState}
 use Rattle.promise.specs.Link.{s-state-of}
 use Rattle.promise.proofs.Windows.{mark, shift, run}
 use Rattle.promise.proofs.Channel.{Send, s-pass, s-opened, s-count, s-ack-at, s-ack}
-use Rattle.promise.proofs.Stores.{end-size}
-use Rattle.promise.proofs.Views.{SEnd, SView, payloadBy, payloadOf}
+use Rattle.good.proofs.Stores.{end-size}
+use Rattle.promise.proofs.Views.{SEnd, SView}
+use Rattle.good.proofs.Payloads.{payloadBy, payloadOf}
 use Rattle.promise.proofs.Accepted.{new-is, run-is, passed-marks}
 
 -- ---- the test

@@ -11,11 +11,12 @@ use Rattle.frame.specs.declared.FrameType.{FrameType}
 use Rattle.frame.specs.declared.FrameType.the-variants as type
 use Rattle.ends.specs.Ends.{loadEntry, endOf}
 use Rattle.ends.specs.States.{isSends}
-use Rattle.lookup.specs.Lookup.{forSender}
+use Rattle.frame.specs.Types.{forSender}
 use Rattle.lookup.proofs.Found.{Fitting}
 use Rattle.acking.specs.Acking.{ackAfter}
 use Rattle.arriving.specs.Arriving.{takenAfter, arrivalAfter}
-use Rattle.good.specs.Calls.{Memory, lent, kept, arrives, Bytes, answer, after}
+use Rattle.good.specs.Calls.{Memory, lent, kept, answer, after}
+use Rattle.machine.specs.Calls.{arrives, Bytes}
 use Rattle.good.proofs.Arrivals.{Taken, Refused, taken-kind, arrives as arrival}
 use Rattle.good.proofs.ArriveKeeps.{arrive-keeps}
 use Rattle.promise.specs.History.{SSeen, s-hears}

@@ -9,13 +9,15 @@ use Rattle.table.specs.Layout.{entryOf}
 use Rattle.ends.specs.Heads.{countIn}
 use Rattle.opening.specs.Opening.{closeAnswer, closeAfter}
 use Rattle.good.specs.Good.{Lists, Good}
-use Rattle.good.specs.Calls.{Memory, closes, bare, keptBare, answer, after}
+use Rattle.good.specs.Calls.{Memory, bare, keptBare, answer, after}
+use Rattle.machine.specs.Calls.{closes}
 use Rattle.good.proofs.CloseKeeps.{close-keeps, close-refused}
 use Rattle.promise.specs.History.{s-ends}
 use Rattle.promise.specs.Link.{s-seen}
 use Rattle.promise.proofs.Channel.{Send}
 use Rattle.promise.proofs.Laws.{sn-end}
-use Rattle.promise.proofs.Views.{SView, unaltered, s-view}
+use Rattle.promise.proofs.Views.{SView, s-view}
+use Rattle.good.proofs.Payloads.{unaltered}
 use Rattle.promise.proofs.SenderLaw.{SLaw, s-afresh, Beside, seenAs, s-verdict}
 
 module _ (t : List ℕ) (n : Memory) where

@@ -2,7 +2,8 @@
 use Prim.Native.Nat.{ℕ}
 use mathlib.Core.Path.{refl}
 use mathlib.Core.List.{List}
-use Rattle.good.specs.Calls.{Memory, counts, answer, after}
+use Rattle.good.specs.Calls.{Memory, answer, after}
+use Rattle.machine.specs.Calls.{counts}
 use Rattle.promise.specs.Link.{s-seen}
 use Rattle.promise.proofs.Channel.{Send}
 use Rattle.promise.proofs.Views.{SView}

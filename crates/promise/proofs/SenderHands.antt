@@ -19,7 +19,8 @@ use Rattle.table.specs.Layout.{entryOf}
 use Rattle.frame.specs.Layout.{payloadOf as framePayload}
 use Rattle.frame.specs.Reading.{readOf}
 use Rattle.ends.specs.Ends.{endOf}
-use Rattle.ends.specs.States.{isSends, urgentGone}
+use Rattle.ends.specs.States.{isSends}
+use Rattle.ends.specs.Runs.{urgentGone}
 use Rattle.ends.specs.Lent.{Lent}
 use Rattle.ends.specs.declared.State.{State}
 use Rattle.ends.specs.declared.State.the-variants.{Enabled, Open}
@@ -28,7 +29,8 @@ use Rattle.ends.specs.declared.EndPoint.{EndPoint}
 use Rattle.slots.specs.Slots.{slotFor, cell, past, spot, numberIn, lengthIn}
 use Rattle.handing.specs.declared.Next.the-variants as next
 use Rattle.handing.specs.Handing.{slotEntry, slotIn, slotPayload, dataFrame, frameOut, handedRun, handAnswer, handAfter}
-use Rattle.good.specs.Calls.{Memory, lent, kept, hands-out, answer, after}
+use Rattle.good.specs.Calls.{Memory, lent, kept, answer, after}
+use Rattle.machine.specs.Calls.{hands-out}
 use Rattle.good.proofs.Turns.{turnedTo}
 use Rattle.good.proofs.Framing.{entry-low, cell-low}
 use Rattle.good.proofs.Senders.{entry-good}
@@ -38,8 +40,9 @@ use Rattle.promise.specs.History.{Pay, s-enabled, s-open, SSeen, s-quiet
 use Rattle.promise.specs.Link.{names, s-state-of, s-out, s-seen}
 use Rattle.promise.proofs.Channel.{Send, s-state, s-hand}
 use Rattle.promise.proofs.Laws.{SNext, sn-same, sn-reset, sn-send}
-use Rattle.promise.proofs.Stores.{slot-room, slot-low}
-use Rattle.promise.proofs.Views.{s-end-same, payloadBy, SEnd, SView, payloadOf, s-narrow, s-elsewhere, unaltered}
+use Rattle.good.proofs.Stores.{slot-room, slot-low}
+use Rattle.promise.proofs.Views.{s-end-same, SEnd, SView, s-elsewhere}
+use Rattle.good.proofs.Payloads.{payloadBy, payloadOf, s-narrow, unaltered}
 use Rattle.promise.proofs.SenderLaw.{SLaw}
 use Rattle.promise.proofs.Frames.{names-own, names-other, s-out-nothing, s-out-ack, s-out-urgent, s-out-reset, s-out-data, s-seen-refused, s-seen-out}
 

@@ -21,14 +21,16 @@ use Rattle.ends.specs.Answers.{answerOf}
 use Rattle.ends.specs.Heads.{countIn}
 use Rattle.ends.specs.States.{isSends}
 use Rattle.good.specs.Good.{Lists, Good}
-use Rattle.good.specs.Calls.{Memory, Call, answer, after}
+use Rattle.good.specs.Calls.{Memory, answer, after}
+use Rattle.machine.specs.Calls.{Call}
 use Rattle.good.proofs.Framing.{Within, Apart}
 use Rattle.promise.specs.History.{SSeen, s-quiet}
 use Rattle.promise.specs.Link.{isDone, s-seen}
 use Rattle.promise.proofs.Channel.{Send}
 use Rattle.promise.proofs.Laws.{SNext, sn-same}
-use Rattle.promise.proofs.Stores.{end-entry}
-use Rattle.promise.proofs.Views.{SView, s-elsewhere, Stored, s-view, s-first-view}
+use Rattle.good.proofs.Stores.{end-entry}
+use Rattle.promise.proofs.Views.{SView, s-elsewhere, s-view, s-first-view}
+use Rattle.good.proofs.Payloads.{Stored}
 
 -- entry i of a node set up from t, viewed as s before the call c
 abbrev pub SLaw : List ℕ → ℕ → Memory → Call → Send → Type 0

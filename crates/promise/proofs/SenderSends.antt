@@ -21,7 +21,8 @@ use Rattle.ends.specs.declared.EndPoint.{EndPoint}
 use Rattle.slots.specs.Slots.{slotFor, past, spot}
 use Rattle.sending.specs.Sending.{sendAnswer, sentRun, nextNumber, sendAfter}
 use Rattle.good.specs.Good.{Lists, Good}
-use Rattle.good.specs.Calls.{Memory, sends, lent, kept, answer, after}
+use Rattle.good.specs.Calls.{Memory, lent, kept, answer, after}
+use Rattle.machine.specs.Calls.{sends}
 use Rattle.good.proofs.Offsets.{slot-inj}
 use Rattle.good.proofs.Turns.{turnedTo}
 use Rattle.good.proofs.SendKeeps.{SendPassed, send-passed, send-refused, send-keeps}
@@ -30,9 +31,9 @@ use Rattle.promise.specs.Link.{s-state-of, s-seen}
 use Rattle.promise.proofs.Windows.{put-same, put-other}
 use Rattle.promise.proofs.Channel.{Send, s-send}
 use Rattle.promise.proofs.Laws.{SNext, sn-accept}
-use Rattle.promise.proofs.Stores.{slot-low, read-own, end-size, slot-room}
-use Rattle.promise.proofs.Views.{payloadBy, SEnd, payloadOf, SView, s-filled, Stored, unaltered, put, stored-long, slot-of}
-use Rattle.promise.proofs.OwnSlots.{payload-apart}
+use Rattle.good.proofs.Stores.{slot-low, read-own, end-size, slot-room}
+use Rattle.promise.proofs.Views.{SEnd, SView, slot-of}
+use Rattle.good.proofs.Payloads.{payloadBy, payloadOf, s-filled, Stored, unaltered, put, stored-long, payload-apart}
 use Rattle.promise.proofs.SenderLaw.{SLaw, s-afresh, Beside, seenAs, s-verdict}
 
 -- ---- the end point

@@ -10,7 +10,8 @@ use Rattle.ends.specs.declared.State.{State}
 use Rattle.ends.specs.declared.EndPoint.{EndPoint}
 use Rattle.slots.specs.Slots.{cell, past, lengthIn}
 use Rattle.ticking.specs.Ticking.{tickAnswer}
-use Rattle.good.specs.Calls.{Memory, ticks as tick, bare, answer, after}
+use Rattle.good.specs.Calls.{Memory, bare, answer, after}
+use Rattle.machine.specs.Calls.{ticks as tick}
 use Rattle.good.proofs.Framing.{entry-low, cell-low}
 use Rattle.good.proofs.TickEntry.{Ticks, closed, enabled, opened, failed, failing, Alike, ticks-alike}
 use Rattle.good.proofs.TickKeeps.{Fate, ticks, recovered, TickKept, tick-keeps}
@@ -18,7 +19,8 @@ use Rattle.promise.specs.History.{Pay, SState, s-failing, SSeen, s-quiet
 use Rattle.promise.specs.Link.{s-state-of, s-seen}
 use Rattle.promise.proofs.Channel.{Send, s-state}
 use Rattle.promise.proofs.Laws.{SNext, sn-same, sn-fail, sn-end}
-use Rattle.promise.proofs.Views.{SEnd, payloadBy, payloadOf, SView, s-view}
+use Rattle.promise.proofs.Views.{SEnd, SView, s-view}
+use Rattle.good.proofs.Payloads.{payloadBy, payloadOf}
 use Rattle.promise.proofs.SenderLaw.{SLaw, s-afresh}
 
 -- ---- the end point

@@ -21,7 +21,8 @@ use Rattle.ends.specs.declared.EndPoint.{EndPoint}
 use Rattle.slots.specs.Slots.{slotFor, cell, past}
 use Rattle.sending.specs.Sending.{urgentAnswer, urgentRun, urgentAfter}
 use Rattle.good.specs.Good.{Lists, Good}
-use Rattle.good.specs.Calls.{Memory, urges, lent, kept, answer, after}
+use Rattle.good.specs.Calls.{Memory, lent, kept, answer, after}
+use Rattle.machine.specs.Calls.{urges}
 use Rattle.good.proofs.Framing.{slot-lt}
 use Rattle.good.proofs.Turns.{turnedTo}
 use Rattle.good.proofs.UrgentKeeps.{UrgentPassed, urgent-passed, urgent-refused, urgent-keeps}
@@ -29,9 +30,9 @@ use Rattle.promise.specs.History.{Pay, s-quiet}
 use Rattle.promise.specs.Link.{isDone, s-state-of, s-seen}
 use Rattle.promise.proofs.Channel.{Send}
 use Rattle.promise.proofs.Laws.{SNext, sn-same}
-use Rattle.promise.proofs.Stores.{urgent-low}
-use Rattle.promise.proofs.Views.{SEnd, payloadBy, payloadOf, SView, s-filled, Stored, unaltered, put, stored-long}
-use Rattle.promise.proofs.OwnSlots.{payload-apart}
+use Rattle.good.proofs.Stores.{urgent-low}
+use Rattle.promise.proofs.Views.{SEnd, SView}
+use Rattle.good.proofs.Payloads.{payloadBy, payloadOf, s-filled, Stored, unaltered, put, stored-long, payload-apart}
 use Rattle.promise.proofs.SenderLaw.{SLaw, s-afresh, Beside, seenAs, s-verdict}
 
 -- ---- the end point

@@ -27,21 +27,23 @@ use Rattle.frame.specs.Layout.{payloadOf, frameBytes, bodyBytes, headBytes}
 use Rattle.frame.specs.Reading.{soundOf, headerOf, readOf}
 use Rattle.frame.proofs.Parts.{byte}
 use Rattle.ends.specs.Ends.{saved, savedEntry, endOf, loadEntry, stateOf, loadRun}
-use Rattle.ends.specs.States.{anew}
+use Rattle.ends.specs.Runs.{anew}
 use Rattle.ends.specs.Lent.{Lent}
 use Rattle.opening.specs.Setup.{setupAnswer, setupAfter, emptied, tabled}
 use Rattle.opening.specs.Opening.{openAnswer, openAfter}
 use Rattle.sending.specs.Sending.{sendAnswer, sentRun, sentBook, sendAfter}
 use Rattle.lookup.specs.Lookup as lookup
 use Rattle.acking.specs.Acking as acking
-use Rattle.blocks.specs.Blocks.{offsets, joinedUp, blockOf, payloads}
+use Rattle.blocks.specs.Blocks.{offsets, joinedUp, blockOf}
+use Rattle.blocks.specs.Payloads.{payloads}
 use Rattle.blocks.specs.Reading.{get32Of, payloadIn, payloadsIn, readBlock}
 use Rattle.receiving.specs.Receiving as receiving
 use Rattle.arriving.specs.Arriving.{takenAnswer, entryAnswer, readAnswer, arrivalAnswer, takenAfter, entryAfter, readAfter, arrivalAfter}
 use Rattle.handing.specs.Handing.{nextOut, fieldsTo, ackFrame, resetFrame, dataFrame, frameOut, handAnswer, handedRun, outNode, outBook, handAfter}
 use Rattle.ticking.specs.Ticking.{tickSlot, tickSlots, tickState, tickEntry, tickEntries, recover, recoverAll, tickBoth, tickAfter, tickAnswer}
 use Rattle.order.specs.Order.{from}
-use Rattle.good.specs.Calls.{Memory, Call, opens, sends, arrives, hands-out, ticks, kept, Answer, answer, after, Fed, SetUp}
+use Rattle.good.specs.Calls.{Memory, kept, answer, after, SetUp}
+use Rattle.machine.specs.Calls.{Call, opens, sends, arrives, hands-out, ticks, Answer, Fed}
 use Rattle.promise.specs.History.{Pay, SState, s-enabled, s-open, s-first, reset, data!, Tag, old, new, ack, SSeen, s-quiet, s-accepts, s-resets, s-sends, s-hears, RSeen, r-acks, r-resets, r-takes, SOwn, ROwn, s-note, r-note}
 use Rattle.promise.specs.Promise.{SSide, RSide, Sys, begin, Move, at-sender, at-receiver, ack-comes, reset-comes, data-comes, Moves, no-move, and-then, Reach, at-setup, by-call, Kept, Demand3}
 use Rattle.promise.specs.Link.{Event, Did, s-seen, r-seen, sender, receiver, Paired, Promise}

@@ -22,7 +22,8 @@ use Rattle.ends.specs.Ends.{endOf}
 use Rattle.ends.specs.declared.State.{State}
 use Rattle.ends.specs.declared.State.the-variants as state
 use Rattle.blocks.specs.Reading.{readBlock}
-use Rattle.good.specs.Calls.{Memory, Call, opens, closes, counts, sends, urges, arrives, hands-out, ticks, Answer, answer, after, Fed, SetUp}
+use Rattle.good.specs.Calls.{Memory, answer, after, SetUp}
+use Rattle.machine.specs.Calls.{Call, opens, closes, counts, sends, urges, arrives, hands-out, ticks, Answer, Fed}
 use Rattle.promise.specs.History.{Pay, SState, s-closed, s-enabled, s-open, s-failing, SSeen, s-quiet, s-accepts, s-resets, s-sends, s-hears, s-ends, RSeen, r-quiet, r-acks, r-resets, r-takes, r-closes}
 use Rattle.promise.specs.Promise.{SSide, RSide, Demand3}
 

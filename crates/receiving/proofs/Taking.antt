@@ -6,7 +6,7 @@ use Prim.Native.Nat.{ℕ}
 use lib.ListN.{length}
 use Rattle.window.specs.Windows.{acceptOf}
 use Rattle.ends.specs.Lent.{Lent}
-use Rattle.ends.specs.States.{isNew}
+use Rattle.ends.specs.Runs.{isNew}
 use Rattle.ends.specs.declared.EndPoint.{EndPoint}
 use Rattle.ends.specs.declared.answers.Arrived.the-variants as arrived
 use Rattle.blocks.specs.Blocks.{blockOf}

@@ -11,7 +11,7 @@ use Rattle.window.specs.Windows.{acceptOf, passOf, heldCount}
 use Rattle.window.specs.declared.Window.{Window}
 use Rattle.window.specs.declared.Passed.{Passed}
 use Rattle.ends.specs.Ends.{saved}
-use Rattle.ends.specs.States.{anew, isNew}
+use Rattle.ends.specs.Runs.{anew, isNew}
 use Rattle.ends.specs.Lent.{Lent}
 use Rattle.ends.specs.declared.EndPoint.{EndPoint}
 use Rattle.ends.specs.declared.State.the-variants.{Open}
@@ -19,7 +19,8 @@ use Rattle.ends.specs.declared.Run.{Run}
 use Rattle.ends.specs.declared.answers.Arrived.{Arrived}
 use Rattle.ends.specs.declared.answers.Arrived.the-variants as arrived
 use Rattle.slots.specs.Slots.{slotFor, cell, spot}
-use Rattle.blocks.specs.Blocks.{blockOf, payloads}
+use Rattle.blocks.specs.Blocks.{blockOf}
+use Rattle.blocks.specs.Payloads.{payloads}
 
 -- an acknowledgement of s waits for entry i
 abbrev pub acknowledged : List ℕ → ℕ → ℕ → List ℕ

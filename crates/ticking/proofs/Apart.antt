@@ -19,7 +19,8 @@ use Rattle.ends.specs.declared.EndPoint.{EndPoint}
 use Rattle.ends.specs.declared.Run.{Run}
 use Rattle.ends.specs.declared.State.{State}
 use Rattle.ends.specs.declared.State.the-variants.{Closed, Enabled, Open, Failing}
-use Rattle.ticking.specs.Ticking.{ticked, tickState, tickEntry, tickEntries, Recovered, again, isOver, recover, recoverAll, entries, tickBoth, tickAfter}
+use Rattle.ticking.specs.Ticking.{ticked, tickState, tickEntry, tickEntries, Recovered, again, recover, recoverAll, entries, tickBoth, tickAfter}
+use Rattle.ends.specs.States.{isOver}
 
 -- ---- two nodes that agree outside the state and the run of entry i
 

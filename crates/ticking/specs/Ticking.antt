@@ -10,7 +10,8 @@ use Rattle.memory.specs.Layout.{resets, resends, resetId, slotId, timerAt, retr
 use Rattle.waiting.specs.Queues.{appended}
 use Rattle.ends.specs.Ends.{endOf, saved}
 use Rattle.ends.specs.Heads.{countIn}
-use Rattle.ends.specs.States.{anew, urgentGone}
+use Rattle.ends.specs.States.{isOver}
+use Rattle.ends.specs.Runs.{anew, urgentGone}
 use Rattle.ends.specs.Lent.{Lent}
 use Rattle.ends.specs.declared.EndPoint.{EndPoint}
 use Rattle.ends.specs.declared.State.{State}
@@ -112,13 +113,6 @@ again i r =
           (appended (r .lent .book) resets (resetId i));
       bits = r .bits + 2 ^ i;
     }
-
--- a Failing end with no timer running
-abbrev pub isOver : State → Bool
-isOver Closed = false
-isOver (Enabled n sent) = false
-isOver Open = false
-isOver (Failing n) = eqb n 0
 
 unfoldable pub recover : ℕ → Recovered → Recovered
 recover i r = pick (isOver (endOf (r .lent .node) i .state)) (again i r) r

@@ -20,7 +20,8 @@ ghost use mathlib.Core.Bool.{true, false, _&&_, _||_};
 ghost use Prim.Native.Nat.{ℕ, _<_, _≤_, _%_, _^_};
 ghost use lib.Dec.{eqb};
 ghost use Rattle.ends.specs.Ends.{word, endOf};
-ghost use Rattle.ticking.specs.Ticking.{ticked, tickEnabled, tickOpen, tickFailing, tickEntry, tickEntries, isOver, recover as recovered, recoverAll, entries as entriesOf, tickAnswer, tickAfter};
+ghost use Rattle.ticking.specs.Ticking.{ticked, tickEnabled, tickOpen, tickFailing, tickEntry, tickEntries, recover as recovered, recoverAll, entries as entriesOf, tickAnswer, tickAfter};
+ghost use Rattle.ends.specs.States.{isOver};
 
 // Entry i at Enabled, with its Reset's timer at n: where that comes to zero the Reset waits again. Answers whether the node altered.
 fn tick_enabled(node: &mut [u64], book: &mut [u16], i: u8, n: u16, sent: bool) -> bool

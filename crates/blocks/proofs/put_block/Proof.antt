@@ -4,7 +4,8 @@ use Prim.Native.Nat.{_≤_, _+_, _*_, _-_}
 use native.Mathlib.Omega.{arith}
 use borrow.Author.Needs.{needs}
 use denote.Ref.{now}
-use Rattle.blocks.specs.Blocks.{joinedUp, offsets, payloads}
+use Rattle.blocks.specs.Blocks.{joinedUp, offsets}
+use Rattle.blocks.specs.Payloads.{payloads}
 use Rattle.blocks.proofs.Appending.{Begun, begun-more, begun-long, begun-done, payloads-more}
 use Rattle.blocks.proofs.put_block.Statement.{statement}
 use Rattle.blocks.proofs.put_block.Tie as tie

@@ -8,7 +8,8 @@ use denote.Ref.{now}
 use lib.Bits.{bitAnd}
 use Rattle.window.specs.Marks.{bit}
 use Rattle.window.proofs.Bits.{bit-shr}
-use Rattle.lookup.specs.Lookup.{forSender, rowIn, listed, firstFrom, entryFor}
+use Rattle.lookup.specs.Lookup.{rowIn, listed, firstFrom, entryFor}
+use Rattle.frame.specs.Types.{forSender}
 use Rattle.lookup.proofs.First.{first-ext}
 use Rattle.lookup.proofs.Digits.{bit-and}
 use Rattle.lookup.proofs.entry_for.Statement.{statement}

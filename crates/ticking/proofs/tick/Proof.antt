@@ -8,7 +8,8 @@ use denote.Ref.{now}
 use borrow.Author.Needs.{needs}
 use Rattle.ends.specs.Ends.{endOf}
 use Rattle.ends.specs.Lent.{Lent}
-use Rattle.ticking.specs.Ticking.{Recovered, tickEntries, isOver, recover, recoverAll, entries, tickBoth, tickAfter, tickAnswer}
+use Rattle.ticking.specs.Ticking.{Recovered, tickEntries, recover, recoverAll, entries, tickBoth, tickAfter, tickAnswer}
+use Rattle.ends.specs.States.{isOver}
 use Rattle.ticking.proofs.tick.Statement.{statement}
 use Rattle.ticking.proofs.tick.Tie as tie
 

@@ -11,7 +11,8 @@ use lib.ListN.{length}
 use borrow.Author.Needs.{needs}
 use Rattle.ends.specs.Ends.{endOf}
 use Rattle.ends.specs.Lent.{Lent}
-use Rattle.ticking.specs.Ticking.{tickEntry, tickEntries, isOver}
+use Rattle.ticking.specs.Ticking.{tickEntry, tickEntries}
+use Rattle.ends.specs.States.{isOver}
 use Rattle.ticking.proofs.tick_entries.Statement.{statement}
 use Rattle.ticking.proofs.tick_entries.Tie as tie
 

@@ -8,7 +8,8 @@ use Rattle.ends.specs.declared.State.the-variants.{Closed, Enabled, Open, Faili
 use Rattle.ends.specs.declared.State.{State}
 use Rattle.ends.specs.Lent.{Lent}
 use Rattle.ends.specs.Ends.{loadState, endOf}
-use Rattle.ticking.specs.Ticking.{tickState, tickEntry, isOver}
+use Rattle.ticking.specs.Ticking.{tickState, tickEntry}
+use Rattle.ends.specs.States.{isOver}
 use Rattle.ticking.proofs.tick_entry.Statement.{statement}
 use Rattle.ticking.proofs.tick_entry.Tie as tie
 

@@ -9,7 +9,8 @@ use borrow.Author.Tests.{eqb-true}
 use Rattle.table.proofs.Every.{both}
 use Rattle.ends.specs.Ends.{word, stateOf, loadRun, endOf}
 use Rattle.ends.specs.Lent.{Lent}
-use Rattle.ticking.specs.Ticking.{tickSlots, tickState, tickEntry, isOver}
+use Rattle.ticking.specs.Ticking.{tickSlots, tickState, tickEntry}
+use Rattle.ends.specs.States.{isOver}
 use borrow.Author.Needs.{needs}
 use Rattle.ticking.proofs.turn.Statement.{statement}
 use Rattle.ticking.proofs.turn.Tie as tie

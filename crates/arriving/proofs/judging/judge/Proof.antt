@@ -6,7 +6,7 @@ use lib.Dec.{leb}
 use borrow.Author.Tests.{le-leb, lt-leb}
 use Rattle.ends.specs.Heads.{countIn}
 use Rattle.ends.specs.States.{isClosed}
-use Rattle.arriving.specs.Arriving.{delivers}
+use Rattle.frame.specs.Types.{carries}
 use borrow.Author.Needs.{needs}
 use Rattle.arriving.proofs.judging.judge.Statement.{statement}
 use Rattle.arriving.proofs.judging.judge.Tie as tie
@@ -41,7 +41,7 @@ returns-3 c =
     let a = c .before .before .before .before .before .before .before .before .args in
     let t1 : leb (countIn (now (a .node))) (a .i) ≡ false = rw (c .before .before .before .before .before .before .count .ensures) at (lt-leb _ _ (c .before .before .before .before .before .if1 .left)) in
     let t2 : isClosed (a .e .state) ≡ false = sym (c .before .before .before .before .is-closed .ensures) ∙ c .before .before .before .if2 .left in
-    let t3 : delivers (a .t) ≡ true = sym (c .before .before .is-delivered .ensures) ∙ c .before .if3 .taken in
+    let t3 : carries (a .t) ≡ true = sym (c .before .before .is-delivered .ensures) ∙ c .before .if3 .taken in
     rw (t1, t2, t3) (c .judge-payload .ensures)
 
 judge-bare-requires : tie.Need-judge-bare-requires
@@ -52,7 +52,7 @@ returns-4 c =
     let a = c .before .before .before .before .before .before .before .before .args in
     let t1 : leb (countIn (now (a .node))) (a .i) ≡ false = rw (c .before .before .before .before .before .before .count .ensures) at (lt-leb _ _ (c .before .before .before .before .before .if1 .left)) in
     let t2 : isClosed (a .e .state) ≡ false = sym (c .before .before .before .before .is-closed .ensures) ∙ c .before .before .before .if2 .left in
-    let t3 : delivers (a .t) ≡ false = sym (c .before .before .is-delivered .ensures) ∙ c .before .if3 .left in
+    let t3 : carries (a .t) ≡ false = sym (c .before .before .is-delivered .ensures) ∙ c .before .if3 .left in
     rw (t1, t2, t3) (c .judge-bare .ensures)
 
 pub judge-spec : {M : Type 1} → statement M

@@ -6,7 +6,7 @@ use lib.Dec.{leb, ltb}
 use borrow.Author.Tests.{lt-ltb, le-ltb}
 use Rattle.waiting.specs.Acks.{waitingOf}
 use Rattle.ends.specs.Heads.{needIn}
-use Rattle.arriving.specs.Arriving.{answered}
+use Rattle.frame.specs.Types.{answered}
 use borrow.Author.Needs.{needs}
 use Rattle.arriving.proofs.judging.judge_bare.Statement.{statement}
 use Rattle.arriving.proofs.judging.judge_bare.Tie as tie

@@ -7,7 +7,8 @@ use borrow.Author.Tests.{lt-ltb, le-ltb, not-true, not-false}
 use Rattle.waiting.specs.Acks.{waitingOf}
 use Rattle.ends.specs.Heads.{needIn}
 use Rattle.ends.specs.States.{isOpen}
-use Rattle.arriving.specs.Arriving.{answered, blockRoom}
+use Rattle.arriving.specs.Arriving.{blockRoom}
+use Rattle.frame.specs.Types.{answered}
 use borrow.Author.Needs.{needs}
 use Rattle.arriving.proofs.judging.judge_payload.Statement.{statement}
 use Rattle.arriving.proofs.judging.judge_payload.Tie as tie

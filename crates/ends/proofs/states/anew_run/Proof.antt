@@ -1,5 +1,5 @@
 -- `ends::states::anew_run` meets its contract. Assumes nothing.
-use Rattle.ends.specs.States.{anew}
+use Rattle.ends.specs.Runs.{anew}
 use borrow.Author.Needs.{needs}
 use Rattle.ends.proofs.states.anew_run.Statement.{statement}
 use Rattle.ends.proofs.states.anew_run.Tie as tie

@@ -1,5 +1,5 @@
 use mathlib.Core.Path.{refl}
-use Rattle.ends.specs.States.{urgentGone}
+use Rattle.ends.specs.Runs.{urgentGone}
 use Rattle.ends.proofs.states.without_urgent.Statement.{statement}
 use Rattle.ends.proofs.states.without_urgent.Tie as tie
 use Rattle.ends.proofs.states.without_urgent.Reads as reads

@@ -1,0 +1,85 @@
+-- What holds of every machine that setup and calls can give, as far as laws of the machine and the promise lean on it:
+-- end points within their entry's bounds, and nothing waits that may not go out. That the machines which nodes stand for
+-- are sound is proved in crates/refinement. Assumes nothing.
+use Prim.Native.Nat.{ℕ, _≤_, _<_}
+use mathlib.Core.Path.{_≡_}
+use mathlib.Core.Bool.{Bool, true, false}
+use mathlib.Core.Option.{Option, some}
+use mathlib.Core.List.{List, List·Memᴰ}
+use lib.ListN.{length, getElem?}
+use Rattle.table.specs.Layout.{countOf, ownOf, protocolOf, entryOf}
+use Rattle.table.specs.Areas.{storeOf}
+use Rattle.table.specs.Rules.{goodTable}
+use Rattle.table.specs.declared.Entry.{Entry}
+use Rattle.ends.specs.States.{isSends}
+use Rattle.ends.specs.declared.State.{State}
+use Rattle.ends.specs.declared.State.the-variants.{Enabled, Open}
+use Rattle.machine.specs.Machine.{Number, End, Item, Sort, acks, resets, urgents, resends, datas, Machine}
+use Rattle.machine.specs.Machine.{mostAcks, offset, numberAt}
+
+-- a payload of 1 to P bytes
+pub record Sized (x : Entry) (p : List ℕ) : Type 0 where
+  pub some : 1 ≤ length p
+  pub most : length p ≤ x .largest
+
+-- an end point of the entry x
+pub record Bounded (x : Entry) (e : End) : Type 0 where
+  pub entry : e .entry ≡ x
+  pub start : e .start < 256
+  pub taken : length (e .numbers) ≤ x .window
+  pub places : length (e .places) ≡ x .window
+  pub payloads : (n : Number) → List·Memᴰ n (e .numbers) → Sized x (n .payload)
+  pub held : (p : List ℕ) → List·Memᴰ (some p) (e .places) → Sized x p
+  pub urgent : (p : List ℕ) → e .urgent ≡ some p → Sized x p
+
+-- ---- what may wait for end point e
+
+pub record WaitsAck (e : End) : Type 0 where
+  pub receives : isSends (e .entry .kind) ≡ false
+  pub opened : e .state ≡ Open
+
+pub record WaitsReset (e : End) (s : ℕ) : Type 0 where
+  pub sends : isSends (e .entry .kind) ≡ true
+  pub zero : s ≡ 0
+  pub timer : ℕ
+  pub sent : Bool
+  pub enabled : e .state ≡ Enabled timer sent
+
+pub record WaitsUrgent (e : End) (s : ℕ) : Type 0 where
+  pub sends : isSends (e .entry .kind) ≡ true
+  pub zero : s ≡ 0
+  pub payload : List ℕ
+  pub there : e .urgent ≡ some payload
+
+-- a number taken and not yet acknowledged
+pub record WaitsData (e : End) (s : ℕ) : Type 0 where
+  pub sends : isSends (e .entry .kind) ≡ true
+  pub opened : e .state ≡ Open
+  pub taken : offset e s < length (e .numbers)
+  pub missing : numberAt e s .acked ≡ false
+
+abbrev pub Waits : Sort → End → ℕ → Type 0
+Waits acks e s = WaitsAck e
+Waits resets e s = WaitsReset e s
+Waits urgents e s = WaitsUrgent e s
+Waits resends e s = WaitsData e s
+Waits datas e s = WaitsData e s
+
+pub record Owned (m : Machine) (q : Sort) (x : Item) : Type 0 where
+  pub end : End
+  pub there : getElem? (m .ends) (x .entry) ≡ some end
+  pub byte : x .number < 256
+  pub waits : Waits q end (x .number)
+
+-- ---- the whole, for the table that it was set up from
+
+pub record Sound (t : List ℕ) (m : Machine) : Type 0 where
+  pub table : goodTable t ≡ true
+  pub own : m .own ≡ ownOf t
+  pub protocol : m .protocol ≡ protocolOf t
+  pub need : m .need ≡ storeOf t
+  pub room : m .need ≤ m .room
+  pub count : length (m .ends) ≡ countOf t
+  pub bounded : (i : ℕ) (e : End) → getElem? (m .ends) i ≡ some e → Bounded (entryOf t i) e
+  pub owned : (q : Sort) (x : Item) → List·Memᴰ x (m .waiting q) → Owned m q x
+  pub few : length (m .waiting acks) ≤ mostAcks

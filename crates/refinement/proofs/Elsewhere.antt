@@ -1,0 +1,177 @@
+-- A call on one entry leaves what every other entry stands for; and what the whole node then stands for, from what that one entry and what
+-- waits stand for. Assumes nothing.
+use Prim.Native.Nat.{ℕ, _+_, _≤_, _<_}
+use mathlib.Core.Path.{_≡_, refl, sym, ap, subst, _∙_, fun-ext}
+use mathlib.Core.Logic.{_≢_}
+use mathlib.Core.Bool.{Bool, true, false, not, _&&_}
+use mathlib.Core.Option.{Option, none, some}
+use mathlib.Core.List.{List}
+use native.Mathlib.Omega.{arith}
+use lib.ListN.{length, take, drop, set}
+use lib.Dec.{eqb}
+use borrow.Author.Tests.{not-true, eq-eqb}
+use Rattle.units.specs.Refusals.{pick}
+use Rattle.memory.specs.Layout.{timerAt, retriesAt}
+use Rattle.window.specs.Windows.{held, Good as GoodWindow}
+use Rattle.table.specs.Layout.{countOf}
+use Rattle.table.specs.Areas.{storeOf}
+use Rattle.ends.specs.Ends.{endOf}
+use Rattle.ends.specs.Heads.{countIn}
+use Rattle.ends.specs.States.{isSends}
+use Rattle.ends.specs.declared.State.{State}
+use Rattle.ends.specs.declared.State.the-variants.{Closed, Enabled, Open, Failing}
+use Rattle.ends.specs.declared.EndPoint.{EndPoint}
+use Rattle.slots.specs.Slots.{cell, past, spot, timerIn, retriesIn}
+use Rattle.handing.specs.Handing.{urgentPayload}
+use Rattle.good.specs.Good.{Lists, Stated, Good}
+use Rattle.good.specs.Calls.{Memory}
+use Rattle.good.proofs.Known.{stated-as}
+use Rattle.good.proofs.Framing.{Within, Apart, entry-low, timer-owner, retries-owner}
+use Rattle.good.proofs.Stores.{urgent-low, areas-stay}
+use Rattle.good.proofs.Payloads.{s-filled, r-filled, Stored, unaltered, put, stored-long, payload-stays}
+use Rattle.machine.specs.Machine.{End, Item, Sort, Machine, node, listed}
+use Rattle.refinement.specs.Standing.{payloadFor, numberFor, placeFor, endFor, endAt, waitingFor, standsFor}
+use Rattle.refinement.proofs.Listing.{listed-ext, set-listed}
+
+-- ---- an end point stands for the same, in another book and store
+
+-- a test on two pieces, both true
+both-true : (a b : Bool) → (a && b) ≡ true → (a ≡ true) × (b ≡ true)
+both-true true b h = (refl, h)
+both-true false b h = absurd (let z : _≡_ {A = ℕ} 0 1 = cc in omega arith)
+
+module _ (st st′ b b′ : List ℕ) (i : ℕ) (e : EndPoint) where
+  abbrev Same : (List ℕ → ℕ → ℕ) → ℕ → Type 0
+  Same read k = read b′ (cell i (e .run .window) (past (e .run .window) k)) ≡ read b (cell i (e .run .window) (past (e .run .window) k))
+
+  places-same : ((k : ℕ) → isSends (e .entry .kind) ≡ false → held (e .run .window) k ≡ true → payloadFor st′ b′ i e k ≡ payloadFor st b i e k)
+      → (k : ℕ) → placeFor st′ b′ i e k ≡ placeFor st b i e k
+  places-same p k = sides (not (isSends (e .entry .kind)) && held (e .run .window) k) refl
+    where
+      sides : (t : Bool) → (not (isSends (e .entry .kind)) && held (e .run .window) k) ≡ t
+          → _≡_ {A = Option (List ℕ)} (pick t (some (payloadFor st′ b′ i e k)) none) (pick t (some (payloadFor st b i e k)) none)
+      sides true h = let z = both-true (not (isSends (e .entry .kind))) (held (e .run .window) k) h in ap some (p k (not-true (isSends (e .entry .kind)) (z .0)) (z .1))
+      sides false h = refl
+
+  numbers-same : (k : ℕ) → payloadFor st′ b′ i e k ≡ payloadFor st b i e k → Same retriesIn k → Same timerIn k → numberFor st′ b′ i e k ≡ numberFor st b i e k
+  numbers-same k p r t = rw (p, r, t)
+
+  urgent-same : (isSends (e .entry .kind) ≡ true → urgentPayload st′ e ≡ urgentPayload st e) → (isSends (e .entry .kind) ≡ false → e .run .urgent ≡ 0)
+      → _≡_ {A = Option (List ℕ)} (pick (eqb (e .run .urgent) 0) none (some (urgentPayload st′ e))) (pick (eqb (e .run .urgent) 0) none (some (urgentPayload st e)))
+  urgent-same s r = sides (isSends (e .entry .kind)) refl
+    where
+      sides : (t : Bool) → isSends (e .entry .kind) ≡ t
+          → _≡_ {A = Option (List ℕ)} (pick (eqb (e .run .urgent) 0) none (some (urgentPayload st′ e))) (pick (eqb (e .run .urgent) 0) none (some (urgentPayload st e)))
+      sides true h = rw (s h)
+      sides false h = rw (eq-eqb (e .run .urgent) 0 (r h))
+
+  pub end-same : ((k : ℕ) → k < e .run .taken → numberFor st′ b′ i e k ≡ numberFor st b i e k)
+      → ((k : ℕ) → isSends (e .entry .kind) ≡ false → held (e .run .window) k ≡ true → payloadFor st′ b′ i e k ≡ payloadFor st b i e k)
+      → (isSends (e .entry .kind) ≡ true → urgentPayload st′ e ≡ urgentPayload st e) → (isSends (e .entry .kind) ≡ false → e .run .urgent ≡ 0)
+      → endFor st′ b′ i e ≡ endFor st b i e
+  unfolding endFor
+  end-same ns ps us ur =
+      rw (
+        listed-ext (e .run .taken) (numberFor st′ b′ i e) (numberFor st b i e) ns,
+        listed-ext (e .entry .window) (placeFor st′ b′ i e) (placeFor st b i e) (λ k h. places-same ps k),
+        urgent-same us ur,
+      )
+
+-- ---- what Good says of numbers and Urgents
+
+module _ (t ws b : List ℕ) (l : Lists) (g : Good t ws b l) (i : ℕ) (li : i < countIn ws) where
+  abbrev e : EndPoint
+  e = endOf ws i
+
+  pub no-urgent : isSends (e .entry .kind) ≡ false → e .run .urgent ≡ 0
+  no-urgent k = sides (e .state) (stated-as b l i e (g .entered i li) false k (e .state) refl)
+    where
+      sides : (s : State) → Stated b l i e false s → e .run .urgent ≡ 0
+      sides Closed a = a .fresh .urgent
+      sides (Enabled t sent) a = a .0 .fresh .urgent
+      sides Open a = a .receiving .urgent
+      sides (Failing n) a = absurd a
+
+  pub none-taken : isSends (e .entry .kind) ≡ false → e .run .taken ≡ 0
+  none-taken k = sides (e .state) (stated-as b l i e (g .entered i li) false k (e .state) refl)
+    where
+      sides : (s : State) → Stated b l i e false s → e .run .taken ≡ 0
+      sides Closed a = a .fresh .taken
+      sides (Enabled t sent) a = a .0 .fresh .taken
+      sides Open a = a .receiving .taken
+      sides (Failing n) a = absurd a
+
+  pub urgent-most : isSends (e .entry .kind) ≡ true → e .run .urgent ≤ e .entry .largest
+  urgent-most k = sides (e .state) (stated-as b l i e (g .entered i li) true k (e .state) refl)
+    where
+      sides : (s : State) → Stated b l i e true s → e .run .urgent ≤ e .entry .largest
+      sides Closed a = let z = a .fresh .urgent in omega arith
+      sides (Enabled t sent) a = let z = a .fresh .urgent in omega arith
+      sides Open a = a .sending .urgent
+      sides (Failing n) a = a .sending .urgent
+
+-- ---- elsewhere: a call on entry j, seen from entry i
+
+module _ (t : List ℕ) (n m : Memory) (l l′ : Lists) (g : Good t (n .node) (n .book) l) (room : storeOf t ≤ length (n .store)) (i j : ℕ) (li : i < countIn (n .node)) (d : i ≢ j)
+    (a : Apart j (n .node) (m .node)) (v : Within j (n .book) (m .book) l l′) (st : Stored t n (m .store) j) where
+  abbrev was : EndPoint
+  was = endOf (n .node) i
+
+  low : i < 16
+  low = entry-low t (n .node) (n .book) l g i li
+
+  window : GoodWindow (was .run .window)
+  window = g .entered i li .window
+
+  retries-stay : (k : ℕ) → Same (n .store) (m .store) (n .book) (m .book) i was retriesIn k
+  retries-stay k =
+      v .cells (retriesAt (cell i (was .run .window) (past (was .run .window) k))) (omega arith)
+      (λ c. d (sym (retries-owner i low (was .run .window) window (past (was .run .window) k)) ∙ c))
+
+  timer-stays : (k : ℕ) → Same (n .store) (m .store) (n .book) (m .book) i was timerIn k
+  timer-stays k =
+      v .cells (timerAt (cell i (was .run .window) (past (was .run .window) k))) (omega arith)
+      (λ c. d (sym (timer-owner i low (was .run .window) window (past (was .run .window) k)) ∙ c))
+
+  payload-there : (k : ℕ) → payloadFor (m .store) (m .book) i (endOf (m .node) i) k ≡ payloadFor (n .store) (n .book) i was k
+      → payloadFor (m .store) (m .book) i was k ≡ payloadFor (n .store) (n .book) i was k
+  payload-there k h = subst (λ (e : EndPoint). payloadFor (m .store) (m .book) i e k ≡ payloadFor (n .store) (n .book) i was k) (a .others i d) h
+
+  urgent-stays : isSends (was .entry .kind) ≡ true → urgentPayload (m .store) was ≡ urgentPayload (n .store) was
+  urgent-stays k = read st
+    where
+      read : Stored t n (m .store) j → urgentPayload (m .store) was ≡ urgentPayload (n .store) was
+      read (unaltered e) = rw e
+      read (put r p hj hr hp e) =
+          rw e (areas-stay t (n .node) (n .book) l g i j (was .run .window .size) r (was .run .urgent) (n .store) p li hj
+          (urgent-low t (n .node) (n .book) l g i li k) hr (urgent-most t (n .node) (n .book) l g i li k) hp room d)
+
+  taken-stays : (k : ℕ) → k < was .run .taken → payloadFor (m .store) (m .book) i was k ≡ payloadFor (n .store) (n .book) i was k
+  taken-stays k h = sides (isSends (was .entry .kind)) refl
+    where
+      sides : (s : Bool) → isSends (was .entry .kind) ≡ s → payloadFor (m .store) (m .book) i was k ≡ payloadFor (n .store) (n .book) i was k
+      sides true s = payload-there k (payload-stays t n m l l′ g room i j li d a v st k (s-filled t (n .node) (n .book) l g i li s k h))
+      sides false s = absurd (omega (arith, none-taken t (n .node) (n .book) l g i li s))
+
+  pub elsewhere : endAt m i ≡ endAt n i
+  elsewhere =
+      ap (endFor (m .store) (m .book) i) (a .others i d)
+      ∙ end-same (n .store) (m .store) (n .book) (m .book) i was
+      (λ k h. numbers-same (n .store) (m .store) (n .book) (m .book) i was k (taken-stays k h) (retries-stay k) (timer-stays k))
+      (λ k s h. payload-there k (payload-stays t n m l l′ g room i j li d a v st k (r-filled t (n .node) (n .book) l g i li s k h)))
+      urgent-stays (no-urgent t (n .node) (n .book) l g i li)
+
+-- ---- the whole node
+
+-- where entry j stands for e now, and what waits for w
+pub turned-stands : (t : List ℕ) (n m : Memory) (l l′ : Lists) (g : Good t (n .node) (n .book) l) → storeOf t ≤ length (n .store) → (j : ℕ) → j < countIn (n .node)
+    → Apart j (n .node) (m .node) → Within j (n .book) (m .book) l l′ → Stored t n (m .store) j
+    → (e : End) (w : Sort → List Item) → endAt m j ≡ e → ((q : Sort) → waitingFor (m .node) l′ q ≡ w q)
+    → standsFor t m l′ ≡ node (standsFor t n l) (set (listed (countOf t) (endAt n)) j e) w
+turned-stands t n m l l′ g room j lj a v st e w here waits =
+    let c = g .tabled .count in
+    rw (
+      stored-long t n (m .store) j st,
+      set-listed (countOf t) (endAt n) (endAt m) j e (omega arith) here (λ i h d. elsewhere t n m l l′ g room i j (omega arith) d a v st),
+      fun-ext waits,
+    )

@@ -1,0 +1,395 @@
+-- A tick over a sender's numbers, in the machine and in the book: as far as it has come, which timers fell, which were tried again, and
+-- whether the end is Failing. Assumes nothing.
+use Prim.Native.Nat.{ℕ, zero, suc, _+_, _-_, _≤_, _<_}
+use mathlib.Core.Path.{_≡_, refl, sym, ap, subst, _∙_, fun-ext}
+use mathlib.Core.Logic.{_≢_}
+use mathlib.Core.Bool.{Bool, true, false, not, _&&_, _||_}
+use mathlib.Core.List.{List, [], _∷_, _++_, append-nil, append-assoc, List·Memᴰ}
+use native.Mathlib.Decide.{decLt, ℕ-discrete}
+use native.Mathlib.Omega.{arith}
+use lib.ListN.{length, getD, set, take, drop, length-set}
+use lib.Seq.{getD-set-same, getD-set-other}
+use lib.Dec.{eqb, leb, ltb}
+use borrow.Author.Tests.{eq-eqb, ne-eqb, lt-ltb, le-ltb, le-leb, lt-leb, eqb-true, eqb-false, ltb-true, ltb-false}
+use Rattle.units.specs.Refusals.{pick}
+use Rattle.memory.specs.Layout as layout
+use Rattle.memory.specs.Layout.{timerAt, retriesAt, slotId}
+use Rattle.waiting.specs.Queues.{appended}
+use Rattle.window.specs.Windows.{held, Good as GoodWindow}
+use Rattle.window.specs.declared.Window.{Window}
+use Rattle.ends.specs.declared.EndPoint.{EndPoint}
+use Rattle.slots.specs.Slots.{slotFor, cell, spot, past, timerIn, retriesIn, idled}
+use Rattle.ticking.specs.Ticking as memory
+use Rattle.ticking.specs.Ticking.{Ticked, expired, tickCell, tickSlot, tickSlots}
+use Rattle.good.specs.Good.{Lists, Lines, OpenSender, Sending, Good, idAt}
+use Rattle.good.proofs.Lined.{added, append-cells, append-lines, set-lines}
+use Rattle.good.proofs.Offsets.{id-high, cell-inj}
+use Rattle.good.proofs.Framing.{cell-low}
+use Rattle.good.proofs.Idling.{idle}
+use Rattle.good.proofs.TickSlots.{Lives, runs-alone, Slots, slots-first}
+use Rattle.machine.specs.Machine.{Number, listed, isSpent, fallen, tickedAll, anySpent}
+use Rattle.refinement.specs.Standing.{payloadFor, numberFor}
+use Rattle.refinement.proofs.Listing.{listed-ext}
+use Rattle.refinement.proofs.Following.{lists-are}
+
+-- ---- the machine's, from the front and from the back
+
+-- none so far was spent
+unfoldable pub flag : ℕ → Bool → List Number → Bool
+flag M a [] = a
+flag M a (x ∷ xs) = flag M (a && not (isSpent M x)) xs
+
+flag-snoc : (M : ℕ) (a : Bool) (xs : List Number) (x : Number) → flag M a (xs ++ (x ∷ [])) ≡ (flag M a xs && not (isSpent M x))
+unfolding flag
+flag-snoc M a [] x = refl
+flag-snoc M a (y ∷ ys) x = flag-snoc M (a && not (isSpent M y)) ys x
+
+ticked-snoc : (M : ℕ) (a : Bool) (xs : List Number) (x : Number) → tickedAll M a (xs ++ (x ∷ [])) ≡ tickedAll M a xs ++ (fallen (flag M a xs && not (isSpent M x)) x ∷ [])
+unfolding flag tickedAll
+ticked-snoc M a [] x = refl
+ticked-snoc M a (y ∷ ys) x = ap (λ (l : List Number). fallen (a && not (isSpent M y)) y ∷ l) (ticked-snoc M (a && not (isSpent M y)) ys x)
+
+pub and-false : (a : Bool) → (a && false) ≡ false
+and-false true = refl
+and-false false = refl
+
+pub flag-spent : (M : ℕ) (a : Bool) (xs : List Number) → flag M a xs ≡ (a && not (anySpent M xs))
+unfolding flag anySpent
+flag-spent M true [] = refl
+flag-spent M false [] = refl
+flag-spent M a (x ∷ xs) = flag-spent M (a && not (isSpent M x)) xs ∙ sides a (isSpent M x) (anySpent M xs)
+  where
+    sides : (a b c : Bool) → ((a && not b) && not c) ≡ (a && not (b || c))
+    sides true true c = refl
+    sides true false c = refl
+    sides false b c = refl
+
+module _ (M : ℕ) (a : Bool) (N : ℕ → Number) where
+  abbrev on : ℕ → Bool
+  on k = flag M a (listed k N)
+
+  on-more : (k : ℕ) → on (suc k) ≡ (on k && not (isSpent M (N k)))
+  unfolding listed
+  on-more k = flag-snoc M a (listed k N) (N k)
+
+  pub ticked-listed : (n : ℕ) → tickedAll M a (listed n N) ≡ listed n (λ j. fallen (on (suc j)) (N j))
+  unfolding listed tickedAll
+  ticked-listed zero = refl
+  ticked-listed (suc n) =
+      ticked-snoc M a (listed n N) (N n)
+      ∙ rw (ticked-listed n) (ap (λ (z : Bool). listed n (λ j. fallen (on (suc j)) (N j)) ++ (fallen z (N n) ∷ [])) (sym (on-more n)))
+
+-- ---- the book's, as far as it has come
+
+module _ (st b : List ℕ) (l : Lists) (L : Lines b l) (i : ℕ) (low : i < 16) (e : EndPoint) (g : GoodWindow (e .run .window)) (f : Bool) (lives : Lives f b l i e) (wide : e .run .handed ≤ e .run .window .size) where
+  abbrev w : Window
+  w = e .run .window
+
+  abbrev at : ℕ → ℕ
+  at k = cell i w (past w k)
+
+  abbrev M : ℕ
+  M = e .entry .retries
+
+  abbrev N : ℕ → Number
+  N = numberFor st b i e
+
+  abbrev good-to : ℕ → Bool
+  good-to = on M (not f) N
+
+  abbrev turns : ℕ → Ticked
+  turns k = tickSlots i e k (record { book = b; failing = f; running = 0 })
+
+  slots : (k : ℕ) → k ≤ e .run .handed → Slots i low e g b l k (turns k)
+  slots k h = slots-first i low e g b l L f lives k h
+
+  -- those tried again so far
+  unfoldable pub again : ℕ → List ℕ
+  again zero = []
+  again (suc k) = pick (eqb (timerIn b (at k)) 1) (again k ++ (idAt i w k ∷ [])) (again k)
+
+  pub record Come (k : ℕ) (t : Ticked) : Type 0 where
+    pub failing : t .failing ≡ not (good-to k)
+    pub fell : (j : ℕ) → j < k → timerIn (t .book) (at j) ≡ timerIn b (at j) - 1
+    pub stands : (j : ℕ) → k ≤ j → j < w .size → timerIn (t .book) (at j) ≡ timerIn b (at j)
+    pub tried : (j : ℕ) → j < k → retriesIn (t .book) (at j) ≡ pick (good-to (suc j) && eqb (timerIn b (at j)) 1) (retriesIn b (at j) + 1) (retriesIn b (at j))
+    pub untried : (j : ℕ) → k ≤ j → j < w .size → retriesIn (t .book) (at j) ≡ retriesIn b (at j)
+    pub queued : good-to k ≡ true → Lines (t .book) (λ r. pick (eqb r layout.resends) (l r ++ again k) (l r))
+
+  -- ---- one number further
+
+  module _ (k : ℕ) (hk : k < e .run .handed) (t : Ticked) (C : Come k t) where
+    abbrev v : ℕ
+    v = timerIn b (at k)
+
+    abbrev r : ℕ
+    r = retriesIn b (at k)
+
+    inside : k < w .size
+    inside = omega arith
+
+    here : timerIn (t .book) (at k) ≡ v
+    here = C .stands k (omega arith) inside
+
+    r-here : retriesIn (t .book) (at k) ≡ r
+    r-here = C .untried k (omega arith) inside
+
+    on-next : good-to (suc k) ≡ (good-to k && not (eqb v 1 && leb M r))
+    on-next = on-more M (not f) N k ∙ rw (lt-ltb k (e .run .handed) hk)
+
+    at-small : (j : ℕ) → at j < 2048
+    at-small j = cell-low i low w g (past w j)
+
+    other : (j : ℕ) → j < w .size → j ≢ k → at j ≢ at k
+    other j h d z = d (cell-inj w g i j k h inside z)
+
+    -- a book in which only this number's timer and retries are others
+    record Moved (b′ : List ℕ) : Type 0 where
+      timer : timerIn b′ (at k) ≡ v - 1
+      timers : (j : ℕ) → j < w .size → j ≢ k → timerIn b′ (at j) ≡ timerIn (t .book) (at j)
+      retries : retriesIn b′ (at k) ≡ pick (good-to (suc k) && eqb v 1) (r + 1) r
+      others : (j : ℕ) → j < w .size → j ≢ k → retriesIn b′ (at j) ≡ retriesIn (t .book) (at j)
+
+    further : (t′ : Ticked) → t′ .failing ≡ not (good-to (suc k)) → Moved (t′ .book)
+        → (good-to (suc k) ≡ true → Lines (t′ .book) (λ r. pick (eqb r layout.resends) (l r ++ again (suc k)) (l r))) → Come (suc k) t′
+    further t′ fails m q =
+        record {
+          failing = fails;
+          fell = λ j h. fell j h (ℕ-discrete j k);
+          stands = λ j h s. m .timers j s (λ z. omega arith) ∙ C .stands j (omega arith) s;
+          tried = λ j h. tried j h (ℕ-discrete j k);
+          untried = λ j h s. m .others j s (λ z. omega arith) ∙ C .untried j (omega arith) s;
+          queued = q;
+        }
+      where
+        fell : (j : ℕ) → j < suc k → Dec (j ≡ k) → timerIn (t′ .book) (at j) ≡ timerIn b (at j) - 1
+        fell j h (yes z) = rw z (m .timer)
+        fell j h (no z) = m .timers j (omega arith) z ∙ C .fell j (omega arith)
+
+        tried : (j : ℕ) → j < suc k → Dec (j ≡ k) → retriesIn (t′ .book) (at j) ≡ pick (good-to (suc j) && eqb (timerIn b (at j)) 1) (retriesIn b (at j) + 1) (retriesIn b (at j))
+        tried j h (yes z) = rw z (m .retries)
+        tried j h (no z) = m .others j (omega arith) z ∙ C .tried j (omega arith)
+
+    -- where its timer does not come to zero it is not tried again, and all goes on as it was
+    quiet : eqb v 1 ≡ false → (good-to (suc k) ≡ good-to k) × (again (suc k) ≡ again k) × (pick (good-to (suc k) && eqb v 1) (r + 1) r ≡ r)
+    unfolding again
+    quiet z = (on-next ∙ rw z (and-true (good-to k)), rw z, rw z (ap (λ (y : Bool). pick y (r + 1) r) (and-false (good-to (suc k)))))
+      where
+        and-true : (a : Bool) → (a && true) ≡ a
+        and-true true = refl
+        and-true false = refl
+
+    -- a timer put anew, and nothing else
+    timer-moved : (c : List ℕ) → ((x : ℕ) → 4224 ≤ x → getD c x 0 ≡ getD (t .book) x 0) → length c ≡ 10368 → (y : ℕ) → y ≡ v - 1 → pick (good-to (suc k) && eqb v 1) (r + 1) r ≡ r
+        → Moved (set c (timerAt (at k)) y)
+    timer-moved c same long y is none =
+        record {
+          timer = getD-set-same c (timerAt (at k)) y 0 (let z = at-small k in omega arith) ∙ is;
+          timers = λ j h d. getD-set-other c (timerAt (at k)) (timerAt (at j)) y 0 (λ z. other j h d (omega arith)) ∙ same (timerAt (at j)) (omega arith);
+          retries = getD-set-other c (timerAt (at k)) (retriesAt (at k)) y 0 (λ z. let u = at-small k in omega arith) ∙ same (retriesAt (at k)) (omega arith) ∙ r-here ∙ sym none;
+          others = λ j h d. getD-set-other c (timerAt (at k)) (retriesAt (at j)) y 0 (λ z. let u = at-small k in omega arith) ∙ same (retriesAt (at j)) (omega arith);
+        }
+
+  module _ (k : ℕ) (hk : k < e .run .handed) (C : Come k (turns k)) where
+    abbrev t : Ticked
+    t = turns k
+
+    S : Slots i low e g b l k t
+    S = slots k (omega arith)
+
+    long : length (t .book) ≡ 10368
+    long = S .within .lines .long
+
+    abbrev v₁ : ℕ
+    v₁ = timerIn b (at k)
+
+    abbrev r₁ : ℕ
+    r₁ = retriesIn b (at k)
+
+    abbrev Next : Ticked → Type 0
+    Next t′ = Come (suc k) t′
+
+    -- it does not run
+    rests : v₁ ≡ 0 → Next t
+    rests z =
+        let q = quiet k hk t C (rw z refl) in
+        further k hk t C t (C .failing ∙ ap not (sym (q .0)))
+        (record {
+          timer = here k hk t C ∙ (let u : v₁ ≡ v₁ - 1 = omega arith in u);
+          timers = λ j h d. refl;
+          retries = r-here k hk t C ∙ sym (q .2);
+          others = λ j h d. refl;
+        })
+        (λ y. rw (q .1) (C .queued (sym (q .0) ∙ y)))
+
+    -- it runs on
+    runs : eqb v₁ 1 ≡ false → (x : ℕ) → Next (record { book = set (t .book) (timerAt (at k)) (timerIn (t .book) (at k) - 1); failing = t .failing; running = x })
+    runs z x =
+        let q = quiet k hk t C z in
+        further k hk t C (record { book = set (t .book) (timerAt (at k)) (timerIn (t .book) (at k) - 1); failing = t .failing; running = x }) (C .failing ∙ ap not (sym (q .0)))
+        (timer-moved k hk t C (t .book) (λ y h. refl) long (timerIn (t .book) (at k) - 1) (ap (λ (y : ℕ). y - 1) (here k hk t C)) (q .2))
+        (λ y. rw (q .1) (set-lines (t .book) _ (C .queued (sym (q .0) ∙ y)) (timerAt (at k)) (timerIn (t .book) (at k) - 1) (omega arith)))
+
+    -- it comes to zero at an end that is Failing: nothing is tried again
+    ends : v₁ ≡ 1 → good-to k ≡ false → (x : ℕ) → Next (record { book = set (t .book) (timerAt (at k)) 0; failing = true; running = x })
+    ends z y x =
+        let o : good-to (suc k) ≡ false = on-next k hk t C ∙ rw y in
+        further k hk t C (record { book = set (t .book) (timerAt (at k)) 0; failing = true; running = x }) (sym (rw o))
+        (timer-moved k hk t C (t .book) (λ u h. refl) long 0 (let u : 0 ≡ v₁ - 1 = omega arith in u) (rw o))
+        (λ u. absurd (let p : _≡_ {A = ℕ} 0 1 = cc in omega arith))
+
+    -- at one that is not: tried again
+    o-open : t .failing ≡ false → OpenSender (t .book) (S .lists) i e
+    o-open z = subst (λ (y : Bool). Lives y (t .book) (S .lists) i e) z (S .lives)
+
+    alone : t .failing ≡ false → v₁ ≡ 1 → (q : ℕ) → q < 4 → List·Memᴰ (idAt i w k) (S .lists q) → ⊥
+    alone z y = runs-alone i low e g (t .book) (S .lists) (o-open z) k hk (λ u. let p = here k hk t C in omega arith)
+
+    fails-not : good-to k ≡ true → t .failing ≡ false
+    fails-not y = C .failing ∙ rw y
+
+    spends-not : leb M r₁ ≡ false → good-to k ≡ true → good-to (suc k) ≡ true
+    spends-not z y = on-next k hk t C ∙ rw (y, z) (ap not (and-false (eqb v₁ 1)))
+
+    abbrev tried-book : List ℕ
+    tried-book = set (set (t .book) (timerAt (at k)) 0) (retriesAt (at k)) (retriesIn (t .book) (at k) + 1)
+
+    tries : v₁ ≡ 1 → good-to k ≡ true → leb M r₁ ≡ false → (x : ℕ) → Next (record { book = appended tried-book layout.resends (slotId (at k)); failing = false; running = x })
+    unfolding again
+    tries z y u x =
+        let o = spends-not u y in
+        further k hk t C (record { book = appended tried-book layout.resends (slotId (at k)); failing = false; running = x }) (sym (rw o))
+        (record {
+          timer = cells (timerAt (at k)) (omega arith) ∙ getD-set-other (set (t .book) (timerAt (at k)) 0) (retriesAt (at k)) (timerAt (at k)) _ 0 (λ p. let a = at-small k hk t C k in omega arith)
+              ∙ getD-set-same (t .book) (timerAt (at k)) 0 0 (let a = at-small k hk t C k in omega (arith, long)) ∙ (let a : 0 ≡ v₁ - 1 = omega arith in a);
+          timers = λ j h d. cells (timerAt (at j)) (omega arith) ∙ getD-set-other (set (t .book) (timerAt (at k)) 0) (retriesAt (at k)) (timerAt (at j)) _ 0 (λ p. let a = at-small k hk t C j in omega arith)
+              ∙ getD-set-other (t .book) (timerAt (at k)) (timerAt (at j)) 0 0 (λ p. other k hk t C j h d (omega arith));
+          retries = cells (retriesAt (at k)) (omega arith) ∙ getD-set-same (set (t .book) (timerAt (at k)) 0) (retriesAt (at k)) _ 0 (let a = at-small k hk t C k in omega (arith, long, length-set (t .book) (timerAt (at k)) 0))
+              ∙ ap (λ (a : ℕ). a + 1) (r-here k hk t C) ∙ sym (rw (o, z));
+          others = λ j h d. cells (retriesAt (at j)) (omega arith) ∙ getD-set-other (set (t .book) (timerAt (at k)) 0) (retriesAt (at k)) (retriesAt (at j)) _ 0 (λ p. other k hk t C j h d (omega arith))
+              ∙ getD-set-other (t .book) (timerAt (at k)) (retriesAt (at j)) 0 0 (λ p. let a = at-small k hk t C k in omega arith);
+        })
+        (λ p. rw z (subst (Lines (appended tried-book layout.resends (slotId (at k)))) (fun-ext joins)
+        (append-lines tried-book mine-lists put-lines layout.resends (slotId (at k)) (omega arith) (omega arith) (id-high i low w g k) none)))
+      where
+        mine-lists : Lists
+        mine-lists = λ r. pick (eqb r layout.resends) (l r ++ again k) (l r)
+
+        old-lines : Lines (t .book) mine-lists
+        old-lines = C .queued y
+
+        put-lines : Lines tried-book mine-lists
+        put-lines = set-lines (set (t .book) (timerAt (at k)) 0) mine-lists (set-lines (t .book) mine-lists old-lines (timerAt (at k)) 0 (omega arith)) (retriesAt (at k)) _ (omega arith)
+
+        none : (q : ℕ) → q < 4 → List·Memᴰ (slotId (at k)) (mine-lists q) → ⊥
+        none q h m = alone (fails-not y) z q h (subst (λ (xs : List ℕ). List·Memᴰ (slotId (at k)) xs) (lists-are (t .book) (t .book) mine-lists (S .lists) refl old-lines (S .within .lines) q h) m)
+
+        cells : (c : ℕ) → 4224 ≤ c → getD (appended tried-book layout.resends (slotId (at k))) c 0 ≡ getD tried-book c 0
+        cells = append-cells tried-book mine-lists put-lines layout.resends (slotId (at k)) (omega arith) (omega arith) (id-high i low w g k) none
+
+        joins : (q : ℕ) → added mine-lists layout.resends (slotId (at k)) q ≡ pick (eqb q layout.resends) (l q ++ (again k ++ (idAt i w k ∷ []))) (l q)
+        joins q = sides (eqb q layout.resends)
+          where
+            sides : (a : Bool) → pick a (pick a (l q ++ again k) (l q) ++ (slotId (at k) ∷ [])) (pick a (l q ++ again k) (l q)) ≡ pick a (l q ++ (again k ++ (idAt i w k ∷ []))) (l q)
+            sides true = append-assoc (l q) (again k) (slotId (at k) ∷ [])
+            sides false = refl
+
+    -- or spent: the end is Failing, and what of it waits goes
+    spends : v₁ ≡ 1 → good-to k ≡ true → leb M r₁ ≡ true → (x : ℕ)
+        → Next (record { book = set (idled i w (e .run .handed) (e .run .taken) (e .run .urgent) (t .book)) (timerAt (at k)) 0; failing = true; running = x })
+    spends z y u x =
+        let o : good-to (suc k) ≡ false = on-next k hk t C ∙ rw (y, u, z) in
+        let I = idle (t .book) (S .lists) i low (S .within .lines) e g (o-open (fails-not y)) in
+        further k hk t C (record { book = set (idled i w (e .run .handed) (e .run .taken) (e .run .urgent) (t .book)) (timerAt (at k)) 0; failing = true; running = x }) (sym (rw o))
+        (timer-moved k hk t C (idled i w (e .run .handed) (e .run .taken) (e .run .urgent) (t .book)) (I .cells) (I .within .lines .long) 0 (let a : 0 ≡ v₁ - 1 = omega arith in a) (rw o))
+        (λ p. absurd (let a : _≡_ {A = ℕ} 0 1 = cc in omega arith))
+
+    -- all of them
+    not-flips : (a c : Bool) → a ≡ not c → c ≡ not a
+    not-flips true true h = absurd (let z : _≡_ {A = ℕ} 0 1 = cc in omega arith)
+    not-flips true false h = refl
+    not-flips false true h = refl
+    not-flips false false h = absurd (let z : _≡_ {A = ℕ} 0 1 = cc in omega arith)
+
+    abbrev n₁ : ℕ
+    n₁ = timerIn (t .book) (at k)
+
+    v-is : (y : ℕ) → eqb n₁ y ≡ true → v₁ ≡ y
+    v-is y h = sym (here k hk t C) ∙ eqb-true n₁ y h
+
+    by-end : v₁ ≡ 1 → (a : Bool) → t .failing ≡ a → (c : Bool) → ltb (retriesIn (t .book) (at k)) M ≡ c
+        → Next (pick a (record { book = set (t .book) (timerAt (at k)) 0; failing = true; running = t .running })
+        (pick c (record { book = appended tried-book layout.resends (slotId (at k)); failing = false; running = t .running })
+        (record { book = set (idled i w (e .run .handed) (e .run .taken) (e .run .urgent) (t .book)) (timerAt (at k)) 0; failing = true; running = t .running })))
+    by-end z true h c q = ends z (not-flips true (good-to k) (sym h ∙ C .failing)) (t .running)
+    by-end z false h true q =
+        tries z (not-flips false (good-to k) (sym h ∙ C .failing)) (lt-leb M r₁ (let y = ltb-true (retriesIn (t .book) (at k)) M q in let u = r-here k hk t C in omega arith)) (t .running)
+    by-end z false h false q =
+        spends z (not-flips false (good-to k) (sym h ∙ C .failing)) (le-leb M r₁ (let y = ltb-false (retriesIn (t .book) (at k)) M q in let u = r-here k hk t C in omega arith)) (t .running)
+
+    by-timer : (a : Bool) → eqb n₁ 0 ≡ a → (c : Bool) → eqb n₁ 1 ≡ c
+        → Next (pick a t (pick c (expired i e (at k) t) (record { book = set (t .book) (timerAt (at k)) (n₁ - 1); failing = t .failing; running = t .running + 1 })))
+    by-timer true h c q = rests (v-is 0 h)
+    by-timer false h true q = by-end (v-is 1 q) (t .failing) refl (ltb (retriesIn (t .book) (at k)) M) refl
+    by-timer false h false q = runs (ap (λ (y : ℕ). eqb y 1) (sym (here k hk t C)) ∙ q) (t .running + 1)
+
+    step : Next (tickSlot i e k t)
+    unfolding tickSlot
+    step = by-timer (eqb n₁ 0) refl (eqb n₁ 1) refl
+
+  pub come : (k : ℕ) → k ≤ e .run .handed → Come k (turns k)
+  unfolding tickSlots flag listed again
+  come zero h =
+      record {
+        failing = not-not f;
+        fell = λ j l. absurd (omega arith);
+        stands = λ j l s. refl;
+        tried = λ j l. absurd (omega arith);
+        untried = λ j l s. refl;
+        queued = λ y. subst (Lines b) (fun-ext (λ r. same r (eqb r layout.resends))) L;
+      }
+    where
+      not-not : (a : Bool) → a ≡ not (not a)
+      not-not true = refl
+      not-not false = refl
+
+      same : (r : ℕ) (a : Bool) → l r ≡ pick a (l r ++ []) (l r)
+      same r true = sym (append-nil (l r))
+      same r false = refl
+  come (suc k) h = step k (omega arith) (come k (omega arith))
+
+  -- ---- the numbers then
+
+  pub on-beyond : (k : ℕ) → e .run .handed ≤ k → good-to k ≡ good-to (e .run .handed)
+  on-beyond zero h = let z : 0 ≡ e .run .handed = omega arith in ap good-to z
+  on-beyond (suc k) h = sides (on-beyond k) (decLt k (e .run .handed))
+    where
+      sides : (e .run .handed ≤ k → good-to k ≡ good-to (e .run .handed)) → Dec (k < e .run .handed) → good-to (suc k) ≡ good-to (e .run .handed)
+      sides below (yes d) = let z : suc k ≡ e .run .handed = omega arith in ap good-to z
+      sides below (no d) = on-more M (not f) N k ∙ rw (le-ltb k (e .run .handed) (omega arith)) (and-one (good-to k)) ∙ below (omega arith)
+        where
+          and-one : (a : Bool) → (a && true) ≡ a
+          and-one true = refl
+          and-one false = refl
+
+  -- of an end point with the same window and counts, in the book that is left
+  module _ (e′ : EndPoint) (same-place : e′ .place ≡ e .place) (same-entry : e′ .entry ≡ e .entry) (same-window : e′ .run .window ≡ w) (same-handed : e′ .run .handed ≡ e .run .handed) (narrow : e .run .taken ≤ w .size) where
+    abbrev b′ : List ℕ
+    b′ = turns (e .run .handed) .book
+
+    C′ : Come (e .run .handed) (turns (e .run .handed))
+    C′ = come (e .run .handed) (omega arith)
+
+    payload-stays : (j : ℕ) → payloadFor st b′ i e′ j ≡ payloadFor st b i e j
+    payload-stays j = rw (same-place, same-entry, same-window) (ap (λ (m : ℕ). take m (drop (spot (e .place) (e .entry .largest) (slotFor w (past w j))) st)) (slots (e .run .handed) (omega arith) .lengths (at j) (cell-low i low w g (past w j))))
+
+    number-falls : (j : ℕ) → j < e .run .taken → Dec (j < e .run .handed) → numberFor st b′ i e′ j ≡ fallen (good-to (suc j)) (N j)
+    number-falls j h (yes d) =
+        rw (payload-stays j, same-window, same-handed, lt-ltb j (e .run .handed) d, C′ .tried j d, C′ .fell j d)
+    number-falls j h (no d) =
+        rw (payload-stays j, same-window, same-handed, le-ltb j (e .run .handed) (omega arith), C′ .untried j (omega arith) (omega arith), and-false (good-to (suc j)))
+
+    pub numbers-fall : listed (e .run .taken) (numberFor st b′ i e′) ≡ tickedAll M (not f) (listed (e .run .taken) N)
+    numbers-fall =
+        listed-ext (e .run .taken) (numberFor st b′ i e′) (λ j. fallen (good-to (suc j)) (N j)) (λ j h. number-falls j h (decLt j (e .run .handed)))
+        ∙ sym (ticked-listed M (not f) N (e .run .taken))

@@ -1,0 +1,115 @@
+-- Which machine a node's memory stands for, and the whole theorem: setup stands for the machine begun, and each call on what stands for a
+-- machine answers as the machine and leaves what stands for the machine afterwards. Assumes nothing.
+use Prim.Native.Nat.{ℕ, _+_, _/_, _%_, _≤_}
+use mathlib.Core.Path.{_≡_}
+use mathlib.Core.Bool.{not, _&&_}
+use mathlib.Core.Option.{Option, none, some}
+use mathlib.Core.List.{List, map}
+use lib.ListN.{length}
+use lib.Dec.{eqb, ltb}
+use Rattle.units.specs.Refusals.{pick}
+use Rattle.memory.specs.Layout as layout
+use Rattle.order.specs.Order.{acksIn}
+use Rattle.window.specs.Windows.{held}
+use Rattle.table.specs.Layout.{countOf, ownOf, protocolOf}
+use Rattle.table.specs.Areas.{storeOf}
+use Rattle.ends.specs.Ends.{endOf}
+use Rattle.ends.specs.States.{isSends}
+use Rattle.ends.specs.declared.EndPoint.{EndPoint}
+use Rattle.slots.specs.Slots.{cell, past, numberIn, timerIn, retriesIn}
+use Rattle.blocks.specs.Payloads.{payloadAt}
+use Rattle.handing.specs.Handing.{slotIn, urgentPayload}
+use Rattle.good.specs.Good.{Lists, Good, ownerOf}
+use Rattle.good.specs.Calls.{Memory, answer, after, SetUp, Reach}
+use Rattle.machine.specs.Calls.{Call, Fed}
+use Rattle.machine.specs.Machine.{Number, End, Item, Sort, acks, resets, urgents, resends, datas, Machine, listed, begun, step}
+
+-- ---- an end point, of a store and a book, as entry i
+
+abbrev pub payloadFor : List ℕ → List ℕ → ℕ → EndPoint → ℕ → List ℕ
+payloadFor st b i e k = payloadAt st b i (e .place) (e .entry .largest) (e .run .window) k
+
+-- the number k past the start
+abbrev pub numberFor : List ℕ → List ℕ → ℕ → EndPoint → ℕ → Number
+numberFor st b i e k =
+    record {
+      payload = payloadFor st b i e k;
+      retries = retriesIn b (cell i (e .run .window) (past (e .run .window) k));
+      handed = ltb k (e .run .handed);
+      acked = held (e .run .window) k;
+      timer = pick (ltb k (e .run .handed)) (timerIn b (cell i (e .run .window) (past (e .run .window) k))) 0;
+    }
+
+abbrev pub placeFor : List ℕ → List ℕ → ℕ → EndPoint → ℕ → Option (List ℕ)
+placeFor st b i e k = pick (not (isSends (e .entry .kind)) && held (e .run .window) k) (some (payloadFor st b i e k)) none
+
+unfoldable pub endFor : List ℕ → List ℕ → ℕ → EndPoint → End
+endFor st b i e =
+    record {
+      entry = e .entry;
+      state = e .state;
+      accepted = e .run .accepted .0;
+      confirmed = e .run .confirmed .0;
+      start = e .run .window .start .0;
+      numbers = listed (e .run .taken) (numberFor st b i e);
+      places = listed (e .entry .window) (placeFor st b i e);
+      urgent = pick (eqb (e .run .urgent) 0) none (some (urgentPayload st e));
+    }
+
+abbrev pub endAt : Memory → ℕ → End
+endAt n i = endFor (n .store) (n .book) i (endOf (n .node) i)
+
+-- ---- what waits
+
+abbrev pub ackItem : ℕ → Item
+ackItem w = record { entry = w / 256 % 256; number = w % 256 }
+
+abbrev pub plainItem : ℕ → Item
+plainItem x = record { entry = ownerOf x; number = 0 }
+
+abbrev pub slotItem : List ℕ → ℕ → Item
+slotItem ws x = record { entry = ownerOf x; number = numberIn (endOf ws (ownerOf x) .run .window) (slotIn x) }
+
+unfoldable pub waitingFor : List ℕ → Lists → Sort → List Item
+waitingFor ws l acks = map ackItem (acksIn ws)
+waitingFor ws l resets = map plainItem (l layout.resets)
+waitingFor ws l urgents = map plainItem (l layout.urgents)
+waitingFor ws l resends = map (slotItem ws) (l layout.resends)
+waitingFor ws l datas = map (slotItem ws) (l layout.datas)
+
+-- ---- the node
+
+abbrev pub standsFor : List ℕ → Memory → Lists → Machine
+standsFor t n l =
+    record {
+      own = ownOf t;
+      protocol = protocolOf t;
+      need = storeOf t;
+      room = length (n .store);
+      ends = listed (countOf t) (endAt n);
+      waiting = waitingFor (n .node) l;
+    }
+
+-- a good memory, and the machine that it stands for
+pub record Stands (t : List ℕ) (n : Memory) (m : Machine) : Type 0 where
+  pub lists : Lists
+  pub good : Good t (n .node) (n .book) lists
+  pub room : storeOf t ≤ length (n .store)
+  pub is : standsFor t n lists ≡ m
+
+-- ---- the theorem
+
+-- a call does what the machine does
+pub record Follows (t : List ℕ) (n : Memory) (m : Machine) (c : Call) : Type 0 where
+  pub answers : answer n c ≡ step m c .answer
+  pub stands : Stands t (after n c) (step m c .machine)
+
+unfoldable pub Begins : Type 0
+Begins = (t : List ℕ) (n : Memory) → SetUp t n → Stands t n (begun t (length (n .store)))
+
+unfoldable pub Refines : Type 0
+Refines = (t : List ℕ) (n : Memory) (m : Machine) → Stands t n m → (c : Call) → Fed c → Follows t n m c
+
+-- so every node that setup and calls can give stands for a machine
+unfoldable pub ReachStands : Type 0
+ReachStands = (t : List ℕ) (n : Memory) → Reach t n → (m : Machine) × Stands t n m
