@@ -30,14 +30,6 @@ pub mod TickKeeps
 pub mod ReachGood
 pub mod Independently
 pub mod NoCorners
-pub mod Coming
-pub mod Confirming
-pub mod Delivering
-pub mod GoingOut
 pub mod NewStays
-pub mod Stepping
-pub mod Stored
-pub mod TickSteps
-pub mod TickTimers
 pub mod Stores
 pub mod Payloads

@@ -4,4 +4,3 @@ pub mod Reaching
 pub mod Independence
 pub mod Corners
 pub mod NewNode
-pub mod Steps

@@ -34,7 +34,7 @@ same-same : (a : Bool) → same a a ≡ true
 same-same true = refl
 same-same false = refl
 
-fitting : (e : Entry) (sends : Bool) (source channel : ℕ) → fits e sends source channel ≡ true → Fitting e sends source channel
+pub fitting : (e : Entry) (sends : Bool) (source channel : ℕ) → fits e sends source channel ≡ true → Fitting e sends source channel
 unfolding fits
 fitting e sends source channel h =
     let p = both (eqb (e .channel .0) channel) (eqb (e .remote .0) source && same sends (isSends (e .kind))) h in

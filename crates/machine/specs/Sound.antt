@@ -5,7 +5,7 @@ use Prim.Native.Nat.{ℕ, _≤_, _<_}
 use mathlib.Core.Path.{_≡_}
 use mathlib.Core.Bool.{Bool, true, false}
 use mathlib.Core.Option.{Option, some}
-use mathlib.Core.List.{List, List·Memᴰ}
+use mathlib.Core.List.{List, [], List·Memᴰ}
 use lib.ListN.{length, getElem?}
 use Rattle.table.specs.Layout.{countOf, ownOf, protocolOf, entryOf}
 use Rattle.table.specs.Areas.{storeOf}
@@ -13,7 +13,7 @@ use Rattle.table.specs.Rules.{goodTable}
 use Rattle.table.specs.declared.Entry.{Entry}
 use Rattle.ends.specs.States.{isSends}
 use Rattle.ends.specs.declared.State.{State}
-use Rattle.ends.specs.declared.State.the-variants.{Enabled, Open}
+use Rattle.ends.specs.declared.State.the-variants.{Enabled, Open, Failing}
 use Rattle.machine.specs.Machine.{Number, End, Item, Sort, acks, resets, urgents, resends, datas, Machine}
 use Rattle.machine.specs.Machine.{mostAcks, offset, numberAt}
 
@@ -21,6 +21,11 @@ use Rattle.machine.specs.Machine.{mostAcks, offset, numberAt}
 pub record Sized (x : Entry) (p : List ℕ) : Type 0 where
   pub some : 1 ≤ length p
   pub most : length p ≤ x .largest
+
+-- a receiver takes no numbers, and never fails
+pub record Receives (e : End) : Type 0 where
+  pub numbers : e .numbers ≡ []
+  pub runs : (timers : ℕ) → e .state ≡ Failing timers → ⊥
 
 -- an end point of the entry x
 pub record Bounded (x : Entry) (e : End) : Type 0 where
@@ -31,6 +36,7 @@ pub record Bounded (x : Entry) (e : End) : Type 0 where
   pub payloads : (n : Number) → List·Memᴰ n (e .numbers) → Sized x (n .payload)
   pub held : (p : List ℕ) → List·Memᴰ (some p) (e .places) → Sized x p
   pub urgent : (p : List ℕ) → e .urgent ≡ some p → Sized x p
+  pub receives : isSends (x .kind) ≡ false → Receives e
 
 -- ---- what may wait for end point e
 

@@ -1,6 +1,6 @@
 -- One channel as the proof sees it: a sending end point, a receiving end point and the history of one run, and the steps of a
--- run, each arrival with its premise (01, "End points"; timers are left to the steps). The end points hold bytes; unfolded
--- numbers stand in the history alone. Assumes nothing.
+-- run, each arrival with its premise (01, "End points"; timers are left to the steps). The end points hold bytes, and
+-- payloads by their offset from the start; unfolded numbers stand in the history alone. Assumes nothing.
 use Prim.Native.Nat.{ℕ, zero, suc, _+_, _-_, _<_}
 use mathlib.Core.Path.{_≡_}
 use mathlib.Core.Bool.{Bool, true, false, not, _&&_}
@@ -8,7 +8,7 @@ use mathlib.Core.List.{List, [], _∷_, _++_, map, List·Memᴰ}
 use lib.ListN.{length}
 use lib.Dec.{eqb, ltb}
 use Rattle.units.specs.Refusals.{pick}
-use Rattle.window.specs.Numbers.{distanceOf, byteOf, slotOf}
+use Rattle.window.specs.Numbers.{distanceOf, byteOf}
 use Rattle.promise.specs.History.{Pay, SState, s-closed, s-enabled, s-open, s-failing, s-first, NotLate, Sent, reset, data!, Tag, old, new, ack, Hist, s-accepts, r-resets, r-takes, r-closes, s-note, back-of, r-note}
 use Rattle.promise.proofs.Windows.{Marks, none, mark, shift, run, put}
 
@@ -20,19 +20,19 @@ pub record Send : Type 0 where
   pub taken : ℕ  -- how many numbers are taken from the start on
   pub handed : Marks
   pub acknowledged : Marks
-  pub slots : ℕ → Pay
+  pub payloads : ℕ → Pay  -- of the number i past the start
   pub accepted : ℕ
   pub confirmed : ℕ
 
--- send: the next number is taken, and the payload put in its slot
-abbrev pub s-send : ℕ → Send → Pay → Send
-s-send W s p = record {
+-- send: the payload is put at the next number, which is taken
+abbrev pub s-send : Send → Pay → Send
+s-send s p = record {
   state = s .state;
   start = s .start;
   taken = suc (s .taken);
   handed = s .handed;
   acknowledged = s .acknowledged;
-  slots = put (slotOf W (byteOf (s .start + s .taken))) p (s .slots);
+  payloads = put (s .taken) p (s .payloads);
   accepted = suc (s .accepted);
   confirmed = s .confirmed;
 }
@@ -45,7 +45,7 @@ s-state t s = record {
   taken = s .taken;
   handed = s .handed;
   acknowledged = s .acknowledged;
-  slots = s .slots;
+  payloads = s .payloads;
   accepted = s .accepted;
   confirmed = s .confirmed;
 }
@@ -58,14 +58,14 @@ s-hand i s = record {
   taken = s .taken;
   handed = mark i (s .handed);
   acknowledged = s .acknowledged;
-  slots = s .slots;
+  payloads = s .payloads;
   accepted = s .accepted;
   confirmed = s .confirmed;
 }
 
 -- the Data handed out so
-abbrev pub s-data : ℕ → Send → ℕ → Sent
-s-data W s i = data! (1 + s .confirmed + i) (byteOf (s .start + i)) (s .slots (slotOf W (byteOf (s .start + i))))
+abbrev pub s-data : Send → ℕ → Sent
+s-data s i = data! (1 + s .confirmed + i) (byteOf (s .start + i)) (s .payloads i)
 
 -- with the acknowledged numbers m, the start passes k of them
 abbrev pub s-pass : ℕ → Marks → Send → Send
@@ -75,20 +75,20 @@ s-pass k m s = record {
   taken = s .taken - k;
   handed = shift k (s .handed);
   acknowledged = shift k m;
-  slots = s .slots;
+  payloads = shift k (s .payloads);
   accepted = s .accepted;
   confirmed = s .confirmed + k;
 }
 
 -- Open, by acknowledgement 0: start 1, counts 0, nothing taken
-abbrev pub s-opened : Send → Send
-s-opened s = record {
+abbrev pub s-opened : Send
+s-opened = record {
   state = s-open;
   start = 1;
   taken = 0;
   handed = none;
   acknowledged = none;
-  slots = s .slots;
+  payloads = λ i. [];
   accepted = 0;
   confirmed = 0;
 }
@@ -103,7 +103,7 @@ s-count W s d =
 -- an acknowledgement with the byte b, by the state
 abbrev pub s-ack-at : SState → ℕ → Send → ℕ → Send
 s-ack-at s-closed W s b = s
-s-ack-at (s-enabled asked) W s b = pick (asked && eqb b 0) (s-opened s) s
+s-ack-at (s-enabled asked) W s b = pick (asked && eqb b 0) s-opened s
 s-ack-at s-open W s b = s-count W s (distanceOf (s .start) b)
 s-ack-at s-failing W s b = s-count W s (distanceOf (s .start) b)
 
@@ -125,40 +125,45 @@ pub record Recv : Type 0 where
   pub state : RState
   pub start : ℕ  -- a byte
   pub held : Marks
-  pub slots : ℕ → Pay
+  pub payloads : ℕ → Pay  -- of the number i past the start
   pub waiting : List ℕ  -- its waiting acknowledgements, the oldest first: bytes
 
-abbrev pub r-state : RState → Recv → Recv
-r-state t r = record { state = t; start = r .start; held = r .held; slots = r .slots; waiting = r .waiting }
-
 abbrev pub r-wait : List ℕ → Recv → Recv
-r-wait w r = record { state = r .state; start = r .start; held = r .held; slots = r .slots; waiting = w }
+r-wait w r = record { state = r .state; start = r .start; held = r .held; payloads = r .payloads; waiting = w }
 
 -- a Reset, at Enabled or Open
-abbrev pub r-reset : Recv → Recv
-r-reset r = record { state = r-open; start = 1; held = none; slots = r .slots; waiting = 0 ∷ [] }
+abbrev pub r-reset : Recv
+r-reset = record { state = r-open; start = 1; held = none; payloads = λ i. []; waiting = 0 ∷ [] }
 
 -- k payloads from the number i past the start on
-unfoldable pub outs : ℕ → ℕ → (ℕ → Pay) → ℕ → ℕ → List Pay
-outs W start slots i zero = []
-outs W start slots i (suc k) = slots (slotOf W (byteOf (start + i))) ∷ outs W start slots (suc i) k
+unfoldable pub outs : (ℕ → Pay) → ℕ → ℕ → List Pay
+outs f i zero = []
+outs f i (suc k) = f i ∷ outs f (suc i) k
 
 -- what Data leaves, and what it has delivered
 pub record Taken : Type 0 where
   pub next : Recv
   pub given : List Pay
 
--- with the held numbers m in the slots f, the start passes k of them, which are delivered
-abbrev pub r-pass : ℕ → Recv → ℕ → Marks → (ℕ → Pay) → ℕ → Taken
-r-pass W r b m f k = record {
-  next = record { state = r .state; start = byteOf (r .start + k); held = shift k m; slots = f; waiting = r .waiting ++ (b ∷ []) };
-  given = outs W (r .start) f 0 k;
+-- with the held numbers m and their payloads f, the start passes k of them, which are delivered
+abbrev pub r-pass : Recv → ℕ → Marks → (ℕ → Pay) → ℕ → Taken
+r-pass r b m f k = record {
+  next = record {
+    state = r .state;
+    start = byteOf (r .start + k);
+    held = shift k m;
+    payloads = shift k f;
+    waiting = r .waiting ++ (b ∷ []);
+  };
+  given = outs f 0 k;
 }
 
--- Data with the byte b, at Open, in the window and new: it is put in its slot, and the start passes what is held without a gap
+-- Data with the byte b, at Open, in the window and new: it is held, and the start passes what is held without a gap
 abbrev pub r-take : ℕ → Recv → ℕ → Pay → Taken
 r-take W r b p =
-    r-pass W r b (mark (distanceOf (r .start) b) (r .held)) (put (slotOf W b) p (r .slots)) (run W 0 (mark (distanceOf (r .start) b) (r .held)))
+    let d = distanceOf (r .start) b in
+    let m = mark d (r .held) in
+    r-pass r b m (put d p (r .payloads)) (run W 0 m)
 
 -- held already, or outside: dropped, and acknowledged all the same
 abbrev pub r-drop : Recv → ℕ → Taken
@@ -186,8 +191,8 @@ with-sender s g = record { sender = s; receiver = g .receiver; hist = g .hist }
 abbrev pub with-receiver : Recv → Channel → Channel
 with-receiver r g = record { sender = g .sender; receiver = r; hist = g .hist }
 
-abbrev pub g-send : ℕ → Channel → Pay → Channel
-g-send W g p = record { sender = s-send W (g .sender) p; receiver = g .receiver; hist = s-note 0 (s-accepts p) (g .hist) }
+abbrev pub g-send : Channel → Pay → Channel
+g-send g p = record { sender = s-send (g .sender) p; receiver = g .receiver; hist = s-note 0 (s-accepts p) (g .hist) }
 
 abbrev pub g-hand : Send → Sent → Channel → Channel
 g-hand s f g = record {
@@ -218,7 +223,7 @@ g-answer b bs t ts g = record {
 }
 
 abbrev pub g-reset : Tag → Channel → Channel
-g-reset t g = record { sender = g .sender; receiver = r-reset (g .receiver); hist = r-note t false r-resets (g .hist) }
+g-reset t g = record { sender = g .sender; receiver = r-reset; hist = r-note t false r-resets (g .hist) }
 
 -- other acknowledgements wait
 abbrev pub with-tags : List Tag → Hist → Hist
@@ -243,17 +248,18 @@ pub data Step (W : ℕ) : Channel → Channel → Type 0 where
   -- refused calls and frames, reads of the counts, Urgents, ticks in which no timer comes to its end
   nothing : (g : Channel) → Step W g g
   -- the sender's host
-  send : (g : Channel) (p : Pay) → g .sender .state ≡ s-open → g .sender .taken < W → Step W g (g-send W g p)
+  send : (g : Channel) (p : Pay) → g .sender .state ≡ s-open → g .sender .taken < W → Step W g (g-send g p)
   -- the sender hands out a Reset, or Data of the i-th number of its window, the first time or again
   reset-out : (g : Channel) (asked : Bool) → g .sender .state ≡ s-enabled asked
       → Step W g (g-hand (s-state (s-enabled true) (g .sender)) reset g)
   data-out : (g : Channel) (i : ℕ) → g .sender .state ≡ s-open → i < g .sender .taken
-      → Step W g (g-hand (s-hand i (g .sender)) (s-data W (g .sender) i) g)
+      → Step W g (g-hand (s-hand i (g .sender)) (s-data (g .sender) i) g)
   -- a timer comes to its end after M retries
   fail : (g : Channel) → g .sender .state ≡ s-open → Step W g (with-sender (s-state s-failing (g .sender)) g)
-  -- the receiver's host closes it, or opens it
+  -- the receiver's host closes it, and nothing waits; or opens it, and what waits stays
   close-receiver : (g : Channel) (t : Recv) → t .state ≡ r-closed → t .waiting ≡ [] → Step W g (g-close t g)
-  open-receiver : (g : Channel) → g .receiver .state ≡ r-closed → Step W g (with-receiver (r-state r-enabled (g .receiver)) g)
+  open-receiver : (g : Channel) (t : Recv) → g .receiver .state ≡ r-closed → t .state ≡ r-enabled
+      → t .waiting ≡ g .receiver .waiting → Step W g (with-receiver t g)
   -- the receiver hands out its oldest acknowledgement
   ack-out : (g : Channel) (b : ℕ) (bs : List ℕ) (t : Tag) (ts : List Tag) → g .receiver .waiting ≡ b ∷ bs → g .hist .tags ≡ t ∷ ts
       → Step W g (g-answer b bs t ts g)

@@ -7,7 +7,7 @@ use mathlib.Core.Bool.{Bool, true, false, true≢false}
 use mathlib.Core.List.{List, [], map, List·Memᴰ, List·Memᴰ·not-nil}
 use lib.ListN.{length, take, getD}
 use native.Mathlib.Omega.{arith}
-use Rattle.window.specs.Numbers.{byteOf, slotOf}
+use Rattle.window.specs.Numbers.{byteOf}
 use Rattle.promise.specs.History.{Pay, SState, s-enabled, s-open, Live, Sent, reset, data!, Tag, new, Back, ack}
 use Rattle.promise.specs.Promise.{Kept}
 use Rattle.promise.proofs.Windows.{Marks, none}
@@ -64,33 +64,33 @@ pub record Resetting (g : Channel) : Type 0 where
 
 -- ---- Open or Failing
 
--- the sender against the payloads accepted: those not confirmed are the ones taken, and each lies in its slot
+-- the sender against the payloads accepted: those not confirmed are the ones taken
 pub record Sending (W : ℕ) (s : Send) (acc : List Pay) : Type 0 where
   pub live : Live (s .state)
   pub counted : s .accepted ≡ length acc
   pub span : s .confirmed + s .taken ≡ length acc
   pub width : s .taken ≤ W
   pub start : s .start ≡ byteOf (1 + s .confirmed)
-  pub stored : (j : ℕ) → s .confirmed ≤ j → j < length acc → s .slots (slotOf W (suc j)) ≡ getD acc j []
+  pub stored : (i : ℕ) → i < s .taken → s .payloads i ≡ getD acc (s .confirmed + i) []
 
--- what is held past d delivered: its payload was accepted, and lies in its slot
-pub record Holding (W : ℕ) (held : Marks) (slots : ℕ → Pay) (d : ℕ) (acc : List Pay) : Type 0 where
+-- what is held past d delivered is what was accepted with its number
+pub record Holding (held : Marks) (payloads : ℕ → Pay) (d : ℕ) (acc : List Pay) : Type 0 where
   pub held-in : (i : ℕ) → held i ≡ true → d + i < length acc
-  pub held-is : (i : ℕ) → held i ≡ true → slots (slotOf W (suc (d + i))) ≡ getD acc (d + i) []
+  pub held-is : (i : ℕ) → held i ≡ true → payloads i ≡ getD acc (d + i) []
 
 -- what the receiver held when it was last Open in this run: it may have been closed since
 pub record Shelf : Type 0 where
   pub held : Marks
-  pub slots : ℕ → Pay
+  pub payloads : ℕ → Pay
 
 abbrev pub shelf : Recv → Shelf
-shelf r = record { held = r .held; slots = r .slots }
+shelf r = record { held = r .held; payloads = r .payloads }
 
 -- the receiver's part against the payloads accepted: it delivered the first of them, and did not hold the next
-pub record Receiving (W : ℕ) (v : Shelf) (del acc : List Pay) : Type 0 where
+pub record Receiving (v : Shelf) (del acc : List Pay) : Type 0 where
   pub ahead : length del ≤ length acc
   pub prefix : del ≡ take (length del) acc
-  pub holding : Holding W (v .held) (v .slots) (length del) acc
+  pub holding : Holding (v .held) (v .payloads) (length del) acc
   pub gap : v .held 0 ≡ false
 
 -- the receiver is as it was then
@@ -113,7 +113,7 @@ SentOk acc (data! n b p) = Framed acc n b p
 -- both ends: what is confirmed is delivered; what is acknowledged or answered, the receiver has
 pub record Running (W : ℕ) (v : Shelf) (g : Channel) : Type 0 where
   pub sending : Sending W (g .sender) (g .hist .accepted)
-  pub receiving : Receiving W v (g .hist .delivered) (g .hist .accepted)
+  pub receiving : Receiving v (g .hist .delivered) (g .hist .accepted)
   pub at-open : g .receiver .state ≡ r-open → InStep (g .receiver) v (g .hist .delivered)
   pub behind : g .sender .confirmed ≤ length (g .hist .delivered)
   pub marks : (i : ℕ) → g .sender .acknowledged i ≡ true → Got (g .hist .delivered) (v .held) (g .sender .confirmed + i)
@@ -131,9 +131,9 @@ pub data Inv (W : ℕ) (g : Channel) : Type 0 where
   running : (v : Shelf) → Running W v g → Inv W g
 
 -- what the receiver has was accepted
-pub got-accepted : (W : ℕ) (v : Shelf) (del acc : List Pay) (j : ℕ) → Receiving W v del acc → Got del (v .held) j → j < length acc
-got-accepted W v del acc j h (inl l) = omega (arith, h .ahead)
-got-accepted W v del acc j h (inr (i, e, q)) = let z = h .holding .held-in i q in omega arith
+pub got-accepted : {v : Shelf} {del acc : List Pay} (j : ℕ) → Receiving v del acc → Got del (v .held) j → j < length acc
+got-accepted j h (inl l) = omega (arith, h .ahead)
+got-accepted j h (inr (i, e, q)) = let z = h .holding .held-in i q in omega arith
 
 -- the promise
 pub kept : (W : ℕ) (g : Channel) → Inv W g → Live (g .sender .state) → Kept (g .sender .accepted) (g .sender .confirmed) (g .hist)
@@ -152,7 +152,7 @@ kept W g (running v f) l = record {
   where
     le-acc : (n : ℕ) → Answered (g .hist .tags) (g .hist .back) n → n ≤ length (g .hist .accepted)
     le-acc zero a = omega arith
-    le-acc (suc j) a = let z = got-accepted W v (g .hist .delivered) (g .hist .accepted) j (f .receiving) (f .answers j a) in omega arith
+    le-acc (suc j) a = let z = got-accepted j (f .receiving) (f .answers j a) in omega arith
 
 -- which of the three it is, by the sender's state or by what was handed out
 not-open-enabled : (t : SState) (o : Bool) → t ≡ s-open → t ≡ s-enabled o → ⊥

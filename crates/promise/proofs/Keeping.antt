@@ -1,20 +1,18 @@
 -- The invariant is kept by the short steps: send, handing out at either end, failing, closing and opening the receiver, a Reset. Data
 -- is in KeepingData.antt, acknowledgements in KeepingAcks.antt. Assumes nothing.
-use Prim.Native.Nat.{ℕ, suc, _+_, _≤_, _<_}
+use Prim.Native.Nat.{ℕ, suc, _+_, _<_}
 use mathlib.Core.Path.{_≡_, refl, ap, sym, subst, _∙_}
-use mathlib.Core.Logic.{_≢_, _⊎_, inl, inr}
+use mathlib.Core.Logic.{_⊎_, inl, inr}
 use mathlib.Core.Bool.{Bool, true, false, true≢false}
 use mathlib.Core.List.{List, [], _∷_, _++_, List·Memᴰ, List·Memᴰ·head, List·Memᴰ·tail, List·Memᴰ·cases-cons, List·Memᴰ·not-nil, List·Memᴰ·eq-of-singleton}
 use lib.ListN.{length, getD, length-append, List·getD-append}
 use lib.Seq.{take-append-le, getD-append-seam}
 use native.Mathlib.Decide.{ℕ-discrete}
 use native.Mathlib.Omega.{arith}
-use Rattle.units.specs.Sizes.{isSize}
-use Rattle.window.specs.Numbers.{byteOf, slotOf}
-use Rattle.window.proofs.WindowLaw.{slots-apart}
+use Rattle.window.specs.Numbers.{byteOf}
 use Rattle.promise.specs.History.{Pay, s-enabled, s-failing, Live, Sent, reset, data!, Tag, old, new, Back, ack, back-of}
-use Rattle.promise.proofs.Windows.{slot-at, put, put-same, put-other, Marks}
-use Rattle.promise.proofs.Channel.{Send, s-send, s-state, s-hand, s-data, RState, r-closed, r-enabled, r-open, Recv, r-state, r-reset, Channel, with-sender, with-receiver, with-tags, g-send, g-hand, g-answer, g-reset, g-close}
+use Rattle.promise.proofs.Windows.{put, put-same, put-other, Marks}
+use Rattle.promise.proofs.Channel.{Send, s-send, s-state, s-hand, s-data, RState, r-closed, r-enabled, r-open, Recv, r-reset, Channel, with-sender, with-receiver, with-tags, g-send, g-hand, g-answer, g-reset, g-close}
 use Rattle.promise.proofs.Invariant.{Answered, Got, BackOk, Bytes, Fresh, IsReset, Sending, Holding, Shelf, shelf, Receiving, SentOk, Running, Inv, fresh, resetting, running, not-bool}
 
 -- ---- send
@@ -27,17 +25,17 @@ module _ (acc : List Pay) (p : Pay) where
   more-getD : (j : ℕ) → j < length acc → getD (acc ++ (p ∷ [])) j [] ≡ getD acc j []
   more-getD j h = List·getD-append acc (p ∷ []) [] j h
 
-  more-holding : (W d : ℕ) (held : Marks) (slots : ℕ → Pay) → Holding W held slots d acc → Holding W held slots d (acc ++ (p ∷ []))
-  more-holding W d held slots h = record {
+  more-holding : {held : Marks} {f : ℕ → Pay} {d : ℕ} → Holding held f d acc → Holding held f d (acc ++ (p ∷ []))
+  more-holding {d} h = record {
     held-in = λ i m. let l = h .held-in i m in omega (arith, more-length);
     held-is = λ i m. h .held-is i m ∙ sym (more-getD (d + i) (h .held-in i m));
   }
 
-  more-receiving : (W : ℕ) (v : Shelf) (del : List Pay) → Receiving W v del acc → Receiving W v del (acc ++ (p ∷ []))
-  more-receiving W v del h = record {
+  more-receiving : {v : Shelf} {del : List Pay} → Receiving v del acc → Receiving v del (acc ++ (p ∷ []))
+  more-receiving {del} h = record {
     ahead = omega (arith, more-length, h .ahead);
     prefix = h .prefix ∙ sym (take-append-le (length del) acc (p ∷ []) (h .ahead));
-    holding = more-holding W (length del) (v .held) (v .slots) (h .holding);
+    holding = more-holding (h .holding);
     gap = h .gap;
   }
 
@@ -51,34 +49,31 @@ module _ (acc : List Pay) (p : Pay) where
     payload = h .payload ∙ sym (more-getD (h .index) (h .within));
   }
 
--- the payload lies in its slot, and those before it stay
-send-sending : (W : ℕ) → isSize W ≡ true → (s : Send) (acc : List Pay) (p : Pay) → s .taken < W
-    → Sending W s acc → Sending W (s-send W s p) (acc ++ (p ∷ []))
-send-sending W w s acc p lt h = record {
+-- the payload is put after those before it, which stay
+send-sending : (W : ℕ) (s : Send) (acc : List Pay) (p : Pay) → s .taken < W → Sending W s acc
+    → Sending W (s-send s p) (acc ++ (p ∷ []))
+send-sending W s acc p lt h = record {
   live = h .live;
   counted = omega (arith, h .counted, more-length acc p);
   span = omega (arith, h .span, more-length acc p);
   width = lt;
   start = h .start;
-  stored = λ j lo hi. go j lo hi (ℕ-discrete j (length acc));
+  stored = λ i l. go i l (ℕ-discrete i (s .taken));
 }
   where
-    at : slotOf W (byteOf (s .start + s .taken)) ≡ slotOf W (suc (length acc))
-    at = slot-at W w (s .start) (s .confirmed) (s .taken) (h .start) ∙ ap (λ (x : ℕ). slotOf W (suc x)) (h .span)
+    go : (i : ℕ) → i < suc (s .taken) → Dec (i ≡ s .taken)
+        → put (s .taken) p (s .payloads) i ≡ getD (acc ++ (p ∷ [])) (s .confirmed + i) []
+    go i l (yes e) = rw (e, h .span) (put-same (s .taken) p (s .payloads) ∙ sym (getD-append-seam acc p [] []))
+    go i l (no ne) =
+        put-other (s .taken) p (s .payloads) i ne
+        ∙ h .stored i (omega arith)
+        ∙ sym (more-getD acc p (s .confirmed + i) (omega (arith, h .span)))
 
-    go : (j : ℕ) → s .confirmed ≤ j → j < length (acc ++ (p ∷ [])) → Dec (j ≡ length acc)
-        → put (slotOf W (byteOf (s .start + s .taken))) p (s .slots) (slotOf W (suc j)) ≡ getD (acc ++ (p ∷ [])) j []
-    go j lo hi (yes e) = rw (at, e) (put-same (slotOf W (suc (length acc))) p (s .slots) ∙ sym (getD-append-seam acc p [] []))
-    go j lo hi (no ne) =
-        let in-acc : j < length acc = omega (arith, more-length acc p) in
-        let apart : slotOf W (suc j) ≢ slotOf W (suc (length acc)) = slots-apart W (suc j) (suc (length acc)) (omega arith) (omega (arith, h .span)) in
-        rw at (put-other (slotOf W (suc (length acc))) p (s .slots) (slotOf W (suc j)) apart ∙ h .stored j lo in-acc ∙ sym (more-getD acc p j in-acc))
-
-pub send-keeps : (W : ℕ) → isSize W ≡ true → (g : Channel) (p : Pay) → g .sender .taken < W → (v : Shelf) → Running W v g
-    → Running W v (g-send W g p)
-send-keeps W w g p lt v f = record {
-  sending = send-sending W w (g .sender) (g .hist .accepted) p lt (f .sending);
-  receiving = more-receiving (g .hist .accepted) p W v (g .hist .delivered) (f .receiving);
+pub send-keeps : (W : ℕ) (g : Channel) (p : Pay) → g .sender .taken < W → (v : Shelf) → Running W v g
+    → Running W v (g-send g p)
+send-keeps W g p lt v f = record {
+  sending = send-sending W (g .sender) (g .hist .accepted) p lt (f .sending);
+  receiving = more-receiving (g .hist .accepted) p (f .receiving);
   at-open = f .at-open;
   behind = f .behind;
   marks = f .marks;
@@ -91,9 +86,9 @@ send-keeps W w g p lt v f = record {
 
 -- ---- the sender hands out
 
-pub data-out-keeps : (W : ℕ) → isSize W ≡ true → (g : Channel) (i : ℕ) → i < g .sender .taken → (v : Shelf) → Running W v g
-    → Running W v (g-hand (s-hand i (g .sender)) (s-data W (g .sender) i) g)
-data-out-keeps W w g i lt v f = record {
+pub data-out-keeps : (W : ℕ) (g : Channel) (i : ℕ) → i < g .sender .taken → (v : Shelf) → Running W v g
+    → Running W v (g-hand (s-hand i (g .sender)) (s-data (g .sender) i) g)
+data-out-keeps W g i lt v f = record {
   sending = record {
     live = f .sending .live;
     counted = f .sending .counted;
@@ -117,7 +112,7 @@ data-out-keeps W w g i lt v f = record {
     s = g .sender
 
     this : Sent
-    this = s-data W s i
+    this = s-data s i
 
     ok : SentOk (g .hist .accepted) this
     ok = record {
@@ -125,7 +120,7 @@ data-out-keeps W w g i lt v f = record {
       number = omega arith;
       byte = omega (arith, f .sending .start);
       within = omega (arith, f .sending .span);
-      payload = rw (slot-at W w (s .start) (s .confirmed) i (f .sending .start)) (f .sending .stored (s .confirmed + i) (omega arith) (omega (arith, f .sending .span)));
+      payload = f .sending .stored i lt;
     }
 
     go : (x : Sent) → (x ≡ this) ⊎ List·Memᴰ x (g .hist .sent) → SentOk (g .hist .accepted) x
@@ -223,11 +218,13 @@ off-keeps W g t tags off less moved (running v f) = running v (record {
 not-closed-open : (t : RState) → t ≡ r-closed → t ≡ r-open → ⊥
 not-closed-open t p q = let z : _≡_ {A = ℕ} 0 1 = cc in omega arith
 
-not-enabled-open : r-enabled ≡ r-open → ⊥
-not-enabled-open q = let z : _≡_ {A = ℕ} 0 1 = cc in omega arith
+not-enabled-open : (t : RState) → t ≡ r-enabled → t ≡ r-open → ⊥
+not-enabled-open t p q = let z : _≡_ {A = ℕ} 0 1 = cc in omega arith
 
-pub open-keeps : (W : ℕ) (g : Channel) → Inv W g → Inv W (with-receiver (r-state r-enabled (g .receiver)) g)
-open-keeps W g i = off-keeps W g (r-state r-enabled (g .receiver)) (g .hist .tags) not-enabled-open (λ n a. a) (λ y. y) i
+pub open-keeps : (W : ℕ) (g : Channel) (t : Recv) → t .state ≡ r-enabled → t .waiting ≡ g .receiver .waiting → Inv W g
+    → Inv W (with-receiver t g)
+open-keeps W g t e same i =
+    off-keeps W g t (g .hist .tags) (not-enabled-open (t .state) e) (λ n a. a) (λ y. rw same y) i
 
 pub close-keeps : (W : ℕ) (g : Channel) (t : Recv) → t .state ≡ r-closed → t .waiting ≡ [] → Inv W g → Inv W (g-close t g)
 close-keeps W g t e none-wait i = off-keeps W g t [] (not-closed-open (t .state) e) less (λ y. record { queue = none-wait; backs = y .backs }) i
@@ -327,7 +324,7 @@ reset-in-keeps W g m d (resetting f) = resetting (record {
     zero-n : (n : ℕ) → (n ≡ 0) ⊎ ((b : ℕ) × List·Memᴰ (ack n b) (g .hist .back)) → n ≡ 0
     zero-n n (inl e) = e
     zero-n n (inr k) = f .zeros n (inr k) .0
-reset-in-keeps W g m d (running v f) = running (shelf (r-reset (g .receiver))) (record {
+reset-in-keeps W g m d (running v f) = running (shelf r-reset) (record {
   sending = f .sending;
   receiving = record {
     ahead = omega arith;

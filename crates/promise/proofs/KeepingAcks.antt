@@ -37,7 +37,7 @@ gapless del held c k gap le got = go (decLe (c + k) (length del))
 
 module _ (W : ℕ) (w : isSize W ≡ true) (g : Channel) (v : Shelf) (f : Running W v g) (n b : ℕ) (ans : List·Memᴰ (ack n b) (g .hist .back))
     (late : NotLate W (1 + g .sender .confirmed) n) where
-  -- how late it seems to lie from the start
+  -- how far it seems to lie from the start
   abbrev off : ℕ
   off = distanceOf (g .sender .start) b
 
@@ -53,7 +53,7 @@ module _ (W : ℕ) (w : isSize W ≡ true) (g : Channel) (v : Shelf) (f : Runnin
       go (suc j) e =
           let a : Answered (g .hist .tags) (g .hist .back) (suc j) = inr (b, subst (λ (x : ℕ). List·Memᴰ (ack x b) (g .hist .back)) e ans) in
           let got = f .answers j a in
-          let lt = got-accepted W v (g .hist .delivered) (g .hist .accepted) j (f .receiving) got in
+          let lt = got-accepted j (f .receiving) got in
           let hi : n < 1 + g .sender .confirmed + W = omega (arith, f .sending .span, f .sending .width) in
           let lo = in-window W (1 + g .sender .confirmed) n w hi late (rw off-is at h) in
           let q = distance-is W (1 + g .sender .confirmed) n w hi lo in
@@ -70,7 +70,7 @@ module _ (W : ℕ) (w : isSize W ≡ true) (g : Channel) (v : Shelf) (f : Runnin
       span = omega (arith, short, f .sending .span);
       width = omega (arith, f .sending .width);
       start = omega (arith, f .sending .start);
-      stored = λ j lo hi. f .sending .stored j (omega arith) hi;
+      stored = λ i l. rw add-assoc (f .sending .stored (run W 0 m + i) (omega arith));
     };
     receiving = f .receiving;
     at-open = f .at-open;
@@ -113,7 +113,8 @@ module _ (W : ℕ) (w : isSize W ≡ true) (g : Channel) (v : Shelf) (f : Runnin
 -- the run is on: the receiver is blank, and nothing but Resets is about
 blank-running : (W : ℕ) (g : Channel) → List·Memᴰ reset (g .hist .sent) → g .hist .accepted ≡ [] → Blank (g .receiver) (g .hist .delivered)
     → ((n : ℕ) → Answered (g .hist .tags) (g .hist .back) n → n ≡ 0) → ((x : Sent) → List·Memᴰ x (g .hist .sent) → IsReset x)
-    → Bytes (g .receiver .waiting) (g .hist .tags) (g .hist .back) → Running W (record { held = none; slots = g .receiver .slots }) (with-sender (s-opened (g .sender)) g)
+    → Bytes (g .receiver .waiting) (g .hist .tags) (g .hist .back)
+    → Running W (record { held = none; payloads = g .receiver .payloads }) (with-sender s-opened g)
 blank-running W g bg ea bl zs rs y = record {
   sending = record {
     live = tt;
@@ -121,7 +122,7 @@ blank-running W g bg ea bl zs rs y = record {
     span = omega (arith, la);
     width = omega arith;
     start = refl;
-    stored = λ j lo hi. absurd (omega (arith, la));
+    stored = λ i l. absurd (omega arith);
   };
   receiving = record {
     ahead = omega (arith, ld);
@@ -131,7 +132,7 @@ blank-running W g bg ea bl zs rs y = record {
   };
   at-open = λ q. record {
     rstart = bl .at-open q .0 ∙ ap (λ (x : ℕ). byteOf (1 + x)) (sym ld);
-    same = ap (λ (m : Marks). record { held = m; slots = g .receiver .slots }) (sym (bl .at-open q .1));
+    same = ap (λ (m : Marks). record { held = m; payloads = g .receiver .payloads }) (sym (bl .at-open q .1));
   };
   behind = omega arith;
   marks = λ i h. absurd (true≢false (sym h));
@@ -162,7 +163,7 @@ pub ack-in-keeps : (W : ℕ) → isSize W ≡ true → (g : Channel) (n b : ℕ)
 ack-in-keeps W w g n b m late (fresh f) = absurd (f .silent n (inr (b, m)))
 ack-in-keeps W w g n b m late (resetting f) =
     subst (λ (t : SState). Inv W (with-sender (s-ack-at t W (g .sender) b) g)) (sym (f .enabled))
-    (subst (λ (c : Bool). Inv W (with-sender (pick c (s-opened (g .sender)) (g .sender)) g)) (sym is-zero)
+    (subst (λ (c : Bool). Inv W (with-sender (pick c s-opened (g .sender)) g)) (sym is-zero)
     (running _ (blank-running W g (f .begun) (f .none-accepted) (z .1) (λ x a. f .zeros x a .0) (f .resets) (f .bytes))))
   where
     z : (n ≡ 0) × Blank (g .receiver) (g .hist .delivered)

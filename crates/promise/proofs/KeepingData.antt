@@ -1,22 +1,20 @@
 -- The invariant is kept when Data comes in: in the window of bytes it is the number that it seems, since it is not late; outside
 -- it was delivered before. Assumes nothing.
 use Prim.Native.Nat.{ℕ, suc, _+_, _≤_, _<_}
-use mathlib.Core.Path.{_≡_, refl, ap, sym, subst, _∙_}
-use mathlib.Core.Logic.{_≢_, _⊎_, inl, inr, by-cases}
+use mathlib.Core.Path.{_≡_, refl, sym, subst, _∙_}
+use mathlib.Core.Logic.{_⊎_, inl, inr, by-cases}
 use mathlib.Core.Bool.{Bool, true, false, not, _&&_, true≢false}
 use mathlib.Core.List.{List, [], _∷_, _++_, map, List·Memᴰ, List·Memᴰ·append-cases, List·Memᴰ·not-nil, List·Memᴰ·eq-of-singleton, map-append, append-nil}
 use lib.ListN.{length, getD}
 use lib.Dec.{ltb}
 use borrow.Author.Tests.{ltb-true, ltb-false}
-use native.Mathlib.Nat.{suc-add}
 use native.Mathlib.Decide.{decLe, ℕ-discrete}
 use native.Mathlib.Omega.{arith}
 use Rattle.units.specs.Refusals.{pick}
 use Rattle.units.specs.Sizes.{isSize}
-use Rattle.window.specs.Numbers.{distanceOf, byteOf, slotOf}
-use Rattle.window.proofs.WindowLaw.{slot-byte}
+use Rattle.window.specs.Numbers.{distanceOf, byteOf}
 use Rattle.promise.specs.History.{Pay, NotLate, Sent, data!, Tag, old, new, Hist}
-use Rattle.promise.proofs.Windows.{in-window, distance-is, slot-same, put, put-same, put-other, Marks, mark, shift, run, mark-same, mark-other, mark-cases, mark-keeps}
+use Rattle.promise.proofs.Windows.{in-window, distance-is, put, put-same, put-other, Marks, mark, shift, run, mark-keeps}
 use Rattle.promise.proofs.Channel.{r-open, Recv, outs, Taken, r-take, r-drop, r-data, Channel, tag-byte, g-data}
 use Rattle.promise.proofs.Invariant.{Answered, Got, Bytes, Fresh, Holding, Shelf, shelf, Framed, Running, Inv, fresh, resetting, running}
 use Rattle.promise.proofs.Keeping.{not-new-old}
@@ -124,50 +122,28 @@ module _ (W : ℕ) (w : isSize W ≡ true) (g : Channel) (f : Running W (shelf (
       go i (inl a) = f .answers i a
       go i (inr q) = subst (Got (g .hist .delivered) (g .receiver .held)) (sym q) got
 
-  -- in the window it is put in its slot and marked, and the slots of what was held stay
-  placed : off < W → Holding W (mark off (g .receiver .held)) (put (slotOf W b) p (g .receiver .slots)) (length (g .hist .delivered)) (g .hist .accepted)
-  placed h = record {
-    held-in = λ i m. go-in i (mark-cases off i (g .receiver .held) m);
-    held-is = λ i m. go-is i (ℕ-discrete i off) m;
-  }
+  -- in the window it is held, beside what was held
+  placed : off < W → Holding (mark off (g .receiver .held)) (put off p (g .receiver .payloads))
+      (length (g .hist .delivered)) (g .hist .accepted)
+  placed h = record { held-in = λ i m. one i (ℕ-discrete i off) m .0; held-is = λ i m. one i (ℕ-discrete i off) m .1 }
     where
-      ix : fr .index ≡ length (g .hist .delivered) + off
-      ix = inside h
-
-      at : slotOf W b ≡ slotOf W (suc (length (g .hist .delivered) + off))
-      at = ap (slotOf W) (fr .byte) ∙ slot-byte W n w ∙ ap (slotOf W) (fr .number ∙ ap suc ix)
-
-      go-in : (i : ℕ) → (i ≡ off) ⊎ (g .receiver .held i ≡ true) → length (g .hist .delivered) + i < length (g .hist .accepted)
-      go-in i (inl e) = omega (arith, ix, fr .within)
-      go-in i (inr m) = f .receiving .holding .held-in i m
-
-      go-is : (i : ℕ) → Dec (i ≡ off) → mark off (g .receiver .held) i ≡ true
-          → put (slotOf W b) p (g .receiver .slots) (slotOf W (suc (length (g .hist .delivered) + i)))
-          ≡ getD (g .hist .accepted) (length (g .hist .delivered) + i) []
-      go-is i (yes e) m =
-          rw (at, e)
-          (put-same (slotOf W (suc (length (g .hist .delivered) + off))) p (g .receiver .slots)
-          ∙ fr .payload
-          ∙ ap (λ (x : ℕ). getD (g .hist .accepted) x []) ix)
-      go-is i (no ne) m =
-          put-other (slotOf W b) p (g .receiver .slots) (slotOf W (suc (length (g .hist .delivered) + i))) apart
-          ∙ f .receiving .holding .held-is i before
-        where
-          before : g .receiver .held i ≡ true
-          before = sym (mark-other off i (g .receiver .held) ne) ∙ m
-
-          small : i < W
-          small = let q = f .receiving .holding .held-in i before in omega (arith, f .sending .span, f .sending .width, f .behind)
-
-          apart : slotOf W (suc (length (g .hist .delivered) + i)) ≢ slotOf W b
-          apart q = ne (slot-same W (suc (length (g .hist .delivered))) i off small h
-              (ap (slotOf W) (suc-add _ _) ∙ q ∙ at ∙ ap (slotOf W) (sym (suc-add _ _))))
+      one : (i : ℕ) → Dec (i ≡ off) → mark off (g .receiver .held) i ≡ true
+          → (length (g .hist .delivered) + i < length (g .hist .accepted))
+          × (put off p (g .receiver .payloads) i ≡ getD (g .hist .accepted) (length (g .hist .delivered) + i) [])
+      one i (yes e) m = (
+        omega (arith, inside h, fr .within),
+        rw (e, ← (inside h)) (put-same off p (g .receiver .payloads) ∙ fr .payload),
+      )
+      one i (no ne) m =
+          let was = f .receiving .holding in
+          let q = sym (put-other off true (g .receiver .held) i ne) ∙ m in
+          (was .held-in i q, put-other off p (g .receiver .payloads) i ne ∙ was .held-is i q)
 
   -- in the window and new
   take-keeps : off < W → Running W (shelf (r-take W (g .receiver) b p .next)) (g-data (new n) true b p (r-take W (g .receiver) b p) g)
   take-keeps h = record {
     sending = f .sending;
-    receiving = pass-receiving W w (g .receiver .start) _ (g .hist .delivered) (g .hist .accepted) (f .receiving) rstart m slots (placed h) bound;
+    receiving = pass-receiving W (f .receiving) (placed h) bound;
     at-open = λ q. record { rstart = omega (arith, rstart, longer); same = refl };
     behind = omega (arith, f .behind, longer);
     marks = λ i q. later _ (f .marks i q);
@@ -181,20 +157,17 @@ module _ (W : ℕ) (w : isSize W ≡ true) (g : Channel) (f : Running W (shelf (
       m : Marks
       m = mark off (g .receiver .held)
 
-      slots : ℕ → Pay
-      slots = put (slotOf W b) p (g .receiver .slots)
-
       now : List Pay
-      now = g .hist .delivered ++ outs W (g .receiver .start) slots 0 (run W 0 m)
+      now = g .hist .delivered ++ outs (put off p (g .receiver .payloads)) 0 (run W 0 m)
 
       bound : length (g .hist .accepted) ≤ length (g .hist .delivered) + W
       bound = omega (arith, f .sending .span, f .sending .width, f .behind)
 
       longer : length now ≡ length (g .hist .delivered) + run W 0 m
-      longer = pass-length W w (g .receiver .start) _ (g .hist .delivered) (g .hist .accepted) (f .receiving) rstart m slots (placed h) bound
+      longer = pass-length W (f .receiving) (placed h) bound
 
       on : (j : ℕ) → Got (g .hist .delivered) m j → Got now (shift (run W 0 m) m) j
-      on = pass-got W w (g .receiver .start) _ (g .hist .delivered) (g .hist .accepted) (f .receiving) rstart m slots (placed h) bound
+      on = pass-got W (f .receiving) (placed h) bound
 
       marked : (j : ℕ) → Got (g .hist .delivered) (g .receiver .held) j → Got (g .hist .delivered) m j
       marked j (inl l) = inl l
@@ -204,7 +177,7 @@ module _ (W : ℕ) (w : isSize W ≡ true) (g : Channel) (f : Running W (shelf (
       later j a = on j (marked j a)
 
       this : Got (g .hist .delivered) m (fr .index)
-      this = inr (off, inside h, mark-same off (g .receiver .held))
+      this = inr (off, inside h, put-same off true (g .receiver .held))
 
       go : (i : ℕ) → Answered (g .hist .tags) (g .hist .back) (suc i) ⊎ (i ≡ fr .index) → Got now (shift (run W 0 m) m) i
       go i (inl a) = later i (f .answers i a)

@@ -4,10 +4,10 @@ use Prim.Native.Nat.{ℕ, _+_, _<_}
 use mathlib.Core.Path.{_≡_}
 use mathlib.Core.Bool.{Bool, true}
 use mathlib.Core.List.{List, [], _∷_}
-use Rattle.window.specs.Numbers.{byteOf, slotOf}
+use Rattle.window.specs.Numbers.{byteOf}
 use Rattle.promise.specs.History.{Pay, s-enabled, s-open, s-failing, SSeen, s-quiet, s-accepts, s-resets, s-sends, s-hears, s-ends, RSeen, r-quiet, r-acks, r-resets, r-takes, r-closes}
 use Rattle.promise.specs.Promise.{SSide, RSide, Reach, at-setup, by-call}
-use Rattle.promise.proofs.Channel.{Send, s-send, s-state, s-hand, s-ack, Recv, r-closed, r-enabled, r-open, Up, r-state, r-wait, r-reset, r-data}
+use Rattle.promise.proofs.Channel.{Send, s-send, s-state, s-hand, s-ack, Recv, r-closed, r-enabled, r-open, Up, r-wait, r-reset, r-data}
 
 -- ---- the steps of an end point
 
@@ -17,24 +17,24 @@ pub data SNext (W : ℕ) : Send → SSeen → Send → Type 0 where
   sn-same : (s : Send) → SNext W s s-quiet s
   sn-fail : (s : Send) → s .state ≡ s-open → SNext W s s-quiet (s-state s-failing s)
   -- the payload has the next number, at most W from the start on
-  sn-accept : (s : Send) (p : Pay) → s .state ≡ s-open → s .taken < W → SNext W s (s-accepts p) (s-send W s p)
-  -- handing out: a Reset at Enabled; at Open the payload of a number that is taken, from its slot, the first time or again
+  sn-accept : (s : Send) (p : Pay) → s .state ≡ s-open → s .taken < W → SNext W s (s-accepts p) (s-send s p)
+  -- handing out: a Reset at Enabled; at Open the payload of a number that is taken, the first time or again
   sn-reset : (s : Send) (asked : Bool) → s .state ≡ s-enabled asked → SNext W s s-resets (s-state (s-enabled true) s)
   sn-send : (s : Send) (i : ℕ) → s .state ≡ s-open → i < s .taken
-      → SNext W s (s-sends (byteOf (s .start + i)) (s .slots (slotOf W (byteOf (s .start + i))))) (s-hand i s)
+      → SNext W s (s-sends (byteOf (s .start + i)) (s .payloads i)) (s-hand i s)
   sn-hear : (s : Send) (b : ℕ) → SNext W s (s-hears b) (s-ack W s b)
   -- a run ended: anything
   sn-end : (s t : Send) → SNext W s s-ends t
 
 -- and of the receiving end point
 pub data RNext (W : ℕ) : Recv → RSeen → Recv → Type 0 where
-  -- nothing alters, or a Closed entry was opened
+  -- nothing alters, or a Closed entry was opened: what waits stays
   rn-same : (r : Recv) → RNext W r r-quiet r
-  rn-open : (r : Recv) → r .state ≡ r-closed → RNext W r r-quiet (r-state r-enabled r)
+  rn-open : (r t : Recv) → r .state ≡ r-closed → t .state ≡ r-enabled → t .waiting ≡ r .waiting → RNext W r r-quiet t
   -- the oldest acknowledgement goes
   rn-ack : (r : Recv) (b : ℕ) (bs : List ℕ) → r .waiting ≡ b ∷ bs → RNext W r (r-acks b) (r-wait bs r)
   -- arrivals: a Reset at Enabled or Open, Data at Open
-  rn-reset : (r : Recv) → Up (r .state) → RNext W r r-resets (r-reset r)
+  rn-reset : (r : Recv) → Up (r .state) → RNext W r r-resets r-reset
   rn-data : (r : Recv) (b : ℕ) (p : Pay) → r .state ≡ r-open
       → RNext W r (r-takes b p (r-data W r b p .given)) (r-data W r b p .next)
   -- Closed, and nothing waits

@@ -6,7 +6,7 @@ use mathlib.Core.Bool.{Bool, true, false}
 use mathlib.Core.List.{List, [], _∷_, map}
 use native.Mathlib.Omega.{arith}
 use Rattle.units.specs.Sizes.{isSize}
-use Rattle.window.specs.Numbers.{distanceOf, byteOf, slotOf}
+use Rattle.window.specs.Numbers.{distanceOf, byteOf}
 use Rattle.window.proofs.Sizes.{size-le}
 use Rattle.promise.specs.History.{Pay, s-enabled, Live, Sent, data!, Tag, old, new, Hist, SSeen, s-hears, RSeen, r-acks, r-resets, r-takes, SOwn, ROwn, s-note, popped, answered, r-note}
 use Rattle.promise.specs.Promise.{SSide, RSide, Kept, Sys, begin, Move, at-sender, at-receiver, ack-comes, reset-comes, data-comes, old-ack-comes, old-reset-comes, old-data-comes, Moves, no-move, and-then, Demand3}
@@ -32,7 +32,7 @@ module _ (W : ℕ) (w : isSize W ≡ true) where
       subst (λ (x : ℕ). Inv W (g-hand (s-hand k s) (numbered x) (whole s r h))) (sym same) (step-keeps W w (whole s r h) _ (data-out _ k q l) i)
     where
       numbered : ℕ → Sent
-      numbered x = data! (1 + s .confirmed + x) (byteOf (s .start + k)) (s .slots (slotOf W (byteOf (s .start + k))))
+      numbered x = data! (1 + s .confirmed + x) (byteOf (s .start + k)) (s .payloads k)
 
       -- the number that the history counts is the one that was handed out
       same : distanceOf (byteOf (1 + s .confirmed)) (byteOf (s .start + k)) ≡ k
@@ -67,7 +67,7 @@ module _ (W : ℕ) (w : isSize W ≡ true) where
   receiver-own : (s : Send) (r t : Recv) (e : RSeen) (h : Hist) → RNext W r e t → ROwn e → Inv W (whole s r h)
       → Inv W (whole s t (r-note (old 0) (h .dataIn) e h))
   receiver-own s r t e h (rn-same _) o i = i
-  receiver-own s r t e h (rn-open _ q) o i = step-keeps W w (whole s r h) _ (open-receiver _ q) i
+  receiver-own s r t e h (rn-open _ _ q up same) o i = step-keeps W w (whole s r h) _ (open-receiver _ t q up same) i
   receiver-own s r t e h (rn-ack _ b bs q) o i = acked-head s r h b bs q i
   receiver-own s r t e h (rn-reset _ u) o i = absurd o
   receiver-own s r t e h (rn-data _ b p q) o i = absurd o
@@ -78,7 +78,8 @@ module _ (W : ℕ) (w : isSize W ≡ true) where
   hears : (s t : Send) (b : ℕ) (r : Recv) (h : Hist) → SNext W s (s-hears b) t → Inv W (whole (s-ack W s b) r h) → Inv W (whole t r h)
   hears s t b r h (sn-hear _ _) i = i
 
-  resets : (s : Send) (r t : Recv) (h : Hist) → RNext W r r-resets t → (Up (r .state) → Inv W (whole s (r-reset r) h)) → Inv W (whole s t h)
+  resets : (s : Send) (r t : Recv) (h : Hist) → RNext W r r-resets t → (Up (r .state) → Inv W (whole s r-reset h))
+      → Inv W (whole s t h)
   resets s r t h (rn-reset _ u) i = i u
 
   takes : (s : Send) (r t : Recv) (b : ℕ) (p : Pay) (given : List Pay) (x : Tag) (d : Bool) (h : Hist) → RNext W r (r-takes b p given) t

@@ -52,12 +52,12 @@ while-open W g h i e keeps = let x = at-open W g i e in running (x .0) (keeps (x
 
 pub step-keeps : (W : ℕ) → isSize W ≡ true → (g h : Channel) → Step W g h → Inv W g → Inv W h
 step-keeps W w g h (nothing _) i = i
-step-keeps W w g h (send _ p e l) i = while-open W g h i e (send-keeps W w g p l)
+step-keeps W w g h (send _ p e l) i = while-open W g h i e (send-keeps W g p l)
 step-keeps W w g h (reset-out _ o e) i = reset-out-keeps W g o e i
-step-keeps W w g h (data-out _ k e l) i = while-open W g h i e (data-out-keeps W w g k l)
+step-keeps W w g h (data-out _ k e l) i = while-open W g h i e (data-out-keeps W g k l)
 step-keeps W w g h (fail _ e) i = while-open W g h i e (fail-keeps W g)
 step-keeps W w g h (close-receiver _ t e none-wait) i = close-keeps W g t e none-wait i
-step-keeps W w g h (open-receiver _ e) i = open-keeps W g i
+step-keeps W w g h (open-receiver _ t c e same) i = open-keeps W g t e same i
 step-keeps W w g h (ack-out _ b bs t ts ew et) i = ack-out-keeps g b bs t ts ew et W i
 step-keeps W w g h (reset-in _ m d u) i = reset-in-keeps W g m d i
 step-keeps W w g h (data-in _ n b p m late e) i = data-in-keeps W w g n b p m late e i

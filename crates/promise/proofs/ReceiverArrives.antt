@@ -1,226 +1,269 @@
--- Arrivals on a receiver's node: a Reset for the receiver opens it anew; refused frames, Urgents and what other entries take in leave its
--- view. Data for the receiver is left to a premise. Assumes nothing.
-use Prim.Native.Nat.{ℕ, _+_, _*_, _<_}
+-- An arrival at the receiver's machine: Data and a Reset for the entry are steps of its end point; all else is nothing for it. Assumes
+-- nothing.
+use Prim.Native.Nat.{ℕ, _+_, _*_, _≤_}
 use mathlib.Core.Path.{_≡_, refl, sym, ap, subst, _∙_}
 use mathlib.Core.Logic.{_≢_, _⊎_, inl, inr}
-use mathlib.Core.Bool.{Bool, true, false, _&&_, true≢false}
-use mathlib.Core.List.{List, [], _∷_}
+use mathlib.Core.Bool.{Bool, true, false, true≢false, not, _&&_}
+use mathlib.Core.Option.{Option, none, some}
+use mathlib.Core.List.{List, [], _∷_, _++_}
 use native.Mathlib.Decide.{ℕ-discrete}
 use native.Mathlib.Omega.{arith}
-use lib.Dec.{eqb}
+use lib.ListN.{length, getElem?, set, length-set}
+use lib.Seq.{sets}
+use lib.Dec.{eqb, ltb}
+use borrow.Author.Tests.{ne-eqb, ltb-false, not-false}
 use Rattle.units.specs.Refusals.{pick}
-use Rattle.waiting.specs.Acks.{waitingOf, dropped}
-use Rattle.order.specs.Order.{acksIn, notOf}
-use Rattle.order.proofs.Ringed.{Ring, push-acks}
-use Rattle.frame.specs.Layout.{payloadOf as bodyOf}
+use Rattle.units.proofs.Judging.{Clear}
+use Rattle.table.specs.Layout.{entryOf}
+use Rattle.table.specs.declared.Entry.{Entry}
+use Rattle.frame.specs.Layout.{payloadOf}
+use Rattle.frame.specs.Types.{forSender, carries}
+use Rattle.frame.specs.declared.Header.{Header}
 use Rattle.frame.specs.declared.FrameType.{FrameType}
 use Rattle.frame.specs.declared.FrameType.the-variants as type
-use Rattle.window.specs.Windows.{acceptOf, held}
-use Rattle.window.specs.declared.Window.{Window}
-use Rattle.window.proofs.Resetting.{new-held}
-use Rattle.table.specs.Layout.{entryOf}
-use Rattle.ends.specs.Ends.{loadEntry, endOf}
-use Rattle.ends.specs.Heads.{countIn}
-use Rattle.ends.specs.States.{isSends, isClosed}
-use Rattle.ends.specs.Runs.{isNew, anew}
-use Rattle.ends.specs.Lent.{Lent}
+use Rattle.ends.specs.States.{isSends, isClosed, isOpen}
 use Rattle.ends.specs.declared.State.{State}
 use Rattle.ends.specs.declared.State.the-variants.{Closed, Enabled, Open, Failing}
-use Rattle.ends.specs.declared.EndPoint.{EndPoint}
+use Rattle.blocks.specs.Blocks.{blockOf}
 use Rattle.blocks.specs.Reading.{readBlock}
-use Rattle.frame.specs.Types.{forSender, answered}
-use Rattle.lookup.proofs.Found.{Fitting}
-use Rattle.acking.specs.Acking.{counts, ackedRun, openedRun, ackNode}
-use Rattle.receiving.specs.Receiving.{acknowledged, resetNode, resetAfter, withWindow, passing, dataAfter, urgentAfter}
-use Rattle.receiving.proofs.Taking.{dataAfter-new, dataAfter-other}
-use Rattle.arriving.specs.Arriving.{takenAfter, arrivalAfter}
-use Rattle.good.specs.Good.{Lists, Good}
-use Rattle.good.specs.Calls.{Memory, lent, kept, answer, after}
-use Rattle.machine.specs.Calls.{arrives, Bytes}
-use Rattle.good.proofs.Framing.{entry-low}
-use Rattle.good.proofs.Turns.{turnedTo, anew-fresh, ring-of, saved-acks}
-use Rattle.good.proofs.ReceiveKeeps.{reset-acks, reset-end, reset-keeps}
-use Rattle.good.proofs.Arrivals.{Taken, Refused, taken-kind, arrives as arrival}
-use Rattle.good.proofs.ArriveKeeps.{arrive-keeps}
-use Rattle.promise.specs.History.{RSeen, r-quiet, r-resets}
-use Rattle.promise.specs.Link.{names, r-came, owedTo, r-seen}
-use Rattle.promise.proofs.Channel.{Recv, Up, r-reset}
-use Rattle.promise.proofs.Laws.{rn-same, rn-reset}
-use Rattle.promise.proofs.Views.{r-state-of, REnd, RView, r-elsewhere}
-use Rattle.good.proofs.Payloads.{payloadOf, fresh-held}
-use Rattle.promise.proofs.Frames.{fit-own, fit-other}
-use Rattle.promise.proofs.Arriving.{r-seen-back, after-back, r-seen-in, arrive-stored}
-use Rattle.promise.proofs.Owing.{owed-push, owed-push-other, owed-dropped, owed-dropped-other}
-use Rattle.promise.proofs.ReceiverLaw.{RStep, RLaw, r-still, r-same, r-turned, never-failing}
+use Rattle.blocks.proofs.Reading.{read-written}
+use Rattle.good.proofs.Arrivals.{payload-size}
+use Rattle.good.proofs.Known.{is-open}
+use Rattle.machine.specs.Calls.{arrives}
+use Rattle.machine.specs.Machine.{End, Item, acks, Machine, Outcome, anew, offset, isNew, heldRun, handing-on, numberAt, entryFor, blockRoom, acking, receiving, entryTests, resetting, taken, step, without}
+use Rattle.machine.specs.Sound.{Sound}
+use Rattle.machine.proofs.Blocks.{run-fits, block-fits, put-short}
+use Rattle.machine.proofs.Entries.{elem-in}
+use Rattle.promise.specs.History.{Pay, RSeen, r-quiet, r-resets, r-takes}
+use Rattle.promise.specs.Seen.{names, r-came, r-seen}
+use Rattle.promise.specs.Link.{owedTo}
+use Rattle.promise.proofs.Channel.{r-open, Up, Recv, Taken as Given, r-reset, r-take, r-drop, r-data}
+use Rattle.promise.proofs.Laws.{RNext, rn-reset, rn-data}
+use Rattle.promise.proofs.Entries.{some-same, elem-set-same, entry-is, names-own, names-other}
+use Rattle.promise.proofs.SenderCalls.{refused-done}
+use Rattle.promise.proofs.Arrivals.{Refused, Taken, arrival, taken-done, taken-leaves}
+use Rattle.promise.proofs.ReceiverView.{r-state-of, recvOf, reset-view, owed-own, owed-other, owed-kept, owed-gone, new-same, given-then, view-then}
+use Rattle.promise.proofs.ReceiverCalls.{owed, RStep, r-still}
 
--- ---- what it leaves of other entries' acknowledgements
+-- ---- what another entry takes in leaves its acknowledgements
 
-either-acks : (z : Bool) (ws vs : List ℕ) → acksIn vs ≡ acksIn ws → acksIn (pick z vs ws) ≡ acksIn ws
-either-acks true ws vs h = h
-either-acks false ws vs h = refl
+module _ (m : Machine) (out : List ℕ) (k : ℕ) (x : End) (s : ℕ) (p : List ℕ) (j : ℕ) (d : j ≢ k) where
+  abbrev Leaves : Outcome → Type 0
+  Leaves o = owed j (o .machine) ≡ owed j m
 
-ack-acks : (ws b : List ℕ) (i : ℕ) (e : EndPoint) (st : State) (s : ℕ) → acksIn (ackNode ws b i e st s) ≡ acksIn ws
-unfolding ackNode
-ack-acks ws b i e Closed s = refl
-ack-acks ws b i e (Enabled t sent) s = either-acks (sent && eqb s 0) ws _ (saved-acks ws i Open (openedRun (e .run)) .1)
-ack-acks ws b i e Open s = either-acks (counts (e .run) s) ws _ (saved-acks ws i Open (ackedRun (e .run) s) .1)
-ack-acks ws b i e (Failing n) s = either-acks (counts (e .run) s) ws _ (saved-acks ws i _ (ackedRun (e .run) s) .1)
+  either : (b : Bool) (o o′ : Outcome) → Leaves o → Leaves o′ → Leaves (pick b o o′)
+  either true o o′ h h′ = h
+  either false o o′ h h′ = h′
 
-module _ (t : List ℕ) (n : Memory) (block : List ℕ) (l : Lists) (g : Good t (n .node) (n .book) l) (i : ℕ) (li : i < countIn (n .node)) (s : ℕ) (byte : s < 256) (p : List ℕ) where
-  abbrev e : EndPoint
-  e = endOf (n .node) i
+  kept : owedTo j (without (λ y. eqb (y .entry) k) (m .waiting acks)) ≡ owed j m
+  kept = owed-kept j (λ y. eqb (y .entry) k) (m .waiting acks) (λ y h. ne-eqb (y .entry) k (λ q. d (sym h ∙ q)))
 
-  ring : Ring (n .node)
-  ring = ring-of t (n .node) (n .book) l g
+  ack-keeps : (st : State) → Leaves (acking m out k x s st)
+  unfolding acking
+  ack-keeps Closed = refl
+  ack-keeps (Enabled t sent) = either (sent && eqb s 0) _ _ kept refl
+  ack-keeps Open = either (numberAt x s .handed && not (numberAt x s .acked)) _ _ refl refl
+  ack-keeps (Failing n) = either (numberAt x s .handed && not (numberAt x s .acked)) _ _ refl refl
 
-  low : i < 256
-  low = omega (arith, entry-low t (n .node) (n .book) l g i li)
+  taken-keeps : (q : FrameType) → Leaves (taken m out k x q s p)
+  unfolding taken receiving resetting
+  taken-keeps type.Data = either (isNew x s) _ _ (owed-other j (m .waiting acks) k s d) (owed-other j (m .waiting acks) k s d)
+  taken-keeps type.Acknowledge = ack-keeps (x .state)
+  taken-keeps type.Reset = owed-other j (without (λ y. eqb (y .entry) k) (m .waiting acks)) k 0 d ∙ kept
+  taken-keeps type.Urgent = refl
 
-  module _ (j : ℕ) (d : i ≢ j) where
-    data-owed : waitingOf (n .node) < 32 → owedTo j (acksIn (dataAfter (lent n block) i e s p .node)) ≡ owedTo j (acksIn (n .node))
-    data-owed w = sides (isNew (acceptOf (e .run .window) s .found)) refl
-      where
-        pushes : owedTo j (acksIn (acknowledged (n .node) i s)) ≡ owedTo j (acksIn (n .node))
-        pushes = ap (owedTo j) (push-acks (n .node) ring (i * 256 + s) w) ∙ owed-push-other j i s (acksIn (n .node)) low byte d
+-- ---- Data for the entry
 
-        sides : (z : Bool) → isNew (acceptOf (e .run .window) s .found) ≡ z → owedTo j (acksIn (dataAfter (lent n block) i e s p .node)) ≡ owedTo j (acksIn (n .node))
-        sides true h =
-            rw (dataAfter-new (lent n block) i e s p h)
-            (ap (owedTo j) (saved-acks (acknowledged (n .node) i s) i (e .state) (withWindow (e .run) (passing e s .window)) .1) ∙ pushes)
-        sides false h = rw (dataAfter-other (lent n block) i e s p h) pushes
+module _ (t : List ℕ) (m : Machine) (S : Sound t m) (j : ℕ) (e : End) (there : getElem? (m .ends) j ≡ some e) (opened : e .state ≡ Open)
+    (out : List ℕ) (room : blockRoom (entryOf t j) ≤ length out) (s : ℕ) (p : List ℕ) (short : length p ≤ entryOf t j .largest) where
+  abbrev size : ℕ
+  size = entryOf t j .window
 
-    reset-owed : isSends (e .entry .kind) ≡ false → waitingOf (n .node) < 32 → owedTo j (acksIn (resetAfter (lent n block) i e .node)) ≡ owedTo j (acksIn (n .node))
-    unfolding resetAfter resetNode
-    reset-owed k w =
-        ap (owedTo j) (saved-acks (acknowledged (dropped i (n .node)) i 0) i Open (anew (e .run)) .1 ∙ reset-acks t (lent n block) l g i li k w)
-        ∙ owed-push-other j i 0 (notOf i (acksIn (n .node))) low (omega arith) d
-        ∙ owed-dropped-other j i (acksIn (n .node)) d
+  abbrev r : Recv
+  r = recvOf e (owed j m)
 
-    taken-owed : (q : FrameType) → isSends (e .entry .kind) ≡ forSender q → (answered q ≡ true → waitingOf (n .node) < 32)
-        → owedTo j (acksIn (takenAfter (lent n block) i e q s p .node)) ≡ owedTo j (acksIn (n .node))
-    unfolding takenAfter urgentAfter
-    taken-owed type.Data k w = data-owed (w refl)
-    taken-owed type.Acknowledge k w = ap (owedTo j) (ack-acks (n .node) (n .book) i e (e .state) s)
-    taken-owed type.Reset k w = reset-owed k (w refl)
-    taken-owed type.Urgent k w = refl
+  wide : length (e .places) ≡ size
+  wide = S .bounded j e there .places
 
--- ---- a Reset for the receiver
+  -- the block reads as what was delivered
+  run-reads : readBlock (sets out 0 (blockOf (heldRun (set (e .places) (offset e s) (some p))))) ≡ heldRun (set (e .places) (offset e s) (some p))
+  run-reads =
+      let fits = run-fits (entryOf t j) (set (e .places) (offset e s) (some p)) (length-set (e .places) (offset e s) (some p) ∙ wide)
+      (put-short (e .places) (entryOf t j .largest) (offset e s) p (λ k q h. S .bounded j e there .held q (elem-in (e .places) k h) .most) short) in
+      read-written out (heldRun (set (e .places) (offset e s) (some p))) (omega (arith, fits, room))
 
-up-of : (s : State) → isClosed s ≡ false → ((n : ℕ) → s ≡ Failing n → ⊥) → Up (r-state-of s)
-up-of Closed c f = absurd (true≢false c)
-up-of (Enabled t sent) c f = tt
-up-of Open c f = tt
-up-of (Failing n) c f = absurd (f n refl)
+  none-reads : readBlock (sets out 0 (blockOf [])) ≡ []
+  none-reads =
+      let fits = block-fits (entryOf t j) [] (omega arith) (λ k q h. absurd (let z : _≡_ {A = ℕ} 0 1 = cc in omega arith)) in
+      read-written out [] (omega (arith, fits, room))
 
-module _ (u : List ℕ) (j : ℕ) (n : Memory) (r : Recv) (v : RView u j n r) (block : List ℕ) where
-  abbrev resetTo : Memory
-  resetTo = kept (resetAfter (lent n block) j (endOf (n .node) j))
+  abbrev Follows : Outcome → Type 0
+  Follows o = (x : End) × (getElem? (o .machine .ends) j ≡ some x) × RNext size r (r-takes s p (readBlock (o .answer .out))) (recvOf x (owed j (o .machine)))
 
-  reset-waits : waitingOf (n .node) < 32 → owedTo j (acksIn (resetTo .node)) ≡ 0 ∷ []
-  unfolding resetAfter resetNode
-  reset-waits w =
-      ap (owedTo j) (saved-acks (acknowledged (dropped j (n .node)) j 0) j Open (anew (endOf (n .node) j .run)) .1
-      ∙ reset-acks u (lent n block) (v .lists) (v .good) j (v .known) (v .receives) w)
-      ∙ owed-push j 0 (notOf j (acksIn (n .node))) (omega (arith, entry-low u (n .node) (n .book) (v .lists) (v .good) j (v .known))) (omega arith)
-      ∙ rw (owed-dropped j (acksIn (n .node)))
+  data-as : (k : Given) → r-data size r s p ≡ k → (x : End) (w : List ℕ) (given : List Pay) → k .given ≡ given → recvOf x w ≡ k .next → RNext size r (r-takes s p given) (recvOf x w)
+  data-as k q x w given g v =
+      subst (λ (l : List Pay). RNext size r (r-takes s p l) (recvOf x w)) g
+      (subst (RNext size r (r-takes s p (k .given))) (sym v)
+      (subst (λ (z : Given). RNext size r (r-takes s p (z .given)) (z .next)) q (rn-data r s p (ap r-state-of opened))))
 
-  anew-end : waitingOf (n .node) < 32
-      → REnd (entryOf u j .window) (turnedTo (endOf (n .node) j) Open (anew (endOf (n .node) j .run))) (payloadOf resetTo j) (owedTo j (acksIn (resetTo .node))) (r-reset r)
-  anew-end w =
-      let run = endOf (n .node) j .run in
-      let fresh = anew-fresh run .window in
-      record {
-        state = refl;
-        start = ap (λ (x : Window). x .start .0) (sym fresh);
-        marks = λ k. sym (ap (λ (x : Window). held x k) fresh ∙ new-held (anew run .window .size) k);
-        slots = λ k h. absurd (fresh-held (anew run) (anew-fresh run) k h);
-        waiting = sym (reset-waits w);
-      }
+  pub data-follows : Follows (receiving m out j e s p)
+  unfolding receiving
+  data-follows = sides (isNew e s) refl
+    where
+      sides : (b : Bool) → isNew e s ≡ b → Follows (receiving m out j e s p)
+      sides true new =
+          let q : r-data size r s p ≡ r-take size r s p = ap (λ (b : Bool). pick b (r-take size r s p) (r-drop r s)) (sym (new-same size e wide s p) ∙ new) in
+          let ps = set (e .places) (offset e s) (some p) in
+          let x = handing-on (length (heldRun ps)) ps e in
+          rw new (
+            x,
+            elem-set-same (m .ends) j e x there,
+            data-as (r-take size r s p) q x (owedTo j (m .waiting acks ++ (record { entry = j; number = s } ∷ []))) (readBlock (sets out 0 (blockOf (heldRun ps)))) (given-then size e wide s p new (owed j m) ∙ sym run-reads)
+                (ap (recvOf x) (owed-own j (m .waiting acks) j s refl) ∙ view-then size e wide s p new (owed j m)),
+          )
+      sides false old =
+          let q : r-data size r s p ≡ r-drop r s = ap (λ (b : Bool). pick b (r-take size r s p) (r-drop r s)) (sym (new-same size e wide s p) ∙ old) in
+          rw old (
+            e,
+            there,
+            data-as (r-drop r s) q e (owedTo j (m .waiting acks ++ (record { entry = j; number = s } ∷ []))) (readBlock (sets out 0 (blockOf []))) (sym none-reads) (ap (recvOf e) (owed-own j (m .waiting acks) j s refl)),
+          )
 
-  reset-step : isClosed (endOf (n .node) j .state) ≡ false → waitingOf (n .node) < 32 → RStep u j r-resets resetTo r
-  unfolding resetAfter
-  reset-step c w =
-      let k = reset-keeps u (lent n block) (v .lists) (v .good) j (v .known) (v .receives) w in
-      let up = up-of (endOf (n .node) j .state) c (never-failing u (n .node) (n .book) (v .lists) (v .good) j (v .known) (v .receives)) in (
-        r-reset r,
-        rn-reset r (rw (v .end .state) up),
-        r-turned u j n resetTo r (r-reset r) v (k .lists) (k .good) (k .apart) refl
-            (turnedTo (endOf (n .node) j) Open (anew (endOf (n .node) j .run)))
-            (reset-end u (lent n block) (v .lists) (v .good) j (v .known) (v .receives)) refl (anew-end w),
+-- ---- an arrival
+
+module _ (t : List ℕ) (m : Machine) (S : Sound t m) (j : ℕ) (e : End) (there : getElem? (m .ends) j ≡ some e) (receives : isSends (e .entry .kind) ≡ false) (block f : List ℕ) where
+  abbrev W : ℕ
+  W = entryOf t j .window
+
+  abbrev Step : Outcome → Type 0
+  Step o = RStep t m j e (arrives block f) o
+
+  refused : Refused m block f → Step (step m (arrives block f))
+  unfolding step r-seen
+  refused r = subst Step (sym (r .is)) (r-still t m j e (arrives block f) _ e there refl (rw (refused-done (r .why))))
+
+  -- not Closed, and never Failing
+  up : isClosed (e .state) ≡ false → Up (r-state-of (e .state))
+  up c = sides (e .state) refl c
+    where
+      sides : (st : State) → e .state ≡ st → isClosed st ≡ false → Up (r-state-of st)
+      sides Closed q h = absurd (true≢false h)
+      sides (Enabled timer sent) q h = tt
+      sides Open q h = tt
+      sides (Failing n) q h = absurd (S .bounded j e there .receives (ap (λ (x : Entry). isSends (x .kind)) (sym (entry-is t m S j e there)) ∙ receives) .runs n q)
+
+  -- a Reset for the entry
+  reset-follows : isClosed (e .state) ≡ false → (y : End) × (getElem? (resetting m block j e .machine .ends) j ≡ some y)
+      × RNext W (recvOf e (owed j m)) r-resets (recvOf y (owed j (resetting m block j e .machine)))
+  unfolding resetting
+  reset-follows c =
+      let left : owed j (resetting m block j e .machine) ≡ 0 ∷ [] =
+      owed-own j (without (λ y. eqb (y .entry) j) (m .waiting acks)) j 0 refl ∙ ap (λ (l : List ℕ). l ++ (0 ∷ [])) (owed-gone j (m .waiting acks)) in (
+        anew Open e,
+        elem-set-same (m .ends) j e (anew Open e) there,
+        subst (RNext W (recvOf e (owed j m)) r-resets) (sym (ap (recvOf (anew Open e)) left ∙ reset-view (e .entry .window))) (rn-reset (recvOf e (owed j m)) (up c)),
       )
 
--- ---- the call
+  -- taken in by entry k, which is x, as a frame of type q
+  module _ (a : Taken m block f) (q : FrameType) (kind : a .header .kind ≡ q) where
+    abbrev k : ℕ
+    k = entryFor m (a .header)
 
-module _ (u : List ℕ) (j : ℕ) (n : Memory) (r : Recv) (v : RView u j n r) (block f : List ℕ) (a : Taken (lent n block) f) where
-  abbrev came : FrameType → RSeen
-  came q = r-came (entryOf u j) (a .header) (bodyOf f) (readBlock (answer n (arrives block f) .out)) q
+    abbrev x : End
+    x = a .end
 
-  seen : (q : FrameType) → a .header .kind ≡ q → r-seen (entryOf u j) j (arrives block f) (answer n (arrives block f)) ≡ came q
-  seen q h = r-seen-in n block f a (entryOf u j) j ∙ ap came h
+    abbrev s : ℕ
+    s = a .header .seq .0
 
-  left-as : (q : FrameType) → a .header .kind ≡ q
-      → arrivalAfter (lent n block) f ≡ takenAfter (lent n block) (a .entry) (endOf (n .node) (a .entry)) q (a .header .seq .0) (bodyOf f)
-  left-as q h = a .after ∙ ap (λ (y : FrameType). takenAfter (lent n block) (a .entry) (endOf (n .node) (a .entry)) y (a .header .seq .0) (bodyOf f)) h
+    abbrev p : List ℕ
+    p = payloadOf f
 
-  -- another entry takes it in: it does not name this one
-  other-named : j ≢ a .entry → forSender (a .header .kind) ≡ false → names (entryOf u j) (a .header .source .0) (a .header .channel .0) ≡ false
-  other-named d h =
-      fit-other u (n .node) (n .book) (v .lists) (v .good) j (v .known) (a .entry) (a .known) (forSender (a .header .kind)) (a .header .source .0) (a .header .channel .0)
-      (a .fit) (v .receives ∙ sym h) d
+    abbrev o : Outcome
+    o = taken m block k x q s p
 
-  other-seen : j ≢ a .entry → (q : FrameType) → a .header .kind ≡ q → came q ≡ r-quiet
-  other-seen d type.Data h = rw (other-named d (ap forSender h))
-  other-seen d type.Acknowledge h = refl
-  other-seen d type.Reset h = rw (other-named d (ap forSender h))
-  other-seen d type.Urgent h = refl
+    abbrev came : RSeen
+    came = r-came (entryOf t j) (a .header) p (readBlock (o .answer .out)) q
 
-  other-view : Bytes f → j ≢ a .entry → RView u j (after n (arrives block f)) r
-  unfolding after
-  other-view b d =
-      let k = arrive-keeps u (lent n block) (v .lists) f (v .good) b a in
-      let i = a .entry in
-      r-elsewhere u j n (kept (arrivalAfter (lent n block) f)) r v (k .lists) i d (k .good) (k .apart) (k .within) (arrive-stored u n block f (v .lists) (v .good) a)
-      (rw (a .after) (taken-owed u n block (v .lists) (v .good) i (a .known) (a .header .seq .0) (a .byte b) (bodyOf f) j (λ e. d (sym e)) (a .header .kind)
-      (taken-kind (lent n block) f a) (a .room)))
+    arrives-is : step m (arrives block f) ≡ o
+    unfolding step
+    arrives-is = a .is ∙ ap (λ (z : FrameType). taken m block k x z s p) kind
 
-  other : Bytes f → j ≢ a .entry → RLaw u j n (arrives block f) r
-  other b d = r-still u j n (arrives block f) r (seen (a .header .kind) refl ∙ other-seen d (a .header .kind) refl) (other-view b d)
+    seen : r-seen (entryOf t j) j (arrives block f) (o .answer) ≡ came
+    unfolding r-seen
+    seen = rw (taken-done m block k x s p q, a .read) (ap (r-came (entryOf t j) (a .header) p (readBlock (o .answer .out))) kind)
 
-  -- it is for this one
-  own-reset : j ≡ a .entry → a .header .kind ≡ type.Reset → RLaw u j n (arrives block f) r
-  unfolding after takenAfter
-  own-reset e h =
-      let named = fit-own u (n .node) (n .book) (v .lists) (v .good) j (v .known) (forSender (a .header .kind)) (a .header .source .0) (a .header .channel .0)
-      (subst (λ (i : ℕ). Fitting (loadEntry (n .node) i) (forSender (a .header .kind)) (a .header .source .0) (a .header .channel .0)) (sym e) (a .fit)) in
-      let q : r-seen (entryOf u j) j (arrives block f) (answer n (arrives block f)) ≡ r-resets = seen type.Reset h ∙ rw named in
-      let m : arrivalAfter (lent n block) f ≡ resetAfter (lent n block) j (endOf (n .node) j) =
-      left-as type.Reset h ∙ ap (λ (i : ℕ). resetAfter (lent n block) i (endOf (n .node) i)) (sym e) in
-      rw q (subst (λ (y : Lent). RStep u j r-resets (kept y) r) (sym m)
-      (reset-step u j n r v block (subst (λ (i : ℕ). isClosed (endOf (n .node) i .state) ≡ false) (sym e) (a .up)) (a .room (ap answered h))))
+    same : j ≡ k → x ≡ e
+    same c = some-same (sym (a .there) ∙ sym (ap (λ (i : ℕ). getElem? (m .ends) i) c) ∙ there)
 
-  own-urgent : a .header .kind ≡ type.Urgent → RLaw u j n (arrives block f) r
-  unfolding after takenAfter urgentAfter
-  own-urgent h = rw (seen type.Urgent h) (r, rn-same r, subst (λ (y : Lent). RView u j (kept y) r) (sym (left-as type.Urgent h)) v)
+    tests : Clear (entryTests m x q (a .header .length) (length block))
+    tests = subst (λ (z : FrameType). Clear (entryTests m x z (a .header .length) (length block))) kind (a .clear)
 
-  -- an acknowledgement is for a sender
-  own-ack : j ≡ a .entry → a .header .kind ≡ type.Acknowledge → ⊥
-  own-ack e h = true≢false (sym (taken-kind (lent n block) f a ∙ ap forSender h) ∙ ap (λ (i : ℕ). isSends (endOf (n .node) i .entry .kind)) (sym e) ∙ v .receives)
+    kinds : isSends (x .entry .kind) ≡ forSender q
+    kinds = a .fit .kind ∙ ap forSender kind
 
-  own : j ≡ a .entry → (a .header .kind ≡ type.Data → RLaw u j n (arrives block f) r) → (q : FrameType) → a .header .kind ≡ q → RLaw u j n (arrives block f) r
-  own e d type.Data h = d h
-  own e d type.Acknowledge h = absurd (own-ack e h)
-  own e d type.Reset h = own-reset e h
-  own e d type.Urgent h = own-urgent h
+    -- for another entry
+    elsewhere : j ≢ k → came ≡ r-quiet → Step o
+    elsewhere d z =
+        r-still t m j e (arrives block f) o e (taken-leaves m block k x s p j d q ∙ there) (ap (recvOf e) (taken-keeps m block k x s p j d q)) (seen ∙ z)
 
--- the law, once Data for the receiver is such a step
-pub r-arrives : (u : List ℕ) (j : ℕ) (n : Memory) (r : Recv) (block f : List ℕ) → RView u j n r → Bytes f
-    → ((a : Taken (lent n block) f) → a .entry ≡ j → a .header .kind ≡ type.Data → RLaw u j n (arrives block f) r) → RLaw u j n (arrives block f) r
-r-arrives u j n r block f v b d = sides (arrival (lent n block) (v .good .tabled .index) f)
-  where
-    whose : (a : Taken (lent n block) f) → Dec (j ≡ a .entry) → RLaw u j n (arrives block f) r
-    whose a (yes e) = own u j n r v block f a e (d a (sym e)) (a .header .kind) refl
-    whose a (no e) = other u j n r v block f a b e
+    -- for this one, or for another that it does not name
+    named : (own : RSeen) → forSender q ≡ false → came ≡ pick (names (entryOf t j) (a .header .source .0) (a .header .channel .0)) own r-quiet
+        → (j ≡ k → (y : End) × (getElem? (o .machine .ends) j ≡ some y) × RNext W (recvOf e (owed j m)) own (recvOf y (owed j (o .machine))))
+        → Step o
+    named own z c here = sides (ℕ-discrete j k)
+      where
+        by-entry : came ≡ pick (names (entryOf t j) (x .entry .remote .0) (x .entry .channel .0)) own r-quiet
+        by-entry =
+            c ∙ ap (λ (y : ℕ). pick (names (entryOf t j) y (a .header .channel .0)) own r-quiet) (sym (a .fit .source))
+            ∙ ap (λ (y : ℕ). pick (names (entryOf t j) (x .entry .remote .0) y) own r-quiet) (sym (a .fit .channel))
 
-    sides : Refused (lent n block) f ⊎ Taken (lent n block) f → RLaw u j n (arrives block f) r
-    sides (inl a) = r-same u j n (arrives block f) r (after-back n block f a) (r-seen-back n block f a (entryOf u j) j) v
-    sides (inr a) = whose a (ℕ-discrete j (a .entry))
+        sides : Dec (j ≡ k) → Step o
+        sides (yes i) =
+            let h = here i in
+            let y : r-seen (entryOf t j) j (arrives block f) (o .answer) ≡ own = seen ∙ by-entry ∙ rw (same i, names-own t m S j e there) in
+            record { end = h .0; there = h .1; next = subst (λ (v : RSeen). RNext W (recvOf e (owed j m)) v (recvOf (h .0) (owed j (o .machine)))) (sym y) (h .2) }
+        sides (no d) = elsewhere d (by-entry ∙ rw (names-other t m S j e there k x (a .there) (receives ∙ sym (kinds ∙ z)) d))
+
+  -- an outcome in which entry j follows
+  abbrev After : RSeen → Outcome → Type 0
+  After own o = (y : End) × (getElem? (o .machine .ends) j ≡ some y) × RNext W (recvOf e (owed j m)) own (recvOf y (owed j (o .machine)))
+
+  data-here : (a : Taken m block f) (kind : a .header .kind ≡ type.Data) → j ≡ entryFor m (a .header)
+      → After (r-takes (a .header .seq .0) (payloadOf f) (readBlock (o a type.Data kind .answer .out))) (o a type.Data kind)
+  unfolding taken
+  data-here a kind i =
+      let z : a .end ≡ e = same a type.Data kind i in
+      let c = tests a type.Data kind in
+      let entry : a .end .entry ≡ entryOf t j = ap (λ (y : End). y .entry) z ∙ entry-is t m S j e there in
+      let opened : e .state ≡ Open = ap (λ (y : End). y .state) (sym z) ∙ is-open (a .end .state) (not-false (isOpen (a .end .state)) (c .1 .0)) in
+      let few : length (payloadOf f) ≤ a .end .entry .largest = rw (payload-size f (a .header) (a .read) .0) (ltb-false (a .end .entry .largest) (a .header .length) (c .1 .1 .0)) in
+      let room = ltb-false (length block) (blockRoom (a .end .entry)) (c .1 .1 .1 .1 .1 .0) in
+      let r = data-follows t m S j e there opened block (subst (λ (y : Entry). blockRoom y ≤ length block) entry room) (a .header .seq .0) (payloadOf f)
+      (subst (λ (y : Entry). length (payloadOf f) ≤ y .largest) entry few) in
+      let is : receiving m block j e (a .header .seq .0) (payloadOf f) ≡ receiving m block (entryFor m (a .header)) (a .end) (a .header .seq .0) (payloadOf f) =
+      ap (λ (y : ℕ). receiving m block y e (a .header .seq .0) (payloadOf f)) i ∙ ap (λ (y : End). receiving m block (entryFor m (a .header)) y (a .header .seq .0) (payloadOf f)) (sym z) in
+      subst (λ (v : Outcome). After (r-takes (a .header .seq .0) (payloadOf f) (readBlock (v .answer .out))) v) is r
+
+  reset-here : (a : Taken m block f) (kind : a .header .kind ≡ type.Reset) → j ≡ entryFor m (a .header) → After r-resets (o a type.Reset kind)
+  unfolding taken
+  reset-here a kind i =
+      let z : a .end ≡ e = same a type.Reset kind i in
+      let is : resetting m block j e ≡ resetting m block (entryFor m (a .header)) (a .end) =
+      ap (λ (y : ℕ). resetting m block y e) i ∙ ap (resetting m block (entryFor m (a .header))) (sym z) in
+      subst (After r-resets) is (reset-follows (subst (λ (y : End). isClosed (y .state) ≡ false) z (a .clear .0)))
+
+  by-kind : (a : Taken m block f) (q : FrameType) (kind : a .header .kind ≡ q) → Step (o a q kind)
+  unfolding taken
+  by-kind a type.Data kind = named a type.Data kind (r-takes (a .header .seq .0) (payloadOf f) (readBlock (o a type.Data kind .answer .out))) refl refl (data-here a kind)
+  by-kind a type.Reset kind = named a type.Reset kind r-resets refl refl (reset-here a kind)
+  by-kind a type.Urgent kind = r-still t m j e (arrives block f) (o a type.Urgent kind) e there refl (seen a type.Urgent kind)
+  by-kind a type.Acknowledge kind =
+      elsewhere a type.Acknowledge kind
+      (λ i. true≢false (sym (kinds a type.Acknowledge kind) ∙ ap (λ (y : End). isSends (y .entry .kind)) (same a type.Acknowledge kind i) ∙ receives)) refl
+
+  pub r-arrives : Step (step m (arrives block f))
+  r-arrives = sides (arrival m block f)
+    where
+      sides : Refused m block f ⊎ Taken m block f → Step (step m (arrives block f))
+      sides (inl r) = refused r
+      sides (inr a) = subst Step (sym (arrives-is a (a .header .kind) refl)) (by-kind a (a .header .kind) refl)

@@ -1,94 +1,155 @@
--- An arrival at the sender's node is a step of the entry viewed: its own acknowledgement is heard, and all else passes it by.
--- Assumes nothing.
-use Prim.Native.Nat.{ℕ}
+-- An arrival at the sender's machine: an acknowledgement for the entry is a step of its end point; all else is nothing for it. Assumes
+-- nothing.
+use Prim.Native.Nat.{ℕ, _≤_}
 use mathlib.Core.Path.{_≡_, refl, sym, ap, subst, _∙_}
 use mathlib.Core.Logic.{_≢_, _⊎_, inl, inr}
-use mathlib.Core.Bool.{false, true≢false}
-use mathlib.Core.List.{List}
+use mathlib.Core.Bool.{Bool, true, false, true≢false, not, _&&_}
+use mathlib.Core.Option.{some}
+use mathlib.Core.List.{List, [], _∷_}
 use native.Mathlib.Decide.{ℕ-discrete}
+use lib.ListN.{length, getElem?}
+use lib.Dec.{eqb}
+use Rattle.units.specs.Refusals.{pick}
 use Rattle.table.specs.Layout.{entryOf}
+use Rattle.table.specs.declared.Entry.{Entry}
+use Rattle.frame.specs.Layout.{payloadOf}
+use Rattle.frame.specs.Types.{forSender}
+use Rattle.frame.specs.declared.Header.{Header}
 use Rattle.frame.specs.declared.FrameType.{FrameType}
 use Rattle.frame.specs.declared.FrameType.the-variants as type
-use Rattle.ends.specs.Ends.{loadEntry, endOf}
 use Rattle.ends.specs.States.{isSends}
-use Rattle.frame.specs.Types.{forSender}
-use Rattle.lookup.proofs.Found.{Fitting}
-use Rattle.acking.specs.Acking.{ackAfter}
-use Rattle.arriving.specs.Arriving.{takenAfter, arrivalAfter}
-use Rattle.good.specs.Calls.{Memory, lent, kept, answer, after}
-use Rattle.machine.specs.Calls.{arrives, Bytes}
-use Rattle.good.proofs.Arrivals.{Taken, Refused, taken-kind, arrives as arrival}
-use Rattle.good.proofs.ArriveKeeps.{arrive-keeps}
-use Rattle.promise.specs.History.{SSeen, s-hears}
-use Rattle.promise.specs.Link.{s-seen}
-use Rattle.promise.proofs.Channel.{Send, s-ack}
+use Rattle.ends.specs.declared.State.{State}
+use Rattle.ends.specs.declared.State.the-variants.{Closed, Enabled, Open, Failing}
+use Rattle.machine.specs.Calls.{arrives}
+use Rattle.machine.specs.Machine.{End, Machine, Outcome, counted, anew, stated, offset, numberAt, timed, ackedRun, running, passing, entryFor, acking, taken, step}
+use Rattle.machine.specs.Sound.{Sound}
+use Rattle.promise.specs.History.{SSeen, s-quiet, s-hears}
+use Rattle.promise.specs.Seen.{names, s-came, s-seen, s-state-of}
+use Rattle.promise.proofs.Channel.{Send, s-ack, s-ack-at}
 use Rattle.promise.proofs.Laws.{SNext, sn-hear}
-use Rattle.promise.proofs.Views.{SView, s-elsewhere}
-use Rattle.promise.proofs.SenderLaw.{SLaw, s-still, s-same}
-use Rattle.promise.proofs.Frames.{fit-own, fit-other}
-use Rattle.promise.proofs.Arriving.{s-seen-back, after-back, s-seen-in, arrive-stored}
-use Rattle.promise.proofs.SenderAcks.{s-heard}
+use Rattle.promise.proofs.Entries.{some-same, elem-set-same, entry-is, names-own, names-other}
+use Rattle.promise.proofs.SenderView.{sendOf, counts-same, passed-view}
+use Rattle.promise.proofs.SenderCalls.{SStep, s-still, refused-done}
+use Rattle.promise.proofs.Arrivals.{Refused, Taken, arrival, taken-done, taken-leaves}
 
-module _ (t : List ℕ) (i : ℕ) (n : Memory) (s : Send) (block f : List ℕ) (bytes : Bytes f) (v : SView t i n s) (a : Taken (lent n block) f) where
-  -- another entry's
-  elsewhere : i ≢ a .entry → SView t i (after n (arrives block f)) s
-  unfolding after
-  elsewhere d =
-      let k = arrive-keeps t (lent n block) (v .lists) f (v .good) bytes a in
-      s-elsewhere t i n (kept (arrivalAfter (lent n block) f)) s v (k .lists) (a .entry) d (k .good) (k .apart) (k .within)
-      (arrive-stored t n block f (v .lists) (v .good) a)
+-- ---- an acknowledgement for the entry
 
-  -- a frame for a receiver
-  for-receiver : forSender (a .header .kind) ≡ false → i ≢ a .entry
-  for-receiver q e =
-      true≢false (sym (v .sends) ∙ ap (λ (j : ℕ). isSends (endOf (n .node) j .entry .kind)) e ∙ taken-kind (lent n block) f a ∙ q)
+-- what it leaves of the entry
+pub record Acked (m : Machine) (i : ℕ) (e : End) (W s : ℕ) (o : Outcome) : Type 0 where
+  pub end : End
+  pub there : getElem? (o .machine .ends) i ≡ some end
+  pub view : sendOf end ≡ s-ack W (sendOf e) s
 
-  -- the entry's own acknowledgement
-  own-after : a .entry ≡ i → a .header .kind ≡ type.Acknowledge
-      → after n (arrives block f) ≡ kept (ackAfter (lent n block) i (endOf (n .node) i) (endOf (n .node) i .state) (a .header .seq .0))
-  unfolding after takenAfter
-  own-after e q = rw (a .after, q, e)
+module _ (m : Machine) (out : List ℕ) (i : ℕ) (e : End) (there : getElem? (m .ends) i ≡ some e) (W : ℕ) (narrow : length (e .numbers) ≤ W) (s : ℕ) where
+  abbrev counts : Bool
+  counts = numberAt e s .handed && not (numberAt e s .acked)
 
-  own : a .entry ≡ i → a .header .kind ≡ type.Acknowledge → SLaw t i n (arrives block f) s
-  own e q =
-      let b = a .header .seq .0 in
-      let seen : s-seen (entryOf t i) i (arrives block f) (answer n (arrives block f)) ≡ s-hears b =
-      s-seen-in n block f a (entryOf t i) i
-      ∙ rw (
-        q,
-        fit-own t (n .node) (n .book) (v .lists) (v .good) i (v .known) (forSender (a .header .kind)) (a .header .source .0) (a .header .channel .0)
-            (subst (λ (j : ℕ). Fitting (loadEntry (n .node) j) (forSender (a .header .kind)) (a .header .source .0) (a .header .channel .0)) e (a .fit)),
-      ) in (
-        s-ack (entryOf t i .window) s b,
-        subst (λ (x : SSeen). SNext (entryOf t i .window) s x (s-ack (entryOf t i .window) s b)) (sym seen) (sn-hear s b),
-        subst (λ (m : Memory). SView t i m (s-ack (entryOf t i .window) s b)) (sym (own-after e q)) (s-heard t i n s v block b (a .byte bytes)),
-      )
+  handed-out : (a b : Bool) → (a && b) ≡ true → a ≡ true
+  handed-out true b h = refl
+  handed-out false b h = h
 
-  -- another's
-  other : i ≢ a .entry → a .header .kind ≡ type.Acknowledge → SLaw t i n (arrives block f) s
-  other d q =
-      s-still t i n (arrives block f) s
-      (s-seen-in n block f a (entryOf t i) i
-      ∙ rw (
-        q,
-        fit-other t (n .node) (n .book) (v .lists) (v .good) i (v .known) (a .entry) (a .known) (forSender (a .header .kind)) (a .header .source .0) (a .header .channel .0) (a .fit)
-            (v .sends ∙ sym (ap forSender q)) d,
-      ))
-      (elsewhere d)
-
-  by-type : (q : FrameType) → a .header .kind ≡ q → SLaw t i n (arrives block f) s
-  by-type type.Data q = s-still t i n (arrives block f) s (s-seen-in n block f a (entryOf t i) i ∙ rw q) (elsewhere (for-receiver (ap forSender q)))
-  by-type type.Reset q = s-still t i n (arrives block f) s (s-seen-in n block f a (entryOf t i) i ∙ rw q) (elsewhere (for-receiver (ap forSender q)))
-  by-type type.Urgent q = s-still t i n (arrives block f) s (s-seen-in n block f a (entryOf t i) i ∙ rw q) (elsewhere (for-receiver (ap forSender q)))
-  by-type type.Acknowledge q = sides (ℕ-discrete (a .entry) i)
+  pub acked : Acked m i e W s (acking m out i e s (e .state))
+  unfolding acking
+  acked = sides (e .state) refl
     where
-      sides : Dec (a .entry ≡ i) → SLaw t i n (arrives block f) s
-      sides (yes e) = own e q
-      sides (no d) = other (λ e. d (sym e)) q
+      sides : (st : State) → e .state ≡ st → Acked m i e W s (acking m out i e s st)
+      sides Closed q = record { end = e; there = there; view = rw q }
+      sides (Enabled timer sent) q = picked (sent && eqb s 0) refl
+        where
+          picked : (b : Bool) → (sent && eqb s 0) ≡ b → Acked m i e W s (acking m out i e s (Enabled timer sent))
+          picked true h = rw h (record { end = counted 0 0 (anew Open e); there = elem-set-same (m .ends) i e _ there; view = rw (q, h) })
+          picked false h = rw h (record { end = e; there = there; view = rw (q, h) })
+      sides Open q = picked counts refl
+        where
+          picked : (b : Bool) → counts ≡ b → Acked m i e W s (acking m out i e s Open)
+          picked true h =
+              rw h (record {
+                end = passing (ackedRun (timed 0 true e s)) (timed 0 true e s) e;
+                there = elem-set-same (m .ends) i e _ there;
+                view = passed-view W e narrow s (handed-out (numberAt e s .handed) (not (numberAt e s .acked)) h) (e .state) refl ∙ rw (q, counts-same W e narrow s, h);
+              })
+          picked false h = rw h (record { end = e; there = there; view = rw (q, counts-same W e narrow s, h) })
+      sides (Failing timers) q = picked counts refl
+        where
+          picked : (b : Bool) → counts ≡ b → Acked m i e W s (acking m out i e s (Failing timers))
+          picked true h =
+              let e′ = passing (ackedRun (timed 0 true e s)) (timed 0 true e s) e in
+              rw h (record {
+                end = stated (Failing (running (e′ .numbers))) e′;
+                there = elem-set-same (m .ends) i e _ there;
+                view = passed-view W e narrow s (handed-out (numberAt e s .handed) (not (numberAt e s .acked)) h) (Failing (running (e′ .numbers))) (rw q) ∙ rw (q, counts-same W e narrow s, h);
+              })
+          picked false h = rw h (record { end = e; there = there; view = rw (q, counts-same W e narrow s, h) })
 
-pub s-arrives : (t : List ℕ) (i : ℕ) (n : Memory) (s : Send) (block f : List ℕ) → Bytes f → SView t i n s → SLaw t i n (arrives block f) s
-s-arrives t i n s block f bytes v = sides (arrival (lent n block) (v .good .tabled .index) f)
-  where
-    sides : Refused (lent n block) f ⊎ Taken (lent n block) f → SLaw t i n (arrives block f) s
-    sides (inl r) = s-same t i n (arrives block f) s (after-back n block f r) (s-seen-back n block f r (entryOf t i) i) v
-    sides (inr a) = by-type t i n s block f bytes v a (a .header .kind) refl
+-- ---- an arrival
+
+module _ (t : List ℕ) (m : Machine) (S : Sound t m) (i : ℕ) (e : End) (there : getElem? (m .ends) i ≡ some e) (sends : isSends (e .entry .kind) ≡ true) (block f : List ℕ) where
+  abbrev W : ℕ
+  W = entryOf t i .window
+
+  narrow : length (e .numbers) ≤ W
+  narrow = S .bounded i e there .taken
+
+  refused : Refused m block f → SStep t i e (arrives block f) (step m (arrives block f))
+  unfolding step s-seen
+  refused r = subst (SStep t i e (arrives block f)) (sym (r .is)) (s-still t i e (arrives block f) _ e there refl (rw (refused-done (r .why))))
+
+  module _ (a : Taken m block f) where
+    abbrev k : ℕ
+    k = entryFor m (a .header)
+
+    abbrev o : Outcome
+    o = taken m block k (a .end) (a .header .kind) (a .header .seq .0) (payloadOf f)
+
+    seen : s-seen (entryOf t i) i (arrives block f) (o .answer) ≡ s-came (entryOf t i) (a .header) (a .header .kind)
+    unfolding s-seen
+    seen = rw (taken-done m block k (a .end) (a .header .seq .0) (payloadOf f) (a .header .kind), a .read)
+
+    -- for another entry
+    elsewhere : i ≢ k → s-came (entryOf t i) (a .header) (a .header .kind) ≡ s-quiet → SStep t i e (arrives block f) o
+    elsewhere d q =
+        s-still t i e (arrives block f) o e
+        (taken-leaves m block k (a .end) (a .header .seq .0) (payloadOf f) i d (a .header .kind) ∙ there) refl (seen ∙ q)
+
+    -- a frame for receivers is not for this one
+    not-here : forSender (a .header .kind) ≡ false → i ≢ k
+    not-here q c =
+        let same : a .end ≡ e = some-same (sym (a .there) ∙ sym (ap (λ (j : ℕ). getElem? (m .ends) j) c) ∙ there) in
+        true≢false (sym sends ∙ ap (λ (x : End). isSends (x .entry .kind)) (sym same) ∙ a .fit .kind ∙ q)
+
+    taken-ack : a .header .kind ≡ type.Acknowledge → o ≡ acking m block k (a .end) (a .header .seq .0) (a .end .state)
+    unfolding taken
+    taken-ack q = rw q
+
+    arrives-is : step m (arrives block f) ≡ o
+    unfolding step
+    arrives-is = a .is
+
+    by-kind : (q : FrameType) → a .header .kind ≡ q → SStep t i e (arrives block f) o
+    by-kind type.Data q = elsewhere (not-here (ap forSender q)) (rw q)
+    by-kind type.Reset q = elsewhere (not-here (ap forSender q)) (rw q)
+    by-kind type.Urgent q = elsewhere (not-here (ap forSender q)) (rw q)
+    by-kind type.Acknowledge q = sides (ℕ-discrete i k)
+      where
+        came : s-came (entryOf t i) (a .header) (a .header .kind) ≡ pick (names (entryOf t i) (a .end .entry .remote .0) (a .end .entry .channel .0)) (s-hears (a .header .seq .0)) s-quiet
+        came = rw (q, a .fit .source, a .fit .channel)
+
+        sides : Dec (i ≡ k) → SStep t i e (arrives block f) o
+        sides (yes c) =
+            let same : a .end ≡ e = some-same (sym (a .there) ∙ sym (ap (λ (j : ℕ). getElem? (m .ends) j) c) ∙ there) in
+            let r = acked m block i e there W narrow (a .header .seq .0) in
+            let hears : s-seen (entryOf t i) i (arrives block f) (o .answer) ≡ s-hears (a .header .seq .0) = seen ∙ came ∙ rw (same, names-own t m S i e there) in
+            let here : o ≡ acking m block i e (a .header .seq .0) (e .state) = taken-ack q ∙ rw (← c, same) in
+            record {
+              end = r .end;
+              there = rw here (r .there);
+              next = subst (λ (z : SSeen). SNext W (sendOf e) z (sendOf (r .end))) (sym hears) (subst (SNext W (sendOf e) (s-hears (a .header .seq .0))) (sym (r .view)) (sn-hear (sendOf e) (a .header .seq .0)));
+            }
+        sides (no d) = elsewhere d (came ∙ rw (names-other t m S i e there k (a .end) (a .there) (sends ∙ sym (a .fit .kind ∙ ap forSender q)) d))
+
+  pub s-arrives : SStep t i e (arrives block f) (step m (arrives block f))
+  s-arrives = sides (arrival m block f)
+    where
+      sides : Refused m block f ⊎ Taken m block f → SStep t i e (arrives block f) (step m (arrives block f))
+      sides (inl r) = refused r
+      sides (inr a) = subst (SStep t i e (arrives block f)) (sym (arrives-is a)) (by-kind a (a .header .kind) refl)

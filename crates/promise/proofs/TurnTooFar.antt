@@ -11,10 +11,10 @@ use borrow.Author.Tests.{lt-ltb}
 use native.Mathlib.Nat.{zero-add}
 use native.Mathlib.Omega.{arith}
 use Rattle.units.specs.Refusals.{pick}
-use Rattle.window.specs.Numbers.{distanceOf, byteOf, slotOf}
+use Rattle.window.specs.Numbers.{distanceOf, byteOf}
 use Rattle.promise.specs.History.{Pay, s-enabled, s-open, Live, Sent, reset, data!, new, blank}
 use Rattle.promise.specs.Promise.{Kept}
-use Rattle.promise.proofs.Windows.{Marks, none, mark, shift, run, put, mark-other}
+use Rattle.promise.proofs.Windows.{Marks, none, mark, shift, run, put, put-other}
 use Rattle.promise.proofs.Channel.{Send, s-state, s-hand, s-data, s-pass, s-ack, Recv, r-open, outs, Taken, r-pass, r-data, Channel, with-sender, g-send, g-hand, g-answer, g-reset, g-data, Step, send, reset-out, data-out, ack-out, reset-in, data-in, ack-in, Steps, done, then, Start}
 use Rattle.promise.proofs.KeepingData.{data-wait}
 
@@ -43,7 +43,7 @@ joined ss (then ts t) = then (joined ss ts) t
 -- the payload d past the start is new: it is held, and the start passes k
 takes-new : (r : Recv) (b : ℕ) (p : Pay) (d k : ℕ) → distanceOf (r .start) b ≡ d → d < 16 → r .held d ≡ false
     → run 16 0 (mark d (r .held)) ≡ k
-    → r-data 16 r b p ≡ r-pass 16 r b (mark d (r .held)) (put (slotOf 16 b) p (r .slots)) k
+    → r-data 16 r b p ≡ r-pass r b (mark d (r .held)) (put d p (r .payloads)) k
 takes-new r b p d k ed l h ek = rw (ed, lt-ltb d 16 l, h, ek)
 
 -- the acknowledgement of the start counts, and the start passes 1
@@ -65,10 +65,10 @@ unfolding run
 run-two m e f = rw (e, f)
 
 -- k payloads are given
-given-length : (W start : ℕ) (slots : ℕ → Pay) (i k : ℕ) → length (outs W start slots i k) ≡ k
+given-length : (f : ℕ → Pay) (i k : ℕ) → length (outs f i k) ≡ k
 unfolding outs
-given-length W start slots i zero = refl
-given-length W start slots i (suc k) = ap suc (given-length W start slots (suc i) k)
+given-length f i zero = refl
+given-length f i (suc k) = ap suc (given-length f (suc i) k)
 
 -- ---- a round: a payload is accepted, handed out and delivered, and its acknowledgement confirms it
 
@@ -98,17 +98,21 @@ byte g = byteOf (g .sender .start + 0)
 
 -- accepted, and handed out
 abbrev sends : Channel → Channel
-sends g = g-send 16 g (7 ∷ [])
+sends g = g-send g (7 ∷ [])
 
 abbrev payload : Channel → Pay
-payload g = sends g .sender .slots (slotOf 16 (byte g))
+payload g = sends g .sender .payloads 0
 
 abbrev hands : Channel → Channel
-hands g = g-hand (s-hand 0 (sends g .sender)) (s-data 16 (sends g .sender) 0) (sends g)
+hands g = g-hand (s-hand 0 (sends g .sender)) (s-data (sends g .sender) 0) (sends g)
 
 -- it comes in
 abbrev comes : Channel → Channel
 comes g = g-data (new (number g)) true (byte g) (payload g) (r-data 16 (g .receiver) (byte g) (payload g)) (hands g)
+
+-- what the receiver makes of it, where it is new and the start passes n
+abbrev came : Channel → ℕ → Taken
+came g n = r-pass (g .receiver) (byte g) (mark 0 (g .receiver .held)) (put 0 (payload g) (g .receiver .payloads)) n
 
 -- its acknowledgement goes out, and comes in
 abbrev answers : Channel → Channel
@@ -136,13 +140,13 @@ module _ (k : ℕ) (m : Marks) (g : Channel) (e : Even k m g) where
 
   -- what the round takes in, where the receiver does not hold the start
   comes-is : (n : ℕ) → m 0 ≡ false → run 16 0 (mark 0 (g .receiver .held)) ≡ n
-      → r-data 16 (g .receiver) (byte g) (payload g) ≡ r-pass 16 (g .receiver) (byte g) (mark 0 (g .receiver .held)) (put (slotOf 16 (byte g)) (payload g) (g .receiver .slots)) n
+      → r-data 16 (g .receiver) (byte g) (payload g) ≡ came g n
   comes-is n m0 en = takes-new (g .receiver) (byte g) (payload g) 0 n near (omega arith) (e .holds 0 ∙ m0) en
 
   came-length : (n : ℕ) → m 0 ≡ false → run 16 0 (mark 0 (g .receiver .held)) ≡ n → length (comes g .hist .delivered) ≡ k + n
   came-length n m0 en =
       ap (λ (t : Taken). length (g .hist .delivered ++ t .given)) (comes-is n m0 en)
-      ∙ longer (g .hist .delivered) k n _ (e .delivered) (given-length 16 (g .receiver .start) _ 0 n)
+      ∙ longer (g .hist .delivered) k n _ (e .delivered) (given-length _ 0 n)
 
   accepted-length : length (comes g .hist .accepted) ≡ k + 1
   accepted-length = longer (g .hist .accepted) k 1 (_ ∷ []) (e .accepted) refl
@@ -159,13 +163,13 @@ module _ (k : ℕ) (m : Marks) (g : Channel) (e : Even k m g) where
     taken = ap (λ (s : Send). s .taken) counts-is ∙ omega (arith, e .taken);
     confirmed = ap (λ (s : Send). s .confirmed) counts-is ∙ omega (arith, e .confirmed);
     unacknowledged = λ i. ap (λ (s : Send). s .acknowledged i) counts-is
-        ∙ mark-other 0 (1 + i) (g .sender .acknowledged) (λ q. omega arith)
+        ∙ put-other 0 true (g .sender .acknowledged) (1 + i) (λ q. omega arith)
         ∙ e .unacknowledged (1 + i);
     accepted = accepted-length ∙ omega arith;
     ropen = ap (λ (t : Taken). t .next .state) here ∙ e .ropen;
     rstart = ap (λ (t : Taken). t .next .start) here ∙ omega (arith, e .rstart);
     holds = λ i. ap (λ (t : Taken). t .next .held i) here
-        ∙ mark-other 0 (1 + i) (g .receiver .held) (λ q. omega arith)
+        ∙ put-other 0 true (g .receiver .held) (1 + i) (λ q. omega arith)
         ∙ e .holds (1 + i);
     idle = refl;
     untagged = refl;
@@ -175,7 +179,7 @@ module _ (k : ℕ) (m : Marks) (g : Channel) (e : Even k m g) where
       one : run 16 0 (mark 0 (g .receiver .held)) ≡ 1
       one = run-one (g .receiver .held) (e .holds 1 ∙ m1)
 
-      here : r-data 16 (g .receiver) (byte g) (payload g) ≡ r-pass 16 (g .receiver) (byte g) (mark 0 (g .receiver .held)) (put (slotOf 16 (byte g)) (payload g) (g .receiver .slots)) 1
+      here : r-data 16 (g .receiver) (byte g) (payload g) ≡ came g 1
       here = comes-is 1 m0 one
 
 -- ---- many rounds
@@ -235,11 +239,11 @@ g0 = record {
     taken = 0;
     handed = none;
     acknowledged = none;
-    slots = λ i. [];
+    payloads = λ i. [];
     accepted = 0;
     confirmed = 0;
   };
-  receiver = record { state = r-open; start = 1; held = none; slots = λ i. []; waiting = [] };
+  receiver = record { state = r-open; start = 1; held = none; payloads = λ i. []; waiting = [] };
   hist = blank [] [];
 }
 
@@ -343,10 +347,11 @@ module _ (g : Channel) (x : AtTurn g) where
     idle = refl;
     untagged = refl;
     delivered = ap (λ (t : Taken). length (g .hist .delivered ++ t .given)) here
-        ∙ longer (g .hist .delivered) 245 0 _ (x .even .delivered) (given-length 16 (g .receiver .start) _ 0 0);
+        ∙ longer (g .hist .delivered) 245 0 _ (x .even .delivered) (given-length _ 0 0);
   }
     where
-      here : r-data 16 (g .receiver) 5 (x .old-payload) ≡ r-pass 16 (g .receiver) 5 (mark 15 (g .receiver .held)) (put (slotOf 16 5) (x .old-payload) (g .receiver .slots)) 0
+      here : r-data 16 (g .receiver) 5 (x .old-payload)
+          ≡ r-pass (g .receiver) 5 (mark 15 (g .receiver .held)) (put 15 (x .old-payload) (g .receiver .payloads)) 0
       here = takes-new (g .receiver) 5 (x .old-payload) 15 0 (omega (arith, x .even .rstart)) (omega arith) (x .even .holds 15)
           (run-none 15 (g .receiver .held) (x .even .holds 0))
 
@@ -367,7 +372,9 @@ module _ (g : Channel) (x : AtTurn g) where
 
 from-turn : (g : Channel) × AtTurn g
     → (h : Channel) × Laters 16 g0 h × Live (h .sender .state) × (Kept (h .sender .accepted) (h .sender .confirmed) (h .hist) → ⊥)
-from-turn (g, x) = broken g x (rounds 14 245 (mark 15 none) (strays g (x .old-payload)) (λ i l. mark-other 15 i none (λ q. omega arith)) (stray-held g x))
+from-turn (g, x) =
+    let free : (i : ℕ) → i < 15 → mark 15 none i ≡ false = λ i l. put-other 15 true none i (λ q. omega arith) in
+    broken g x (rounds 14 245 (mark 15 none) (strays g (x .old-payload)) free (stray-held g x))
 
 -- THE TURN TOO FAR: by steps of which one is a number late, from a run's beginning to a moment at which the sender is open and the promise is broken
 pub turn-too-far : (g : Channel) × Start g

@@ -1,19 +1,19 @@
--- Windows of numbers counted without folding: what the test on bytes says of them, which slot is theirs, and marks as a function
--- of the offset. Proved over every window size. Assumes nothing.
+-- Windows of numbers counted without folding: what the test on bytes says of them, and tables and marks by the offset
+-- from a window's start. Proved over every window size. Assumes nothing.
 use Prim.Native.Nat.{ℕ, zero, suc, _+_, _-_, _≤_, _<_}
-use mathlib.Core.Path.{_≡_, refl, ap, sym, _∙_}
+use mathlib.Core.Path.{_≡_, refl, sym, _∙_}
 use mathlib.Core.Logic.{_≢_, _⊎_, inl, inr, by-cases}
 use mathlib.Core.Bool.{Bool, true, false}
 use native.Mathlib.Nat.{add-zero, add-suc, suc-add}
-use native.Mathlib.Decide.{decLt, ℕ-discrete}
+use native.Mathlib.Decide.{ℕ-discrete}
 use native.Mathlib.Omega.{arith}
 use borrow.Author.Tests.{eq-eqb, ne-eqb}
 use lib.Dec.{eqb}
 use Rattle.units.specs.Refusals.{pick}
 use Rattle.units.specs.Sizes.{isSize}
-use Rattle.window.specs.Numbers.{distanceOf, byteOf, slotOf}
+use Rattle.window.specs.Numbers.{distanceOf, byteOf}
 use Rattle.window.proofs.Sizes.{size-le}
-use Rattle.window.proofs.WindowLaw.{window-law, window-distance, slot-byte, slots-apart}
+use Rattle.window.proofs.WindowLaw.{window-law, window-distance}
 use Rattle.promise.specs.History.{NotLate}
 
 -- ---- the test on bytes
@@ -28,27 +28,9 @@ pub distance-is : (W start n : ℕ) → isSize W ≡ true → n < start + W → 
     → distanceOf (byteOf start) (byteOf n) ≡ n - start
 distance-is W start n w front h = let small = size-le W w in window-distance start n h (omega arith)
 
--- ---- slots
+-- ---- tables by the offset from the start
 
--- the slot of the number i past a start that is the byte of 1 + c
-pub slot-at : (W : ℕ) → isSize W ≡ true → (start c i : ℕ) → start ≡ byteOf (1 + c)
-    → slotOf W (byteOf (start + i)) ≡ slotOf W (suc (c + i))
-slot-at W w start c i e = ap (slotOf W) same ∙ slot-byte W (suc (c + i)) w
-  where
-    same : byteOf (start + i) ≡ byteOf (suc (c + i))
-    same = omega arith
-
--- two numbers of one window that share a slot are the same
-pub slot-same : (W first i j : ℕ) → i < W → j < W → slotOf W (first + i) ≡ slotOf W (first + j) → i ≡ j
-slot-same W first i j hi hj e =
-    by-cases (decLt i j)
-    (λ l. absurd (slots-apart W (first + i) (first + j) (omega arith) (omega arith) e))
-    (λ l.
-    by-cases (decLt j i)
-    (λ k. absurd (slots-apart W (first + j) (first + i) (omega arith) (omega arith) (sym e)))
-    (λ k. omega arith))
-
--- one entry of a table of slots is put anew
+-- one entry is put anew
 abbrev pub put : {A : Type 0} → ℕ → A → (ℕ → A) → ℕ → A
 put k v f i = pick (eqb i k) v (f i)
 
@@ -57,6 +39,10 @@ put-same k v f = rw (eq-eqb k k refl)
 
 pub put-other : {A : Type 0} (k : ℕ) (v : A) (f : ℕ → A) (i : ℕ) → i ≢ k → put k v f i ≡ f i
 put-other k v f i h = rw (ne-eqb i k h)
+
+-- seen from the start k numbers further on
+abbrev pub shift : {A : Type 0} → ℕ → (ℕ → A) → ℕ → A
+shift k f i = f (k + i)
 
 -- ---- marks
 
@@ -69,29 +55,19 @@ none i = false
 
 -- the offset d is marked too
 abbrev pub mark : ℕ → Marks → Marks
-mark d m i = pick (eqb i d) true (m i)
-
--- the marks seen from the start k numbers further on
-abbrev pub shift : ℕ → Marks → Marks
-shift k m i = m (k + i)
+mark d m = put d true m
 
 -- how many are marked without a gap from i on, w at most
 unfoldable pub run : ℕ → ℕ → Marks → ℕ
 run zero i m = 0
 run (suc w) i m = pick (m i) (suc (run w (suc i) m)) 0
 
-pub mark-same : (d : ℕ) (m : Marks) → mark d m d ≡ true
-mark-same d m = rw (eq-eqb d d refl)
-
-pub mark-other : (d i : ℕ) (m : Marks) → i ≢ d → mark d m i ≡ m i
-mark-other d i m h = rw (ne-eqb i d h)
-
 -- what is marked was marked now or before
 pub mark-cases : (d i : ℕ) (m : Marks) → mark d m i ≡ true → (i ≡ d) ⊎ (m i ≡ true)
-mark-cases d i m h = by-cases (ℕ-discrete i d) inl (λ ne. inr (sym (mark-other d i m ne) ∙ h))
+mark-cases d i m h = by-cases (ℕ-discrete i d) inl (λ ne. inr (sym (put-other d true m i ne) ∙ h))
 
 pub mark-keeps : (d i : ℕ) (m : Marks) → m i ≡ true → mark d m i ≡ true
-mark-keeps d i m h = by-cases (ℕ-discrete i d) (λ e. rw e (mark-same d m)) (λ ne. mark-other d i m ne ∙ h)
+mark-keeps d i m h = by-cases (ℕ-discrete i d) (λ e. rw e (put-same d true m)) (λ ne. put-other d true m i ne ∙ h)
 
 -- a run's numbers are marked
 pub run-all : (w i : ℕ) (m : Marks) (j : ℕ) → j < run w i m → m (i + j) ≡ true

@@ -21,11 +21,11 @@ g0 = record {
     taken = 0;
     handed = none;
     acknowledged = none;
-    slots = λ i. [];
+    payloads = λ i. [];
     accepted = 9;
     confirmed = 9;
   };
-  receiver = record { state = r-open; start = 77; held = none; slots = λ i. []; waiting = 76 ∷ [] };
+  receiver = record { state = r-open; start = 77; held = none; payloads = λ i. []; waiting = 76 ∷ [] };
   hist = blank [] (old 76 ∷ []);
 }
 
@@ -44,13 +44,13 @@ g4 = with-sender (s-ack 2 (g3 .sender) 0) g3
 
 -- two payloads, both handed out
 abbrev g5 : Channel
-g5 = g-send 2 g4 (7 ∷ [])
+g5 = g-send g4 (7 ∷ [])
 
 abbrev g6 : Channel
-g6 = g-send 2 g5 (8 ∷ [])
+g6 = g-send g5 (8 ∷ [])
 
 abbrev out : ℕ → Channel → Channel
-out i g = g-hand (s-hand i (g .sender)) (s-data 2 (g .sender) i) g
+out i g = g-hand (s-hand i (g .sender)) (s-data (g .sender) i) g
 
 abbrev g7 : Channel
 g7 = out 0 g6

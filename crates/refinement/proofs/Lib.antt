@@ -19,3 +19,6 @@ pub mod TickStands
 pub mod TickEntryStands
 pub mod TickAllStands
 pub mod Refining
+pub mod Sounding
+pub mod OneMachine
+pub mod NewNodes

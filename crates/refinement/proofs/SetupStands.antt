@@ -20,14 +20,14 @@ use Rattle.ends.specs.Ends.{endOf}
 use Rattle.ends.specs.States.{isSends}
 use Rattle.ends.specs.Lent.{Lent}
 use Rattle.ends.specs.declared.EndPoint.{EndPoint}
-use Rattle.opening.specs.Setup.{setupAfter}
+use Rattle.opening.specs.Setup.{setupAnswer, setupAfter}
 use Rattle.good.specs.Good.{Lists, Good}
 use Rattle.good.specs.Calls.{Memory, kept, SetUp}
 use Rattle.good.proofs.Entering.{closedAt}
 use Rattle.good.proofs.SetupGood.{setup-good, setup-ends}
 use Rattle.good.proofs.ReachGood.{setup-holds}
 use Rattle.machine.specs.Machine.{End, Item, Sort, acks, resets, urgents, resends, datas, Machine, listed, first, begun}
-use Rattle.refinement.specs.Standing.{payloadFor, placeFor, endFor, endAt, ackItem, waitingFor, standsFor, Stands, Begins}
+use Rattle.refinement.specs.Standing.{payloadFor, placeFor, endFor, endAt, ackItem, waitingFor, standsFor, Stands, SetupAnswers, Begins}
 use Rattle.refinement.proofs.Listing.{listed-ext}
 use Rattle.refinement.proofs.Following.{listed-replicate}
 
@@ -77,3 +77,7 @@ module _ (t : List ℕ) (n : Memory) (s : SetUp t n) where
 pub begins : Begins
 unfolding Begins
 begins t n s = begins-at t n s
+
+pub setup-answers : SetupAnswers
+unfolding SetupAnswers setupAnswer
+setup-answers x t = refl

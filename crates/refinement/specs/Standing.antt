@@ -7,22 +7,26 @@ use mathlib.Core.Option.{Option, none, some}
 use mathlib.Core.List.{List, map}
 use lib.ListN.{length}
 use lib.Dec.{eqb, ltb}
-use Rattle.units.specs.Refusals.{pick}
+use Rattle.units.specs.Refusals.{pick, verdict}
 use Rattle.memory.specs.Layout as layout
 use Rattle.order.specs.Order.{acksIn}
 use Rattle.window.specs.Windows.{held}
 use Rattle.table.specs.Layout.{countOf, ownOf, protocolOf}
 use Rattle.table.specs.Areas.{storeOf}
 use Rattle.ends.specs.Ends.{endOf}
+use Rattle.ends.specs.Lent.{Lent}
 use Rattle.ends.specs.States.{isSends}
 use Rattle.ends.specs.declared.EndPoint.{EndPoint}
 use Rattle.slots.specs.Slots.{cell, past, numberIn, timerIn, retriesIn}
+use Rattle.opening.specs.Setup.{setupAnswer}
 use Rattle.blocks.specs.Payloads.{payloadAt}
 use Rattle.handing.specs.Handing.{slotIn, urgentPayload}
 use Rattle.good.specs.Good.{Lists, Good, ownerOf}
 use Rattle.good.specs.Calls.{Memory, answer, after, SetUp, Reach}
+use Rattle.good.specs.NewNode.{newNode}
 use Rattle.machine.specs.Calls.{Call, Fed}
-use Rattle.machine.specs.Machine.{Number, End, Item, Sort, acks, resets, urgents, resends, datas, Machine, listed, begun, step}
+use Rattle.machine.specs.Sound.{Sound}
+use Rattle.machine.specs.Machine.{Number, End, Item, Sort, acks, resets, urgents, resends, datas, Machine, listed, begun, blank, setupTests, step}
 
 -- ---- an end point, of a store and a book, as entry i
 
@@ -99,17 +103,37 @@ pub record Stands (t : List ℕ) (n : Memory) (m : Machine) : Type 0 where
 
 -- ---- the theorem
 
--- a call does what the machine does
-pub record Follows (t : List ℕ) (n : Memory) (m : Machine) (c : Call) : Type 0 where
-  pub answers : answer n c ≡ step m c .answer
-  pub stands : Stands t (after n c) (step m c .machine)
+-- setup answers as the machine does, and what it leaves, where it does not refuse, stands for the machine begun
+unfoldable pub SetupAnswers : Type 0
+SetupAnswers = (x : Lent) (t : List ℕ) → setupAnswer x t ≡ verdict (setupTests t (length (x .store)))
 
 unfoldable pub Begins : Type 0
 Begins = (t : List ℕ) (n : Memory) → SetUp t n → Stands t n (begun t (length (n .store)))
 
+-- a call does what the machine does: what it answers, and what it leaves
+pub record Follows (t : List ℕ) (n : Memory) (m : Machine) (c : Call) : Type 0 where
+  pub answers : answer n c ≡ step m c .answer
+  pub stands : Stands t (after n c) (step m c .machine)
+
 unfoldable pub Refines : Type 0
 Refines = (t : List ℕ) (n : Memory) (m : Machine) → Stands t n m → (c : Call) → Fed c → Follows t n m c
 
--- so every node that setup and calls can give stands for a machine
+-- so every node that setup and calls can give stands for a machine, and for no other
 unfoldable pub ReachStands : Type 0
 ReachStands = (t : List ℕ) (n : Memory) → Reach t n → (m : Machine) × Stands t n m
+
+unfoldable pub OneMachine : Type 0
+OneMachine = (t u : List ℕ) (n : Memory) (m k : Machine) → Stands t n m → Stands u n k → m ≡ k
+
+-- and that machine is sound
+unfoldable pub StandsSound : Type 0
+StandsSound = (t : List ℕ) (n : Memory) (m : Machine) → Stands t n m → Sound t m
+
+-- a new node, before its first setup, answers as the blank machine does, and both stay as they are
+pub record Blank (store : List ℕ) (c : Call) : Type 0 where
+  pub answers : answer (newNode store) c ≡ step (blank (length store)) c .answer
+  pub node : after (newNode store) c ≡ newNode store
+  pub machine : step (blank (length store)) c .machine ≡ blank (length store)
+
+unfoldable pub NewIsBlank : Type 0
+NewIsBlank = (store : List ℕ) (c : Call) → Blank store c

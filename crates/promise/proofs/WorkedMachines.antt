@@ -1,6 +1,6 @@
--- The promise over two nodes is not empty: a run of two nodes, each set up from a table and opened, that meets every premise, with frames
--- lost, repeated, late and overtaking each other. Every call is computed: its answer, what is seen of it, and what it leaves. All three
--- payloads are delivered in order and confirmed. Assumes nothing.
+-- The promise over two machines is not empty: a run of two machines, each set up from a table and opened, that meets every premise, with
+-- frames lost, repeated, late and overtaking each other. Every call is computed: its answer, what is seen of it, and what it leaves. All
+-- three payloads are delivered in order and confirmed. Assumes nothing.
 use Prim.Native.Nat.{ℕ, _+_, _-_}
 use mathlib.Core.Path.{_≡_, refl, sym, ap, subst, subst₂}
 use mathlib.Core.Bool.{Bool, true, false}
@@ -13,40 +13,23 @@ use lib.Dec.{T, leb, leb→le}
 use lib.Pow.{areBytes}
 use Rattle.units.specs.Bytes.{get16Of, be16, be32}
 use Rattle.units.specs.Sizes.{defaultSize}
-use Rattle.units.specs.declared.refusals.Verdict.the-variants.{Passed}
-use Rattle.memory.specs.Layout.{nodeWords}
 use Rattle.check8.specs.Polynomial.{timesX, timesXs, stepByte, checkFrom}
-use Rattle.waiting.specs.Queues.{appended, unlinked}
-use Rattle.waiting.specs.Acks.{pushed, popped, turns}
-use Rattle.window.specs.Marks.{bit, runIn}
-use Rattle.window.specs.Windows.{held, acceptOf, passOf}
 use Rattle.table.specs.Layout.{entryOf, entryFrom}
 use Rattle.table.specs.Areas.{areaOf, placeOf, storeOf}
 use Rattle.table.specs.Rules.{goodTable, headGood, isAddress, everyBelow, entryGood, formGood, numbersGood, apart, fits}
 use Rattle.frame.specs.Layout.{payloadOf, frameBytes, bodyBytes, headBytes}
 use Rattle.frame.specs.Reading.{soundOf, headerOf, readOf}
 use Rattle.frame.proofs.Parts.{byte}
-use Rattle.ends.specs.Ends.{saved, savedEntry, endOf, loadEntry, stateOf, loadRun}
-use Rattle.ends.specs.Runs.{anew}
-use Rattle.ends.specs.Lent.{Lent}
-use Rattle.opening.specs.Setup.{setupAnswer, setupAfter, emptied, tabled}
-use Rattle.opening.specs.Opening.{openAnswer, openAfter}
-use Rattle.sending.specs.Sending.{sendAnswer, sentRun, sentBook, sendAfter}
-use Rattle.lookup.specs.Lookup as lookup
-use Rattle.acking.specs.Acking as acking
+use Rattle.lookup.specs.Fitting as fitting
 use Rattle.blocks.specs.Blocks.{offsets, joinedUp, blockOf}
-use Rattle.blocks.specs.Payloads.{payloads}
 use Rattle.blocks.specs.Reading.{get32Of, payloadIn, payloadsIn, readBlock}
-use Rattle.receiving.specs.Receiving as receiving
-use Rattle.arriving.specs.Arriving.{takenAnswer, entryAnswer, readAnswer, arrivalAnswer, takenAfter, entryAfter, readAfter, arrivalAfter}
-use Rattle.handing.specs.Handing.{nextOut, fieldsTo, ackFrame, resetFrame, dataFrame, frameOut, handAnswer, handedRun, outNode, outBook, handAfter}
-use Rattle.ticking.specs.Ticking.{tickSlot, tickSlots, tickState, tickEntry, tickEntries, recover, recoverAll, tickBoth, tickAfter, tickAnswer}
-use Rattle.order.specs.Order.{from}
-use Rattle.good.specs.Calls.{Memory, kept, answer, after, SetUp}
 use Rattle.machine.specs.Calls.{Call, opens, sends, arrives, hands-out, ticks, Answer, Fed}
+use Rattle.machine.specs.Machine as machine
+use Rattle.machine.specs.Machine.{Machine, begun, step, SetUp}
 use Rattle.promise.specs.History.{Pay, SState, s-enabled, s-open, s-first, reset, data!, Tag, old, new, ack, SSeen, s-quiet, s-accepts, s-resets, s-sends, s-hears, RSeen, r-acks, r-resets, r-takes, SOwn, ROwn, s-note, r-note}
 use Rattle.promise.specs.Promise.{SSide, RSide, Sys, begin, Move, at-sender, at-receiver, ack-comes, reset-comes, data-comes, Moves, no-move, and-then, Reach, at-setup, by-call, Kept, Demand3}
-use Rattle.promise.specs.Link.{Event, Did, s-seen, r-seen, sender, receiver, Paired, Promise}
+use Rattle.promise.specs.Seen.{Event, s-seen, r-seen}
+use Rattle.promise.specs.Link.{Did, sender, receiver, Paired, Promise}
 
 -- ---- what a call is computed with: who unfolds `computes` unfolds all of it
 
@@ -58,31 +41,20 @@ tables : Unit {0}
 unfolding defaultSize ones entryOf entryFrom areaOf placeOf storeOf goodTable headGood isAddress everyBelow entryGood formGood numbersGood apart fits
 tables = tt
 
-ends : Unit {0}
-unfolding appended unlinked pushed popped turns from bit runIn held acceptOf passOf saved savedEntry endOf loadEntry stateOf loadRun anew
-ends = tt
-
--- the host's calls and the tick
-asked : Unit {0}
-unfolding setupAnswer setupAfter emptied tabled lookup.indexed openAnswer openAfter sendAnswer sentRun sentBook sendAfter tickSlot tickSlots tickState tickEntry tickEntries recover recoverAll tickBoth tickAfter tickAnswer
-asked = tt
-
--- handing out
-going : Unit {0}
-unfolding nextOut fieldsTo ackFrame resetFrame dataFrame frameOut handAnswer handedRun outNode outBook handAfter
-going = tt
-
--- arrival
-coming : Unit {0}
-unfolding lookup.firstFrom lookup.entryFor acking.counts acking.ackedRun acking.openedRun acking.ackAnswer acking.stopped acking.ackNode acking.ackBook receiving.resetAnswer receiving.resetNode receiving.resetAfter receiving.withWindow receiving.given receiving.dataAnswer receiving.dataAfter takenAnswer entryAnswer readAnswer arrivalAnswer takenAfter entryAfter readAfter arrivalAfter
-coming = tt
-
 blocks : Unit {0}
-unfolding offsets joinedUp blockOf payloads get32Of payloadIn payloadsIn readBlock
+unfolding offsets joinedUp blockOf get32Of payloadIn payloadsIn readBlock
 blocks = tt
 
+calls : Unit {0}
+unfolding machine.without machine.enabled machine.listed machine.begun machine.opening machine.sending machine.handing machine.inOrder machine.goingOut machine.frameOf machine.ticking machine.each machine.ticked machine.tickedAll machine.anySpent machine.againFrom machine.running machine.bitsFrom machine.step
+calls = tt
+
+coming : Unit {0}
+unfolding fitting.fits machine.placeOf machine.arriving machine.reading machine.taken machine.acking machine.ackedRun machine.receiving machine.resetting machine.heldRun machine.heldCount
+coming = tt
+
 computes : Unit {0}
-unfolding frames tables ends asked going coming blocks answer after s-seen r-seen
+unfolding frames tables blocks calls coming s-seen r-seen
 computes = tt
 
 -- ---- the tables
@@ -122,20 +94,24 @@ W = entryOf sends-table 0 .window
 
 -- ---- set up and opened
 
--- the memory that a host lends, with whatever it held; the store's length is what the table takes
-abbrev pub lentWith : ℕ → Lent
-lentWith store = record { node = replicate nodeWords 9; book = replicate 10368 9; store = replicate store 9; out = [] }
+-- with as much store as the table takes
+abbrev setS : Machine
+setS = begun sends-table 6
 
-abbrev setS : Memory
-setS = kept (setupAfter (lentWith 6) sends-table Passed)
+abbrev setR : Machine
+setR = begun receives-table 4
 
-abbrev setR : Memory
-setR = kept (setupAfter (lentWith 4) receives-table Passed)
+-- what a call answers, and what it leaves
+abbrev answer : Machine → Call → Answer
+answer m c = step m c .answer
 
-abbrev pub a : Memory
+abbrev after : Machine → Call → Machine
+after m c = step m c .machine
+
+abbrev pub a : Machine
 a = after setS (opens 0)
 
-abbrev pub b : Memory
+abbrev pub b : Machine
 b = after setR (opens 0)
 
 -- a call, with what it answers
@@ -159,18 +135,18 @@ abbrev wrote : List Pay → Answer
 wrote given = record { numbers = 0 ∷ 4 ∷ length (blockOf given) ∷ []; out = sets block 0 (blockOf given) }
 
 -- it was done, if that is what it answers
-did : (n : Memory) (c : Call) (x : Answer) → Fed c → answer n c ≡ x → Did n (event c x) (after n c)
+did : (n : Machine) (c : Call) (x : Answer) → Fed c → answer n c ≡ x → Did n (event c x) (after n c)
 did n c x fed said = record { fed = fed; answered = sym said; left = refl }
 
 setS-up : SetUp sends-table setS
 unfolding computes
 setS-up =
-    record { before = lentWith 6; node = refl; book = refl; bytes = λ k. byte sends-table k tt; passed = refl; is = refl }
+    record { room = 6; bytes = λ k. byte sends-table k tt; passed = refl; is = refl }
 
 setR-up : SetUp receives-table setR
 unfolding computes
 setR-up =
-    record { before = lentWith 4; node = refl; book = refl; bytes = λ k. byte receives-table k tt; passed = refl; is = refl }
+    record { room = 4; bytes = λ k. byte receives-table k tt; passed = refl; is = refl }
 
 reached : Reach (A .Node) (A .Call) (A .SetUp) (A .Did) a
 unfolding computes
@@ -193,8 +169,8 @@ s-does s c m y = record { sender = after (s .sender) c; receiver = s .receiver; 
 abbrev r-does : Sys A B → Call → Tag → Bool → RSeen → Sys A B
 r-does s c tag d y = record { sender = s .sender; receiver = after (s .receiver) c; hist = r-note tag d y (s .hist) }
 
--- an answer beside a number of the node before the call: one equation, so that the node is worked out once
-abbrev beside : (Memory → ℕ) → Memory → Call → Answer × ℕ
+-- an answer beside a number of the machine before the call: one equation, so that the machine is worked out once
+abbrev beside : (Machine → ℕ) → Machine → Call → Answer × ℕ
 beside count n c = (answer n c, count n)
 
 -- at the sender: a call that brings no frame in
@@ -209,7 +185,7 @@ s-own s c x m y fed said seen own =
     (λ o. at-sender s (event c x) (after (s .sender) c) (did (s .sender) c x fed (ap (λ (q : Answer × ℕ). q .0) said)) o) own
 
 -- the number at which its window starts
-abbrev first : Memory → ℕ
+abbrev first : Machine → ℕ
 first n = s-first (A .state n) (A .confirmed n)
 
 ack-in : (s : Sys A B) (f : List ℕ) (x : Answer) (m n : ℕ)
@@ -450,7 +426,7 @@ runs =
 -- ---- what it shows
 
 -- state and counts, worked out at once
-abbrev shown : Memory → SState × ℕ × ℕ
+abbrev shown : Machine → SState × ℕ × ℕ
 shown n = (A .state n, A .accepted n, A .confirmed n)
 
 at-end : shown (g28 .sender) ≡ (s-open, 3, 3)
@@ -491,8 +467,8 @@ worked =
       confirmed = ap (λ (q : SState × ℕ × ℕ). q .2) at-end;
     }
 
-pub worked-nodes : (end : Sys A B) × Worked end
-worked-nodes = (g28, worked)
+pub worked-machines : (end : Sys A B) × Worked end
+worked-machines = (g28, worked)
 
 -- the promise speaks of this run
 pub applies : Promise → Kept (A .accepted (g28 .sender)) (A .confirmed (g28 .sender)) (g28 .hist)

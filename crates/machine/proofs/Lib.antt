@@ -1,0 +1,14 @@
+pub mod Entries
+pub mod Items
+pub mod Passes
+pub mod Timers
+pub mod Numbers
+pub mod Recovering
+pub mod Ticking
+pub mod Coming
+pub mod Blocks
+pub mod Receiving
+pub mod Acking
+pub mod Judged
+pub mod Hosting
+pub mod Handing

@@ -1,0 +1,264 @@
+-- The laws of a tick (specs/LawsTick.antt), from its two passes over the entries. Assumes nothing.
+use Prim.Native.Nat.{ℕ, zero, suc, _+_, _-_, _≤_, _<_}
+use mathlib.Core.Path.{_≡_, refl, sym, ap, subst, _∙_}
+use mathlib.Core.Logic.{_≢_, _⊎_, inl, inr}
+use mathlib.Core.Bool.{Bool, true, false, _&&_}
+use mathlib.Core.Option.{Option, none, some}
+use mathlib.Core.List.{List, [], _∷_, _++_, append-nil, append-assoc, List·Memᴰ, List·Memᴰ·tail, Memᴰ·append-right}
+use native.Mathlib.Omega.{arith}
+use lib.ListN.{length, getElem?}
+use lib.Dec.{eqb}
+use borrow.Author.Tests.{eq-eqb, ne-eqb}
+use Rattle.units.specs.Refusals.{pick}
+use Rattle.ends.specs.States.{isOpen, isOver}
+use Rattle.ends.specs.declared.State.{State}
+use Rattle.ends.specs.declared.State.the-variants.{Closed, Enabled, Open, Failing}
+use Rattle.machine.specs.Calls.{ticks}
+use Rattle.machine.specs.Machine.{Number, End, Item, Sort, acks, resets, urgents, resends, datas, Machine, found, only, past, numbered, stated, anew, failing, tickedAll, anySpent, ticked, each, recovered, bitsFrom, ticking, step, without}
+use Rattle.machine.specs.Laws.{Is, after, answer, item, shareOf}
+use Rattle.machine.specs.LawsTick.{timers, inTurn, inTable, fails, dueFrom, due, dueOver, failed, SendsAgain, ExpiredResends, Fails, ExpiredFails, GoesOnFailing, FailingFalls, ResetFalls, ResetTimerFalls, ClosedStays, TimersWait, Recovers, TickRecovers, TickAlone}
+use Rattle.machine.proofs.Items.{rank-other, without-none, without-in}
+use Rattle.machine.proofs.Passes.{pass-end, pass-count, pass-waiting, pass-share}
+use Rattle.machine.proofs.Timers.{fell, timed, due-own, ticked-is}
+use Rattle.machine.proofs.Numbers.{all-fall, none-retried, due-retried, some-spent, none-spent, due-in}
+use Rattle.machine.proofs.Recovering.{again, overAdds, over-own, recovered-is, bit-iff}
+
+-- ---- the two passes
+
+abbrev tickOne : ℕ → End → Machine → Machine
+tickOne i e m = ticked m i e (e .state)
+
+module _ (m : Machine) where
+  pub timers-end : (i : ℕ) (e : End) → Is m i e → Is (timers m) i (timed e)
+  timers-end = pass-end timed fails due due-own tickOne ticked-is m
+
+  timers-count : length (timers m .ends) ≡ length (m .ends)
+  timers-count = pass-count timed fails due due-own tickOne ticked-is m
+
+  timers-share : (q : Sort) (i : ℕ) (e : End) → Is m i e → shareOf i (timers m .waiting q) ≡ pick (fails e) [] (shareOf i (m .waiting q)) ++ due q i e
+  timers-share = pass-share timed fails due due-own tickOne ticked-is m
+
+  -- then those that are over
+  abbrev last : Machine
+  last = each (length (timers m .ends)) recovered (timers m)
+
+  after-is : after m ticks ≡ last
+  unfolding step ticking
+  after-is = ap (λ (n : ℕ). each n recovered (timers m)) (sym timers-count)
+
+  last-end : (i : ℕ) (e : End) → Is (timers m) i e → Is last i (again e)
+  last-end = pass-end again (λ e. false) overAdds over-own recovered recovered-is (timers m)
+
+  last-share : (q : Sort) (i : ℕ) (e : End) → Is (timers m) i e → shareOf i (last .waiting q) ≡ shareOf i (timers m .waiting q) ++ overAdds q i e
+  last-share = pass-share again (λ e. false) overAdds over-own recovered recovered-is (timers m)
+
+  last-waiting : (q : Sort) → last .waiting q ≡ timers m .waiting q ++ inTable (timers m) (overAdds q)
+  last-waiting q =
+      pass-waiting again (λ e. false) overAdds over-own recovered recovered-is (timers m) q
+      ∙ ap (λ (l : List Item). l ++ inTable (timers m) (overAdds q)) (without-none _ (timers m .waiting q) (λ x z. stays (getElem? (timers m .ends) (x .entry))))
+    where
+      stays : (o : Option End) → found o false (λ e. false) ≡ false
+      stays none = refl
+      stays (some e) = refl
+
+  pub after-end : (i : ℕ) (e : End) → Is m i e → Is (after m ticks) i (again (timed e))
+  after-end i e h = rw after-is (last-end i (timed e) (timers-end i e h))
+
+  pub after-share : (q : Sort) (i : ℕ) (e : End) → Is m i e
+      → shareOf i (after m ticks .waiting q) ≡ pick (fails e) [] (shareOf i (m .waiting q)) ++ due q i e ++ overAdds q i (timed e)
+  after-share q i e h =
+      ap (λ (n : Machine). shareOf i (n .waiting q)) after-is ∙ last-share q i (timed e) (timers-end i e h)
+      ∙ ap (λ (l : List Item). l ++ overAdds q i (timed e)) (timers-share q i e h)
+
+pub timers-wait : TimersWait
+unfolding TimersWait
+timers-wait m q = pass-waiting timed fails due due-own tickOne ticked-is m q
+
+pub tick-alone : TickAlone
+tick-alone =
+    record {
+      becomes = λ e. again (timed e);
+      keeps = λ q i e xs. pick (fails e) [] xs ++ due q i e ++ overAdds q i (timed e);
+      end = after-end;
+      share = λ m i e h q. after-share m q i e h;
+    }
+
+-- ---- after all timers
+
+over-waits : (q : Sort) → q ≢ resets → (i : ℕ) (e : End) → overAdds q i e ≡ []
+over-waits acks d i e = refl
+over-waits resets d i e = absurd (d refl)
+over-waits urgents d i e = refl
+over-waits resends d i e = refl
+over-waits datas d i e = refl
+
+turn-none : (n : ℕ) (f : ℕ → List Item) → ((i : ℕ) → f i ≡ []) → inTurn n f ≡ []
+unfolding inTurn
+turn-none zero f h = refl
+turn-none (suc n) f h = rw (turn-none n f h, h n)
+
+last-recovers : (m : Machine) → Recovers (timers m) (last m) (answer m ticks)
+unfolding step ticking
+last-recovers m =
+    record {
+      bits = bitsFrom 0 (timers m .ends);
+      numbers = refl;
+      bit = bit-iff (timers m .ends);
+      over = λ i e h o. subst (λ (d : End). Is (last m) i d) (rw o) (last-end m i e h);
+      others = λ i e h o. subst (λ (d : End). Is (last m) i d) (rw o) (last-end m i e h);
+      count = pass-count again (λ e. false) overAdds over-own recovered recovered-is (timers m);
+      behind = last-waiting m resets;
+      waiting = λ q d. last-waiting m q ∙ rw (turn-none _ _ (λ i. stays q d i (getElem? (timers m .ends) i))) (append-nil _);
+    }
+  where
+    stays : (q : Sort) → q ≢ resets → (i : ℕ) (o : Option End) → found o [] (overAdds q i) ≡ []
+    stays q d i none = refl
+    stays q d i (some e) = over-waits q d i e
+
+pub tick-recovers : TickRecovers
+unfolding TickRecovers
+tick-recovers m = subst (λ (n : Machine). Recovers (timers m) n (answer m ticks)) (sym (after-is m)) (last-recovers m)
+
+-- ---- at Open
+
+module _ (m : Machine) (i : ℕ) (e : End) (here : Is m i e) (state : e .state ≡ Open) where
+  abbrev ns : List Number
+  ns = tickedAll (e .entry .retries) true (e .numbers)
+
+  -- none is spent
+  module _ (left : anySpent (e .entry .retries) (e .numbers) ≡ false) where
+    stays-open : again (timed e) ≡ numbered (e .start) ns e
+    stays-open =
+        let t : timed e ≡ numbered (e .start) ns e = ap (λ (s : State). fell s e) state ∙ rw left in
+        ap again t ∙ rw state
+
+    none-over : (q : Sort) → overAdds q i (timed e) ≡ []
+    none-over acks = refl
+    none-over resets =
+        let t : timed e ≡ numbered (e .start) ns e = ap (λ (s : State). fell s e) state ∙ rw left in
+        ap (dueOver i) t ∙ rw state
+    none-over urgents = refl
+    none-over resends = refl
+    none-over datas = refl
+
+    none-fails : fails e ≡ false
+    none-fails = rw (state, left)
+
+    open-share : (q : Sort) → shareOf i (after m ticks .waiting q) ≡ shareOf i (m .waiting q) ++ due q i e
+    open-share q = after-share m q i e here ∙ rw (none-over q, none-fails) (append-nil _)
+
+    others-stay : (q : Sort) → q ≢ resends → due q i e ≡ []
+    others-stay acks d = refl
+    others-stay resets d = rw state
+    others-stay urgents d = refl
+    others-stay resends d = absurd (d refl)
+    others-stay datas d = refl
+
+    resends-are : due resends i e ≡ dueFrom i e 0 (e .numbers)
+    resends-are = rw (state, left)
+
+    sends-again : SendsAgain m i e
+    sends-again =
+        record {
+          numbers = ns;
+          end = subst (λ (d : End). Is (after m ticks) i d) stays-open (after-end m i e here);
+          fall = all-fall (e .entry .retries) true (e .numbers);
+          retried = due-retried (e .entry .retries) (e .numbers) left;
+          waits = again-waits;
+          all = λ k x h t. without-in _ (after m ticks .waiting resends) _
+              (subst (λ (l : List Item). List·Memᴰ (item i (past e k)) l) (sym again-waits)
+              (Memᴰ·append-right (shareOf i (m .waiting resends)) (subst (λ (j : ℕ). List·Memᴰ (item i (past e j)) (dueFrom i e 0 (e .numbers))) (omega arith) (due-in i e 0 (e .numbers) k x h t))));
+          others = λ q d. open-share q ∙ rw (others-stay q d) (append-nil _);
+        }
+      where
+        again-waits : shareOf i (after m ticks .waiting resends) ≡ shareOf i (m .waiting resends) ++ dueFrom i e 0 (e .numbers)
+        again-waits = open-share resends ∙ rw resends-are
+
+  -- one is
+  module _ (spent : anySpent (e .entry .retries) (e .numbers) ≡ true) where
+    now-fails : fails e ≡ true
+    now-fails = rw (state, spent)
+
+    none-due : (q : Sort) → due q i e ≡ []
+    none-due acks = refl
+    none-due resets = rw state
+    none-due urgents = refl
+    none-due resends = rw (state, spent)
+    none-due datas = refl
+
+    fails-then : Fails m i e
+    fails-then =
+        let t : timed e ≡ failing ns e = ap (λ (s : State). fell s e) state ∙ rw spent in
+        record {
+          numbers = ns;
+          fall = all-fall (e .entry .retries) true (e .numbers);
+          end = subst (λ (d : End). Is (after m ticks) i d) (ap again t) (after-end m i e here);
+          silent = λ q. timers-share m q i e here ∙ rw (now-fails, none-due q);
+        }
+
+pub expired-resends : ExpiredResends
+unfolding ExpiredResends
+expired-resends m i e here state h = sends-again m i e here state (none-spent (e .entry .retries) (e .numbers) h)
+
+pub expired-fails : ExpiredFails
+unfolding ExpiredFails
+expired-fails m i e here state k x h t r = fails-then m i e here state (some-spent (e .entry .retries) (e .numbers) k x h t r)
+
+-- ---- at Failing, Enabled and Closed
+
+pub failing-falls : FailingFalls
+unfolding FailingFalls
+failing-falls m i e n here state =
+    record {
+      numbers = tickedAll (e .entry .retries) false (e .numbers);
+      fall = all-fall (e .entry .retries) false (e .numbers);
+      retried = none-retried (e .entry .retries) (e .numbers);
+      end = subst (λ (d : End). Is (after m ticks) i d) (ap (λ (s : State). again (fell s e)) state) (after-end m i e here);
+      stays = λ q. timers-share m q i e here ∙ same q;
+    }
+  where
+    same : (q : Sort) → pick (fails e) [] (shareOf i (m .waiting q)) ++ due q i e ≡ shareOf i (m .waiting q)
+    same acks = rw state (append-nil _)
+    same resets = rw state (append-nil _)
+    same urgents = rw state (append-nil _)
+    same resends = rw state (append-nil _)
+    same datas = rw state (append-nil _)
+
+module _ (m : Machine) (i : ℕ) (e : End) (here : Is m i e) (timer : ℕ) (sent : Bool) (state : e .state ≡ Enabled timer sent) where
+  enabled-share : (q : Sort) (b : Bool) → eqb timer 1 ≡ b → shareOf i (after m ticks .waiting q) ≡ shareOf i (m .waiting q) ++ only resets (λ l. pick b (item i 0 ∷ []) []) q []
+  enabled-share q b z = after-share m q i e here ∙ sides q
+    where
+      sides : (q : Sort) → pick (fails e) [] (shareOf i (m .waiting q)) ++ due q i e ++ overAdds q i (timed e) ≡ shareOf i (m .waiting q) ++ only resets (λ l. pick b (item i 0 ∷ []) []) q []
+      sides acks = rw state (append-nil _)
+      sides resets = rw (state, z) (append-nil _)
+      sides urgents = rw state (append-nil _)
+      sides resends = rw state (append-nil _)
+      sides datas = rw state (append-nil _)
+
+  enabled-falls : ResetFalls m i e timer sent
+  enabled-falls =
+      record {
+        end = subst (λ (d : End). Is (after m ticks) i d) (ap (λ (s : State). again (fell s e)) state) (after-end m i e here);
+        waits = λ t. enabled-share resets true (eq-eqb timer 1 t);
+        still = λ t. enabled-share resets false (ne-eqb timer 1 t) ∙ append-nil _;
+        others = λ q d. enabled-share q (eqb timer 1) refl ∙ rw (rank-other q resets d) (append-nil _);
+      }
+
+pub reset-timer-falls : ResetTimerFalls
+unfolding ResetTimerFalls
+reset-timer-falls m i e timer sent here state = enabled-falls m i e here timer sent state
+
+pub closed-stays : ClosedStays
+unfolding ClosedStays
+closed-stays m i e here state = (
+  subst (λ (d : End). Is (after m ticks) i d) (ap (λ (s : State). pick (isOver s) (anew (Enabled 0 false) e) e) state)
+      (subst (λ (d : End). Is (after m ticks) i (again d)) (ap (λ (s : State). fell s e) state) (after-end m i e here)),
+  (λ q. after-share m q i e here ∙ same q),
+)
+  where
+    same : (q : Sort) → pick (fails e) [] (shareOf i (m .waiting q)) ++ due q i e ++ overAdds q i (timed e) ≡ shareOf i (m .waiting q)
+    same acks = rw state (append-nil _ ∙ append-nil _)
+    same resets = rw state (append-nil _ ∙ append-nil _)
+    same urgents = rw state (append-nil _ ∙ append-nil _)
+    same resends = rw state (append-nil _ ∙ append-nil _)
+    same datas = rw state (append-nil _ ∙ append-nil _)

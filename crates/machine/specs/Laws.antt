@@ -1,0 +1,105 @@
+-- Words that the laws of the machine share, and two laws of all calls: a refusal leaves all as it was, and a call on one
+-- entry leaves every other. The laws of single calls are in the other files Laws*.antt. Assumes nothing.
+use Prim.Native.Nat.{ℕ, _<_}
+use mathlib.Core.Path.{_≡_}
+use mathlib.Core.Logic.{_≢_}
+use mathlib.Core.Bool.{Bool, not}
+use mathlib.Core.Option.{none, some}
+use mathlib.Core.List.{List, [], _∷_, _++_}
+use lib.ListN.{getD, getElem?, replicate}
+use lib.Dec.{eqb}
+use Rattle.ends.specs.declared.State.{State}
+use Rattle.frame.specs.Reading.{headerOf}
+use Rattle.frame.specs.declared.Header.{Header}
+use Rattle.frame.specs.declared.Read.the-variants as read
+use Rattle.machine.specs.Calls.{Call, opens, closes, counts, sends, urges, arrives, hands-out, ticks, Answer}
+use Rattle.machine.specs.Machine.{End, Item, Sort, Machine, rank, without, entryFor, step}
+use Rattle.machine.specs.Sound.{Sound}
+
+-- ---- words
+
+-- entry i of m is e
+abbrev pub Is : Machine → ℕ → End → Type 0
+Is m i e = getElem? (m .ends) i ≡ some e
+
+-- what a call answers, and the machine that it leaves
+abbrev pub answer : Machine → Call → Answer
+answer m c = step m c .answer
+
+abbrev pub after : Machine → Call → Machine
+after m c = step m c .machine
+
+abbrev pub item : ℕ → ℕ → Item
+item i s = record { entry = i; number = s }
+
+-- entry i's share of what waits, in order
+abbrev pub shareOf : ℕ → List Item → List Item
+shareOf i = without (λ x. not (eqb (x .entry) i))
+
+-- number s of entry i waits last in the whole list of its sort, and nothing else waits differently ("Handing out")
+pub record WaitsLast (m m′ : Machine) (q : Sort) (i s : ℕ) : Type 0 where
+  pub last : m′ .waiting q ≡ m .waiting q ++ (item i s ∷ [])
+  pub others : (r : Sort) → r ≢ q → m′ .waiting r ≡ m .waiting r
+
+-- x goes out next: it is the first of its sort, and nothing waits of the sorts before that ("Handing out")
+pub record Next (m : Machine) (q : Sort) (x : Item) (xs : List Item) : Type 0 where
+  pub first : m .waiting q ≡ x ∷ xs
+  pub before : (r : Sort) → rank r < rank q → m .waiting r ≡ []
+
+-- what waits of entry i
+abbrev pub ofEntry : ℕ → Item → Bool
+ofEntry i x = eqb (x .entry) i
+
+-- d is e as it is when it becomes s: start 1, nothing taken, held or urgent; and with e's counts ("End points")
+pub record Anew (s : State) (e d : End) : Type 0 where
+  pub entry : d .entry ≡ e .entry
+  pub state : d .state ≡ s
+  pub start : d .start ≡ 1
+  pub numbers : d .numbers ≡ []
+  pub places : d .places ≡ replicate (e .entry .window) none
+  pub urgent : d .urgent ≡ none
+
+pub record SameCounts (e d : End) : Type 0 where
+  pub accepted : d .accepted ≡ e .accepted
+  pub confirmed : d .confirmed ≡ e .confirmed
+
+-- ---- a refusal ("Refusal numbers": all lent memory, the node included, is then the same as before)
+
+-- the block or the frame buffer that a call is lent
+abbrev pub lent : Call → List ℕ
+lent (opens i) = []
+lent (closes i) = []
+lent (counts i) = []
+lent (sends i p) = []
+lent (urges i p) = []
+lent (arrives block f) = block
+lent (hands-out buffer) = buffer
+lent ticks = []
+
+-- an answer that does not begin with 0 is a refusal, but for a tick, which refuses nothing
+unfoldable pub RefusedStays : Type 0
+RefusedStays = (m : Machine) (c : Call) → c ≢ ticks → getD (answer m c .numbers) 0 0 ≢ 0
+    → (after m c ≡ m) × (answer m c .out ≡ lent c)
+
+-- ---- independence (the end of "End points": a call on one entry leaves every other's state, window, timers and counts)
+
+-- the entry that a call is on: for an arrival the one that the frame is for, for handing out the owner of what goes out; a
+-- tick is on all
+abbrev pub On : Machine → Call → ℕ → Type 0
+On m (opens j) i = j ≡ i
+On m (closes j) i = j ≡ i
+On m (counts j) i = j ≡ i
+On m (sends j p) i = j ≡ i
+On m (urges j p) i = j ≡ i
+On m (arrives block f) i = (h : Header) × (headerOf f ≡ read.Frame h) × (entryFor m h ≡ i)
+On m (hands-out buffer) i = (q : Sort) × (x : Item) × (xs : List Item) × Next m q x xs × (x .entry ≡ i)
+On m ticks i = Unit {0}
+
+-- entry i and its share of what waits are as they were
+pub record Untouched (m m′ : Machine) (i : ℕ) : Type 0 where
+  pub end : getElem? (m′ .ends) i ≡ getElem? (m .ends) i
+  pub share : (q : Sort) → shareOf i (m′ .waiting q) ≡ shareOf i (m .waiting q)
+
+-- rules out the one whose entries are tangled: what is not on an entry leaves it. For a tick see TickAlone.
+unfoldable pub OthersStay : Type 0
+OthersStay = (t : List ℕ) (m : Machine) → Sound t m → (c : Call) (i : ℕ) → (On m c i → ⊥) → Untouched m (after m c) i

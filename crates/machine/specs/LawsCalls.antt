@@ -1,0 +1,112 @@
+-- Laws of the host's calls: open, close, counts, send and Urgent go through under exactly their conditions, and what each
+-- then does. They rule out a node that refuses all and one that leaves its state alone. Assumes nothing.
+use Prim.Native.Nat.{ℕ, _+_, _≤_, _<_}
+use mathlib.Core.Path.{_≡_}
+use mathlib.Core.Logic.{_≢_, _↔_}
+use mathlib.Core.Bool.{true, false}
+use mathlib.Core.Option.{none, some}
+use mathlib.Core.List.{List, [], _∷_, _++_}
+use lib.ListN.{length}
+use Rattle.ends.specs.States.{isSends}
+use Rattle.ends.specs.declared.State.the-variants.{Closed, Enabled, Open}
+use Rattle.machine.specs.Calls.{opens, closes, counts, sends, urges}
+use Rattle.machine.specs.Machine.{End, Sort, resets, urgents, datas, Machine, number, urging, without, past, mostAccepted}
+use Rattle.machine.specs.Laws.{Is, answer, after, shareOf, WaitsLast, Anew, SameCounts, ofEntry}
+
+-- ---- open ("Open, by the host")
+
+unfoldable pub OpenGoes : Type 0
+OpenGoes = (m : Machine) (i : ℕ) → (answer m (opens i) .numbers ≡ 0 ∷ []) ↔ ((e : End) × Is m i e × (e .state ≡ Closed))
+
+-- Enabled, with no Reset out yet; a sender's Reset waits behind all others, of a receiver nothing does
+pub record Enables (m m′ : Machine) (i : ℕ) (e : End) : Type 0 where
+  pub end : End
+  pub is : Is m′ i end
+  pub anew : Anew (Enabled 0 false) e end
+  pub counts : SameCounts e end
+  pub sends : isSends (e .entry .kind) ≡ true → WaitsLast m m′ resets i 0
+  pub receives : isSends (e .entry .kind) ≡ false → (q : Sort) → m′ .waiting q ≡ m .waiting q
+
+unfoldable pub OpenEnables : Type 0
+OpenEnables = (m : Machine) (i : ℕ) (e : End) → Is m i e → e .state ≡ Closed → Enables m (after m (opens i)) i e
+
+-- ---- close ("Close")
+
+unfoldable pub CloseGoes : Type 0
+CloseGoes = (m : Machine) (i : ℕ) → (answer m (closes i) .numbers ≡ 0 ∷ []) ↔ ((e : End) × Is m i e × (e .state ≢ Closed))
+
+-- Closed, with nothing taken or held; nothing of it waits, and what waits of the others stays in its order
+pub record Closes (m m′ : Machine) (i : ℕ) (e : End) : Type 0 where
+  pub end : End
+  pub is : Is m′ i end
+  pub anew : Anew Closed e end
+  pub counts : SameCounts e end
+  pub silent : (q : Sort) → shareOf i (m′ .waiting q) ≡ []
+  pub others : (q : Sort) → m′ .waiting q ≡ without (ofEntry i) (m .waiting q)
+
+unfoldable pub CloseCloses : Type 0
+CloseCloses = (m : Machine) (i : ℕ) (e : End) → Is m i e → e .state ≢ Closed → Closes m (after m (closes i)) i e
+
+-- ---- counts ("Refusal numbers": senders)
+
+unfoldable pub CountsGo : Type 0
+CountsGo = (m : Machine) (i a c : ℕ) → (answer m (counts i) .numbers ≡ 0 ∷ a ∷ c ∷ [])
+    ↔ ((e : End) × Is m i e × (isSends (e .entry .kind) ≡ true) × (e .accepted ≡ a) × (e .confirmed ≡ c))
+
+-- they only tell
+unfoldable pub CountsTell : Type 0
+CountsTell = (m : Machine) (i : ℕ) → after m (counts i) ≡ m
+
+-- ---- send ("Send")
+
+pub record MaySend (m : Machine) (i : ℕ) (e : End) (p : List ℕ) : Type 0 where
+  pub there : Is m i e
+  pub sends : isSends (e .entry .kind) ≡ true
+  pub opened : e .state ≡ Open
+  pub some : 1 ≤ length p
+  pub most : length p ≤ e .entry .largest
+  pub counted : e .accepted ≢ mostAccepted
+  pub room : length (e .numbers) < e .entry .window
+  pub store : m .need ≤ m .room
+
+unfoldable pub SendGoes : Type 0
+SendGoes = (m : Machine) (i : ℕ) (p : List ℕ) → (answer m (sends i p) .numbers ≡ 0 ∷ []) ↔ ((e : End) × MaySend m i e p)
+
+-- one more is accepted and taken, not yet handed out; it waits as data behind all others, and all else stays
+pub record Takes (m m′ : Machine) (i : ℕ) (e : End) (p : List ℕ) : Type 0 where
+  pub end : End
+  pub is : Is m′ i end
+  pub entry : end .entry ≡ e .entry
+  pub state : end .state ≡ Open
+  pub accepted : end .accepted ≡ e .accepted + 1
+  pub confirmed : end .confirmed ≡ e .confirmed
+  pub start : end .start ≡ e .start
+  pub numbers : end .numbers ≡ e .numbers ++ (number p 0 false false 0 ∷ [])
+  pub places : end .places ≡ e .places
+  pub urgent : end .urgent ≡ e .urgent
+  pub waits : WaitsLast m m′ datas i (past e (length (e .numbers)))
+
+unfoldable pub SendTakes : Type 0
+SendTakes = (m : Machine) (i : ℕ) (e : End) (p : List ℕ) → MaySend m i e p → Takes m (after m (sends i p)) i e p
+
+-- ---- Urgent ("A sender sends one at Open, one waiting per entry")
+
+pub record MayUrge (m : Machine) (i : ℕ) (e : End) (p : List ℕ) : Type 0 where
+  pub there : Is m i e
+  pub sends : isSends (e .entry .kind) ≡ true
+  pub opened : e .state ≡ Open
+  pub some : 1 ≤ length p
+  pub most : length p ≤ e .entry .largest
+  pub no-other : e .urgent ≡ none
+  pub store : m .need ≤ m .room
+
+unfoldable pub UrgentGoes : Type 0
+UrgentGoes = (m : Machine) (i : ℕ) (p : List ℕ) → (answer m (urges i p) .numbers ≡ 0 ∷ []) ↔ ((e : End) × MayUrge m i e p)
+
+-- it waits with its payload behind all others, and all else stays
+pub record Urges (m m′ : Machine) (i : ℕ) (e : End) (p : List ℕ) : Type 0 where
+  pub end : Is m′ i (urging (some p) e)
+  pub waits : WaitsLast m m′ urgents i 0
+
+unfoldable pub UrgentTakes : Type 0
+UrgentTakes = (m : Machine) (i : ℕ) (e : End) (p : List ℕ) → MayUrge m i e p → Urges m (after m (urges i p)) i e p

@@ -1,0 +1,99 @@
+-- Laws of handing out: what goes out next, what that leaves, and that each frame that goes out reads back as what was
+-- meant. Assumes nothing.
+use Prim.Native.Nat.{ℕ, _≤_, _<_}
+use mathlib.Core.Path.{_≡_}
+use mathlib.Core.Logic.{_≢_, _⊎_}
+use mathlib.Core.Bool.{true, false}
+use mathlib.Core.Option.{none, some}
+use mathlib.Core.List.{List, [], _∷_, List·Memᴰ}
+use lib.ListN.{length, take, drop, getElem?, set}
+use Rattle.frame.specs.Layout.{payloadOf}
+use Rattle.frame.specs.Reading.{soundOf, headerOf, readOf}
+use Rattle.frame.specs.declared.Header.{Header}
+use Rattle.frame.specs.declared.Read.the-variants as read
+use Rattle.ends.specs.declared.State.the-variants.{Enabled}
+use Rattle.machine.specs.Calls.{Answer, hands-out}
+use Rattle.machine.specs.Machine.{Number, End, Item, Sort, acks, resets, urgents, resends, datas, Machine}
+use Rattle.machine.specs.Machine.{number, stated, numbered, urging, offset, isOurs, typeOf, carried, frameOf}
+use Rattle.machine.specs.Sound.{Sound}
+use Rattle.machine.specs.Laws.{Is, answer, after, Next}
+
+-- ---- what goes out ("Handing out")
+
+-- something goes out next, or nothing waits: the laws below speak of every machine
+unfoldable pub NextOrNone : Type 0
+NextOrNone = (m : Machine)
+    → ((q : Sort) × (x : Item) × (xs : List Item) × Next m q x xs) ⊎ ((q : Sort) → m .waiting q ≡ [])
+
+-- of e the number s is handed out and its timer starts at T, its payload and retries stay, and so does all else
+pub record Timed (e : End) (s : ℕ) (d : End) : Type 0 where
+  pub was : Number
+  pub there : getElem? (e .numbers) (offset e s) ≡ some was
+  pub is : let x = number (was .payload) (was .retries) true false (e .entry .timeout) in
+      d ≡ numbered (e .start) (set (e .numbers) (offset e s) x) e
+
+-- how an end point alters when number s of a sort goes out: a timer starts at T; an Urgent is no longer kept
+abbrev pub Sent : Sort → End → ℕ → End → Type 0
+Sent acks e s d = d ≡ e
+Sent resets e s d = d ≡ stated (Enabled (e .entry .timeout) true) e
+Sent urgents e s d = d ≡ urging none e
+Sent resends e s d = Timed e s d
+Sent datas e s d = Timed e s d
+
+-- x of sort q goes out, and its entry is e: its frame, of 9 bytes or more, stands at the buffer's start, the bytes after it
+-- stay, and its length is answered; of the sort the rest stays, and all other sorts
+pub record HandsOut (m m′ : Machine) (a : Answer) (q : Sort) (x : Item) (xs : List Item) (e : End) (buffer : List ℕ) : Type 0 where
+  pub long : 9 ≤ length (frameOf m q e (x .number))
+  pub numbers : a .numbers ≡ 0 ∷ length (frameOf m q e (x .number)) ∷ []
+  pub frame : take (length (frameOf m q e (x .number))) (a .out) ≡ frameOf m q e (x .number)
+  pub beyond : drop (length (frameOf m q e (x .number))) (a .out) ≡ drop (length (frameOf m q e (x .number))) buffer
+  pub rest : m′ .waiting q ≡ xs
+  pub others : (r : Sort) → r ≢ q → m′ .waiting r ≡ m .waiting r
+  pub end : End
+  pub is : Is m′ (x .entry) end
+  pub sent : Sent q e (x .number) end
+
+-- rules out the one that refuses all, and one that never hands out what waits
+unfoldable pub WaitingGoesOut : Type 0
+WaitingGoesOut = (t : List ℕ) (m : Machine) → Sound t m → (q : Sort) (x : Item) (xs : List Item) → Next m q x xs
+    → (e : End) × Is m (x .entry) e × ((buffer : List ℕ) → length (frameOf m q e (x .number)) ≤ length buffer
+    → HandsOut m (after m (hands-out buffer)) (answer m (hands-out buffer)) q x xs e buffer)
+
+-- a buffer that is too short: 6, and all is as it was
+unfoldable pub TooShortStays : Type 0
+TooShortStays = (t : List ℕ) (m : Machine) → Sound t m → (q : Sort) (x : Item) (xs : List Item) → Next m q x xs
+    → (e : End) → Is m (x .entry) e → (buffer : List ℕ) → length buffer < length (frameOf m q e (x .number))
+    → (answer m (hands-out buffer) .numbers ≡ 6 ∷ []) × (answer m (hands-out buffer) .out ≡ buffer)
+    × (after m (hands-out buffer) ≡ m)
+
+-- nothing waiting: length 0, with any frame buffer, and all is as it was
+unfoldable pub NothingOut : Type 0
+NothingOut = (t : List ℕ) (m : Machine) → Sound t m → ((q : Sort) → m .waiting q ≡ []) → (buffer : List ℕ)
+    → (answer m (hands-out buffer) .numbers ≡ 0 ∷ 0 ∷ []) × (answer m (hands-out buffer) .out ≡ buffer)
+    × (after m (hands-out buffer) ≡ m)
+
+-- ---- how it reads ("The frame")
+
+-- f is read as the frame of number s of a sort, from our address to the entry's remote end, with what it carries
+pub record ReadsAs (m : Machine) (q : Sort) (e : End) (s : ℕ) (f : List ℕ) : Type 0 where
+  pub header : Header
+  pub reads : readOf f ≡ read.Frame header
+  pub destination : header .destination ≡ e .entry .remote
+  pub source : header .source ≡ m .own
+  pub protocol : header .protocol ≡ m .protocol
+  pub kind : header .kind ≡ typeOf q
+  pub channel : header .channel ≡ e .entry .channel
+  pub number : header .seq .0 ≡ s
+  pub size : header .length ≡ length (carried q e s)
+  pub payload : payloadOf f ≡ carried q e s
+
+-- what waits goes out as a frame that reads as what was meant
+unfoldable pub ReadsBack : Type 0
+ReadsBack = (t : List ℕ) (m : Machine) → Sound t m → (q : Sort) (x : Item) → List·Memᴰ x (m .waiting q)
+    → (e : End) → Is m (x .entry) e → ReadsAs m q e (x .number) (frameOf m q e (x .number))
+
+-- and the machine at its other end, n, does not refuse it with 10, 11 or 12
+unfoldable pub PairedTakes : Type 0
+PairedTakes = (m n : Machine) (q : Sort) (e : End) (s : ℕ) (f : List ℕ) → (r : ReadsAs m q e s f)
+    → n .own ≡ e .entry .remote → n .protocol ≡ m .protocol
+    → (soundOf f ≡ true) × (isOurs n f ≡ true) × (headerOf f ≡ read.Frame (r .header))

@@ -1,0 +1,110 @@
+-- A new node, all zeros, is the blank machine: no entry, nothing waits, and every call but setup leaves both as they were. Assumes nothing.
+use Prim.Native.Nat.{ℕ}
+use mathlib.Core.Path.{_≡_, refl, sym, ap, _∙_}
+use mathlib.Core.Bool.{Bool, true, false, not, _&&_}
+use mathlib.Core.List.{List, [], _∷_}
+use lib.ListN.{length}
+use native.Mathlib.Omega.{arith}
+use lib.Dec.{leb}
+use borrow.Author.Tests.{le-leb, le-ltb}
+use Rattle.units.specs.Refusals.{verdict}
+use Rattle.units.specs.declared.refusals.Verdict.{Verdict}
+use Rattle.units.specs.declared.refusals.Verdict.the-variants.{Passed, Refused}
+use Rattle.frame.specs.Layout.{payloadOf}
+use Rattle.frame.specs.Reading.{soundOf, headerOf}
+use Rattle.frame.specs.declared.Read.{Read}
+use Rattle.frame.specs.declared.Read.the-variants as read
+use Rattle.ends.specs.Heads.{countIn}
+use Rattle.ends.specs.Lent.{Lent}
+use Rattle.ends.specs.Answers.{arrivedOf, handedOf}
+use Rattle.opening.specs.Opening.{openAnswer, closeAnswer, countsAnswer}
+use Rattle.sending.specs.Sending.{sendAnswer, urgentAnswer}
+use Rattle.arriving.specs.Arriving as memory
+use Rattle.handing.specs.Handing.{nextOut, frameOut, handAnswer, handAfter, outNode, outBook}
+use Rattle.ticking.specs.Ticking.{tickAnswer, tickBoth, recoverAll, tickEntries}
+use Rattle.good.specs.Calls.{Memory, lent, answer, after}
+use Rattle.good.specs.NewNode.{newNode, NewStays}
+use Rattle.good.proofs.NewStays.{new-stays}
+use Rattle.machine.specs.Calls.{Call, opens, closes, counts, sends, urges, arrives, hands-out, ticks, Answer}
+use Rattle.machine.specs.Machine.{Machine, Outcome, blank, opening, closing, counting, sending, urgentSending, reading, arriving, goingOut, inOrder, handing, each, bitsFrom, ticking, judged, step}
+use Rattle.refinement.specs.Standing.{Blank, NewIsBlank}
+
+module _ (store : List ℕ) where
+  abbrev M : Machine
+  M = blank (length store)
+
+  abbrev same : Call → Type 0
+  same c = (answer (newNode store) c ≡ step M c .answer) × (step M c .machine ≡ M)
+
+  -- there is no entry
+  none : (i : ℕ) → leb (countIn (newNode store .node)) i ≡ true
+  none i = le-leb (countIn (newNode store .node)) i (omega arith)
+
+  opens-same : (i : ℕ) → same (opens i)
+  unfolding answer step opening openAnswer
+  opens-same i = (rw (none i), refl)
+
+  closes-same : (i : ℕ) → same (closes i)
+  unfolding answer step closing closeAnswer
+  closes-same i = (rw (none i), refl)
+
+  counts-same : (i : ℕ) → same (counts i)
+  unfolding answer step counting countsAnswer
+  counts-same i = (rw (none i), refl)
+
+  sends-same : (i : ℕ) (p : List ℕ) → same (sends i p)
+  unfolding answer step sending sendAnswer
+  sends-same i p = (rw (none i), refl)
+
+  urges-same : (i : ℕ) (p : List ℕ) → same (urges i p)
+  unfolding answer step urgentSending urgentAnswer
+  urges-same i p = (rw (none i), refl)
+
+  hands-same : (buffer : List ℕ) → same (hands-out buffer)
+  unfolding answer step handing inOrder goingOut handAnswer handAfter nextOut frameOut outNode outBook
+  hands-same buffer =
+      let long = le-ltb (length store) 0 (omega arith) in
+      (rw (long, le-ltb (length buffer) 0 (omega arith)), rw long)
+
+  ticks-same : same ticks
+  unfolding answer step ticking each bitsFrom tickAnswer tickBoth recoverAll tickEntries
+  ticks-same = (refl, refl)
+
+  -- an arrival is refused: by the same tests of the frame, or since no entry is there
+  module _ (block f : List ℕ) where
+    abbrev x : Lent
+    x = lent (newNode store) block
+
+    abbrev answered : Verdict → Read → Answer
+    answered v r =
+        record {
+          numbers = arrivedOf (memory.answerAs v (memory.readAnswer x r (payloadOf f)));
+          out = memory.afterAs v x (memory.readAfter x r (payloadOf f)) .out;
+        }
+
+    abbrev outcome : Verdict → Read → Outcome
+    outcome v r = judged v block M (reading M block r (payloadOf f))
+
+    refused : (v : Verdict) (r : Read) → (answered v r ≡ outcome v r .answer) × (outcome v r .machine ≡ M)
+    unfolding reading memory.readAnswer memory.readAfter memory.entryAnswer memory.entryAfter
+    refused (Refused w) r = (refl, refl)
+    refused Passed (read.Refused w) = (refl, refl)
+    refused Passed (read.Frame h) = (rw (none (memory.entryOf x h)), refl)
+
+    arrives-same : same (arrives block f)
+    unfolding answer step arriving memory.arrivalAnswer memory.arrivalAfter
+    arrives-same = refused (verdict (memory.frameTests (newNode store .node) f)) (headerOf f)
+
+  all-same : (c : Call) → same c
+  all-same (opens i) = opens-same i
+  all-same (closes i) = closes-same i
+  all-same (counts i) = counts-same i
+  all-same (sends i p) = sends-same i p
+  all-same (urges i p) = urges-same i p
+  all-same (arrives block f) = arrives-same block f
+  all-same (hands-out buffer) = hands-same buffer
+  all-same ticks = ticks-same
+
+pub new-is-blank : NewIsBlank
+unfolding NewIsBlank NewStays
+new-is-blank store c = let s = all-same store c in record { answers = s .0; node = new-stays store c; machine = s .1 }
