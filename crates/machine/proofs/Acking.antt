@@ -1,23 +1,19 @@
 -- The laws of acknowledgements (specs/LawsArriving.antt). Assumes nothing.
 use Prim.Native.Nat.{ℕ, zero, suc, _+_, _≤_, _<_}
-use mathlib.Core.Path.{_≡_, refl, sym, ap, subst, _∙_}
-use mathlib.Core.Logic.{_≢_}
+use mathlib.Core.Path.{_≡_, refl, ap, _∙_}
 use mathlib.Core.Bool.{Bool, true, false, not, _&&_, false≢true}
-use mathlib.Core.Option.{Option, none, some}
+use mathlib.Core.Option.{some}
 use mathlib.Core.List.{List, [], _∷_}
 use native.Mathlib.Omega.{arith}
-use lib.ListN.{length, drop, getD, getElem?, set, length-set, List·getD-eq-default}
-use lib.Dec.{eqb}
-use borrow.Author.Tests.{not-true}
+use lib.ListN.{length, drop, getD, getElem?, set, length-set}
 use Rattle.units.specs.Refusals.{pick}
 use Rattle.frame.specs.declared.FrameType.the-variants as type
-use Rattle.table.proofs.Every.{both}
 use Rattle.ends.specs.States.{isClosed}
 use Rattle.ends.specs.declared.State.{State}
 use Rattle.ends.specs.declared.State.the-variants.{Closed, Enabled, Open, Failing}
 use Rattle.ends.specs.declared.answers.Arrived.the-variants as was
-use Rattle.machine.specs.Calls.{Answer, arrives}
-use Rattle.machine.specs.Machine.{Number, End, Sort, resends, Machine, Outcome, number, stated, counted, turned, silent, notAgain, anew, offset, numberAt, ackedRun, running, passing, told, acked, acking, taken, step}
+use Rattle.machine.specs.Calls.{arrives}
+use Rattle.machine.specs.Machine.{Number, End, Sort, Machine, number, stated, counted, turned, notAgain, anew, offset, numberAt, ackedRun, running, passing, told, acked, acking, taken, step}
 use Rattle.machine.specs.Sound.{Sound}
 use Rattle.machine.specs.Laws.{Is, answer, after}
 use Rattle.machine.specs.LawsArriving.{Comes, Opens, AckOpens, Ignored, EnabledIgnores, Runs, stopped, stateAfter, Confirms, AckConfirms, OtherIgnored}
@@ -42,7 +38,8 @@ ack-is t m S i e s p block f c z h up =
 pub ack-opens : AckOpens
 unfolding AckOpens acking
 ack-opens t m S i e timer p block f c h =
-    carry (λ m′ a. (a .numbers ≡ 0 ∷ 2 ∷ []) × Opens m m′ i e) (ack-is t m S i e 0 p block f c (Enabled timer true) h refl) (
+    carry (λ m′ a. (a .numbers ≡ 0 ∷ 2 ∷ []) × (a .out ≡ block) × Opens m m′ i e) (ack-is t m S i e 0 p block f c (Enabled timer true) h refl) (
+      refl,
       refl,
       record {
         end = now;
@@ -120,10 +117,10 @@ module _ (m : Machine) (block : List ℕ) (e : End) (s : ℕ) (x : Number) (here
 
   -- an end with the numbers that are left; Failing says how many timers still run
   confirms : (i : ℕ) (m′ : Machine) (end : End) → Is m′ i end → end .numbers ≡ drop n ns → end .confirmed ≡ e .confirmed + n → end .accepted ≡ e .accepted
-      → end .start ≡ passing n ns e .start → end .urgent ≡ e .urgent → end .state ≡ stateAfter (e .state) (end .numbers)
+      → end .start ≡ passing n ns e .start → end .entry ≡ e .entry → end .places ≡ e .places → end .urgent ≡ e .urgent → end .state ≡ stateAfter (e .state) (end .numbers)
       → ((q : Sort) → m′ .waiting q ≡ stopped (e .state) i s q (m .waiting q))
       → Confirms m m′ (told (was.Acknowledged n) block m′ .answer) i e s x
-  confirms i m′ end is left c a k u z w =
+  confirms i m′ end is left c a k x′ ps u z w =
       record {
         passed = n;
         numbers = refl;
@@ -136,6 +133,8 @@ module _ (m : Machine) (block : List ℕ) (e : End) (s : ℕ) (x : Number) (here
         accepted = a;
         start = k;
         state = z;
+        entry = x′;
+        places = ps;
         urgent = u;
         waiting = w;
       }
@@ -150,19 +149,19 @@ ack-confirms t m S i e s x p block f c runs here handed missing = sides (e .stat
     low : i < length (m .ends)
     low = elem-lt (m .ends) i (c .there)
 
-    sides : (z : State) → e .state ≡ z → Runs z → Confirms m (after m (arrives block f)) (answer m (arrives block f)) i e s x
+    sides : (z : State) → e .state ≡ z → Runs z → Confirms m (after m (arrives block f)) (answer m (arrives block f)) i e s x × (answer m (arrives block f) .out ≡ block)
     sides Closed h r = absurd r
     sides (Enabled timer sent) h r = absurd r
     sides Open h r =
-        carry (λ m′ a. Confirms m m′ a i e s x)
+        carry (λ m′ a. Confirms m m′ a i e s x × (a .out ≡ block))
         (ack-is t m S i e s p block f c Open h refl ∙ acked-is m block e s x here handed missing (λ d. notAgain i s (turned i d m)))
-        (confirms m block e s x here i (notAgain i s (turned i e′ m)) e′ (elem-set-same (m .ends) i e′ low) refl refl refl refl refl (rw h) (λ q. rw h))
+        (confirms m block e s x here i (notAgain i s (turned i e′ m)) e′ (elem-set-same (m .ends) i e′ low) refl refl refl refl refl refl refl (rw h) (λ q. rw h), refl)
     sides (Failing k) h r =
         let d : End = stated (Failing (running (e′ .numbers))) e′ in
-        carry (λ m′ a. Confirms m m′ a i e s x)
+        carry (λ m′ a. Confirms m m′ a i e s x × (a .out ≡ block))
         (ack-is t m S i e s p block f c (Failing k) h refl
         ∙ acked-is m block e s x here handed missing (λ d. turned i (stated (Failing (running (d .numbers))) d) m))
-        (confirms m block e s x here i (turned i d m) d (elem-set-same (m .ends) i d low) refl refl refl refl refl (rw h) (λ q. rw h))
+        (confirms m block e s x here i (turned i d m) d (elem-set-same (m .ends) i d low) refl refl refl refl refl refl refl (rw h) (λ q. rw h), refl)
 
 -- it does not count
 module _ (m : Machine) (block : List ℕ) (e : End) (s : ℕ)

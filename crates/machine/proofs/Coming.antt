@@ -1,7 +1,7 @@
 -- A frame for an entry that may take it in is taken in by that entry: the search finds the entry, and no test of the
 -- arrival fits. And each frame that the remote end writes is such a frame. Assumes nothing.
-use Prim.Native.Nat.{ℕ, zero, suc, _+_, _-_, _*_, _≤_, _<_}
-use mathlib.Core.Path.{_≡_, refl, sym, ap, subst, _∙_}
+use Prim.Native.Nat.{ℕ, zero, suc, _+_, _-_, _≤_, _<_}
+use mathlib.Core.Path.{_≡_, refl, sym, ap, _∙_}
 use mathlib.Core.Bool.{Bool, true, false, not, _&&_, true≢false, false≢true}
 use mathlib.Core.Option.{some}
 use mathlib.Core.List.{List, [], _∷_}
@@ -10,7 +10,6 @@ use lib.ListN.{length, take, drop, getElem?, length-take, length-drop}
 use lib.Dec.{eqb, leb, ltb}
 use borrow.Author.Tests.{le-leb, lt-leb, le-ltb, eq-eqb, eqb-true}
 use Rattle.units.specs.Bytes.{get16Of}
-use Rattle.units.specs.Refusals.{pick}
 use Rattle.frame.specs.Layout.{payloadOf, headBytes, bodyBytes, frameBytes}
 use Rattle.frame.specs.Reading.{soundOf, headerOf, readOf}
 use Rattle.frame.specs.Types.{typeNumber, suits, seqWrites, forSender, carries, answered}
@@ -23,7 +22,7 @@ use Rattle.frame.proofs.TypeLaws.{type-of-number}
 use Rattle.table.specs.declared.Kind.{Kind}
 use Rattle.table.specs.declared.Kind.the-variants.{Sends, Receives}
 use Rattle.table.specs.declared.Entry.{Entry}
-use Rattle.table.specs.Layout.{countOf, entryOf}
+use Rattle.table.specs.Layout.{countOf}
 use Rattle.table.proofs.Every.{both}
 use Rattle.table.proofs.Good.{one-entry}
 use Rattle.ends.specs.States.{isSends, isClosed, isOpen}

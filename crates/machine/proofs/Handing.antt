@@ -1,29 +1,23 @@
 -- The laws of handing out (specs/LawsHanding.antt). Assumes nothing.
 use Prim.Native.Nat.{ℕ, zero, suc, _+_, _≤_, _<_}
 use mathlib.Core.Path.{_≡_, refl, sym, ap, subst, _∙_}
-use mathlib.Core.Logic.{_≢_, _⊎_, inl, inr}
+use mathlib.Core.Logic.{_⊎_, inl, inr}
 use mathlib.Core.Bool.{Bool, true, false, _&&_}
-use mathlib.Core.Option.{Option, none, some}
-use mathlib.Core.List.{List, [], _∷_, _++_, List·Memᴰ, List·Memᴰ·head}
+use mathlib.Core.Option.{some}
+use mathlib.Core.List.{List, [], _∷_, List·Memᴰ, List·Memᴰ·head}
 use native.Mathlib.Decide.{decLt}
 use native.Mathlib.Omega.{arith}
-use lib.ListN.{length, take, drop, getD, getElem?, set}
+use lib.ListN.{length, take, drop, getD}
 use lib.Seq.{sets, sets-eq, take-at}
-use lib.Dec.{eqb, leb, ltb}
+use lib.Dec.{leb, ltb}
 use borrow.Author.Tests.{eq-eqb, le-leb, le-ltb, lt-ltb}
-use Rattle.units.specs.Refusals.{pick}
-use Rattle.units.specs.Bytes.{be16}
+use Rattle.units.specs.declared.refusals.Refusal.{Refusal}
 use Rattle.units.specs.declared.refusals.Refusal.the-variants as refusal
 use Rattle.table.specs.Layout.{countOf, entryOf}
 use Rattle.table.proofs.Good.{good-entry}
-use Rattle.frame.specs.Layout.{payloadOf, headBytes, bodyBytes, frameBytes}
-use Rattle.frame.specs.Reading.{soundOf, headerOf, readOf, headerAt}
-use Rattle.frame.specs.Types as types
 use Rattle.frame.specs.Types.{typeNumber, suits, seqWrites}
-use Rattle.frame.specs.Layout.{typeAt}
 use Rattle.frame.specs.declared.Fields.{Fields}
 use Rattle.frame.specs.declared.Header.{Header}
-use Rattle.frame.specs.declared.Read.the-variants as read
 use Rattle.frame.specs.declared.FrameType.{FrameType}
 use Rattle.frame.proofs.ReadLaws.{taken as framed, headerFor, payload-frame, read-frame}
 use Rattle.frame.proofs.TypeLaws.{type-of-number}
@@ -31,11 +25,11 @@ use Rattle.frame.proofs.WriteLaws.{length-frame}
 use Rattle.ends.specs.Answers.{handedOf}
 use Rattle.ends.specs.declared.answers.HandedOut.the-variants.{Length}
 use Rattle.machine.specs.Calls.{hands-out}
-use Rattle.machine.specs.Machine.{Number, End, Item, Sort, acks, resets, urgents, resends, datas, Machine, Outcome, number, numbered, turned, rank, only, waitingAs, answers, unless, offset, numberAt, timed, isOurs, orNone, typeOf, carried, frameOf, handed, goingOut, inOrder, handing, step}
+use Rattle.machine.specs.Machine.{End, Item, Sort, acks, resets, urgents, resends, datas, Machine, Outcome, number, numbered, turned, rank, only, waitingAs, answers, unless, offset, numberAt, timed, typeOf, carried, frameOf, handed, goingOut, inOrder, handing, step}
 use Rattle.machine.specs.Sound.{Sound, Sized, Owned, Waits, WaitsData}
 use Rattle.machine.specs.Laws.{Is, answer, after, Next}
-use Rattle.machine.specs.LawsHanding.{NextOrNone, Timed, Sent, HandsOut, WaitingGoesOut, TooShortStays, NothingOut, ReadsAs, ReadsBack, PairedTakes}
-use Rattle.machine.proofs.Entries.{not-none, elem-lt, elem-in, getD-elem, elem-getD, elem-set-same}
+use Rattle.machine.specs.LawsHanding.{NextOrNone, Timed, Sent, HandsOut, WaitingGoesOut, TooShortStays, NothingOut, ReadsBack, PairedTakes, HandedComes}
+use Rattle.machine.proofs.Entries.{elem-lt, elem-in, getD-elem, elem-set-same}
 use Rattle.machine.proofs.Items.{sortOf, sort-of-rank, rank-of-sort, rank-low, rank-same, rank-other}
 use Rattle.machine.proofs.Blocks.{beyond-stays}
 use Rattle.machine.proofs.Coming.{number-low, read-sound, read-header}
@@ -83,12 +77,16 @@ fieldsOut m q e s =
       seq = record { 0 = s };
     }
 
-abbrev pub goes : Machine → List ℕ → Sort → Item → End → Outcome
-goes m out q x e =
+abbrev pub roomTests : Machine → List ℕ → Sort → Item → End → List (Bool × Refusal)
+roomTests m out q x e = (ltb (length out) (length (frameOf m q e (x .number))), refusal.TooShort) ∷ []
+
+abbrev pub gone : Machine → List ℕ → Sort → Item → End → Outcome
+gone m out q x e =
     let f = frameOf m q e (x .number) in
-    unless ((ltb (length out) (length f), refusal.TooShort) ∷ []) out m
-    (answers (handedOf (Length (length f))) (sets out 0 f)
-    (waitingAs (only q (drop 1)) (turned (x .entry) (handed q e (x .number)) m)))
+    answers (handedOf (Length (length f))) (sets out 0 f) (waitingAs (only q (drop 1)) (turned (x .entry) (handed q e (x .number)) m))
+
+abbrev pub goes : Machine → List ℕ → Sort → Item → End → Outcome
+goes m out q x e = unless (roomTests m out q x e) out m (gone m out q x e)
 
 -- an item's owner is the entry that it names
 owned-waits : (m : Machine) (q : Sort) (x : Item) → Owned m q x → (e : End) → Is m (x .entry) e → Waits q e (x .number)
@@ -244,3 +242,20 @@ paired-takes m n q e s f r own protocol =
     let a : getD f 0 0 ≡ n .own .0 = ap (λ (h : Header). h .destination .0) z ∙ ap (λ x. x .0) (r .destination ∙ sym own) in
     let b : getD f 1 0 ≡ n .protocol = ap (λ (h : Header). h .protocol) z ∙ r .protocol ∙ sym protocol in
     (read-sound f (r .header) (r .reads), rw (eq-eqb (getD f 0 0) (n .own .0) a, eq-eqb (getD f 1 0) (n .protocol) b), read-header f (r .header) (r .reads))
+
+pub handed-comes : HandedComes
+unfolding HandedComes PairedTakes
+handed-comes m n q e s f r byte own protocol j d there remote channel kind =
+    record {
+      there = there;
+      byte = byte;
+      header = r .header;
+      reads = r .reads;
+      ours = paired-takes m n q e s f r own protocol .1;
+      kind = kind;
+      source = ap (λ x. x .0) (remote ∙ sym (r .source));
+      channel = ap (λ x. x .0) (channel ∙ sym (r .channel));
+      type = r .kind;
+      number = r .number;
+      payload = r .payload;
+    }

@@ -1,15 +1,14 @@
 -- The laws of the host's calls (specs/LawsCalls.antt). Assumes nothing.
-use Prim.Native.Nat.{ℕ, _+_, _≤_, _<_}
+use Prim.Native.Nat.{ℕ}
 use mathlib.Core.Path.{_≡_, refl, sym, ap, subst, _∙_}
-use mathlib.Core.Logic.{_≢_, _↔_}
+use mathlib.Core.Logic.{_≢_}
 use mathlib.Core.Bool.{Bool, true, false, not}
 use mathlib.Core.Option.{Option, none, some}
 use mathlib.Core.List.{List, [], _∷_, _++_}
 use native.Mathlib.Omega.{arith}
 use lib.ListN.{length, set}
-use lib.Dec.{eqb}
 use borrow.Author.Tests.{eq-eqb, ne-eqb, eqb-false, le-ltb, ltb-false, lt-leb, leb-false, not-false}
-use Rattle.units.specs.Refusals.{pick, verdict}
+use Rattle.units.specs.Refusals.{pick}
 use Rattle.units.specs.declared.refusals.Refusal.{Refusal}
 use Rattle.units.specs.declared.refusals.Refusal.the-variants as refusal
 use Rattle.units.proofs.Judging.{Clear}
@@ -18,23 +17,23 @@ use Rattle.ends.specs.States.{isSends, isClosed, isOpen}
 use Rattle.ends.specs.declared.State.{State}
 use Rattle.ends.specs.declared.State.the-variants.{Closed, Enabled, Open, Failing}
 use Rattle.ends.specs.declared.answers.Counted.the-variants.{Counts}
-use Rattle.machine.specs.Calls.{opens, closes, counts, sends, urges}
-use Rattle.machine.specs.Machine.{End, Sort, resets, urgents, datas, Machine, Outcome, node, turned, waits, silent, past, anew, enabled, answers, done, tooShort, opening, closing, counting, senderTests, sendTests, taking, sending, isSome, urging, urgentSending, mostAccepted, step}
-use Rattle.machine.specs.Laws.{Is, answer, after, Anew, ofEntry}
+use Rattle.machine.specs.Calls.{counts, sends}
+use Rattle.machine.specs.Machine.{End, resets, urgents, datas, Machine, Outcome, turned, waits, silent, past, anew, enabled, answers, done, tooShort, opening, closing, counting, senderTests, sendTests, taking, sending, isSome, urging, urgentSending, mostAccepted, step}
+use Rattle.machine.specs.Laws.{Is, answer, Anew, ofEntry}
 use Rattle.machine.specs.LawsCalls.{OpenGoes, Enables, OpenEnables, CloseGoes, Closes, CloseCloses, CountsGo, CountsTell, MaySend, SendGoes, Takes, SendTakes, MayUrge, UrgentGoes, Urges, UrgentTakes}
 use Rattle.machine.proofs.Entries.{elem-lt, elem-set-same}
 use Rattle.machine.proofs.Items.{share-gone, waits-last}
-use Rattle.machine.proofs.Judged.{refused-not, by-entry, by-verdict, done-is, only-done}
+use Rattle.machine.proofs.Judged.{by-entry, by-verdict, done-is, only-done}
 
 -- ---- states by their tests
 
-pub is-closed : (s : State) → isClosed s ≡ true → s ≡ Closed
+is-closed : (s : State) → isClosed s ≡ true → s ≡ Closed
 is-closed Closed h = refl
 is-closed (Enabled t sent) h = absurd (let z : _≡_ {A = ℕ} 0 1 = cc in omega arith)
 is-closed Open h = absurd (let z : _≡_ {A = ℕ} 0 1 = cc in omega arith)
 is-closed (Failing n) h = absurd (let z : _≡_ {A = ℕ} 0 1 = cc in omega arith)
 
-not-closed : (s : State) → s ≢ Closed → isClosed s ≡ false
+pub not-closed : (s : State) → s ≢ Closed → isClosed s ≡ false
 not-closed Closed h = absurd (h refl)
 not-closed (Enabled t sent) h = refl
 not-closed Open h = refl
@@ -55,14 +54,17 @@ true-false h = absurd (let z : _≡_ {A = ℕ} 0 1 = cc in omega arith)
 
 -- ---- open
 
-abbrev openTests : End → List (Bool × Refusal)
+abbrev pub openTests : End → List (Bool × Refusal)
 openTests e = (not (isClosed (e .state)), refusal.WrongState) ∷ []
+
+abbrev pub opened : Machine → ℕ → End → Outcome
+opened m i e = done (enabled i e m)
 
 pub open-goes : OpenGoes
 unfolding OpenGoes step opening
 open-goes m i = (
-  (λ h. let d = only-done m i [] openTests (λ e. done (enabled i e m)) h in (d .0, d .1, is-closed (d .0 .state) (not-false _ (d .2 .0)))),
-  (λ d. ap (λ (o : Outcome). o .answer .numbers) (done-is m i (d .0) openTests (λ e. done (enabled i e m)) (d .1) (rw (d .2), tt))),
+  (λ h. let d = only-done m i [] openTests (opened m i) h in (d .0, d .1, is-closed (d .0 .state) (not-false _ (d .2 .0)))),
+  (λ d. ap (λ (o : Outcome). o .answer .numbers) (done-is m i (d .0) openTests (opened m i) (d .1) (rw (d .2), tt))),
 )
 
 pub anew-is : (s : State) (e : End) → Anew s e (anew s e)
@@ -71,7 +73,7 @@ anew-is s e = record { entry = refl; state = refl; start = refl; numbers = refl;
 pub open-enables : OpenEnables
 unfolding OpenEnables step opening enabled
 open-enables m i e here closed =
-    subst (λ (o : Outcome). Enables m (o .machine) i e) (sym (done-is m i e openTests (λ e. done (enabled i e m)) here (rw closed, tt)))
+    subst (λ (o : Outcome). Enables m (o .machine) i e) (sym (done-is m i e openTests (opened m i) here (rw closed, tt)))
     (sides (isSends (e .entry .kind)) refl)
   where
     e′ : End
@@ -102,10 +104,10 @@ open-enables m i e here closed =
 
 -- ---- close
 
-abbrev closeTests : End → List (Bool × Refusal)
+abbrev pub closeTests : End → List (Bool × Refusal)
 closeTests e = (isClosed (e .state), refusal.WrongState) ∷ []
 
-abbrev closed : Machine → ℕ → End → Outcome
+abbrev pub closed : Machine → ℕ → End → Outcome
 closed m i e = done (silent i (turned i (anew Closed e) m))
 
 pub close-goes : CloseGoes
@@ -130,10 +132,10 @@ close-closes m i e here other =
 
 -- ---- counts
 
-abbrev countTests : End → List (Bool × Refusal)
+abbrev pub countTests : End → List (Bool × Refusal)
 countTests e = (not (isSends (e .entry .kind)), refusal.OtherKind) ∷ []
 
-abbrev counts-of : Machine → End → Outcome
+abbrev pub counts-of : Machine → End → Outcome
 counts-of m e = answers (countedOf (Counts (record { 0 = e .accepted }) (record { 0 = e .confirmed }))) [] m
 
 pub counts-go : CountsGo
@@ -154,7 +156,7 @@ counts-tell m i =
 
 -- ---- send
 
-abbrev sent : Machine → ℕ → List ℕ → End → Outcome
+abbrev pub sent : Machine → ℕ → List ℕ → End → Outcome
 sent m i p e = done (waits datas i (past e (length (e .numbers))) (turned i (taking p e) m))
 
 send-clear : (m : Machine) (i : ℕ) (e : End) (p : List ℕ) → MaySend m i e p → Clear (sendTests m e p)
@@ -212,10 +214,10 @@ send-takes m i e p y =
 
 -- ---- Urgent
 
-abbrev urgentTests : Machine → List ℕ → End → List (Bool × Refusal)
+abbrev pub urgentTests : Machine → List ℕ → End → List (Bool × Refusal)
 urgentTests m p e = senderTests e p ++ (isSome (e .urgent), refusal.UrgentWaits) ∷ tooShort m ∷ []
 
-abbrev urged : Machine → ℕ → List ℕ → End → Outcome
+abbrev pub urged : Machine → ℕ → List ℕ → End → Outcome
 urged m i p e = done (waits urgents i 0 (turned i (urging (some p) e) m))
 
 urge-clear : (m : Machine) (i : ℕ) (e : End) (p : List ℕ) → MayUrge m i e p → Clear (urgentTests m p e)

@@ -2,7 +2,7 @@
 use Prim.Native.Nat.{ℕ, zero, suc, _<_}
 use mathlib.Core.Path.{_≡_, refl, sym, ap, _∙_}
 use mathlib.Core.Logic.{_≢_, _⊎_, inl, inr}
-use mathlib.Core.Bool.{Bool, true, false, not, _&&_, _||_}
+use mathlib.Core.Bool.{Bool, true, false, not, _||_}
 use mathlib.Core.List.{List, [], _∷_, _++_, List·Memᴰ, List·Memᴰ·head, List·Memᴰ·tail, List·Memᴰ·cases-cons}
 use native.Mathlib.Omega.{arith}
 use lib.Dec.{eqb}
@@ -10,6 +10,16 @@ use borrow.Author.Tests.{eq-eqb, ne-eqb, eqb-true}
 use Rattle.units.specs.Refusals.{pick}
 use Rattle.machine.specs.Machine.{End, Item, Sort, acks, resets, urgents, resends, datas, Machine, node, rank, waits, without}
 use Rattle.machine.specs.Laws.{shareOf, WaitsLast}
+
+-- ---- tests
+
+pub or-true : (a : Bool) → (a || true) ≡ true
+or-true true = refl
+or-true false = refl
+
+pub or-false : (a : Bool) → (a || false) ≡ a
+or-false true = refl
+or-false false = refl
 
 -- ---- sorts
 
@@ -101,11 +111,7 @@ share-kept test i xs h = without-twice test (λ x. not (eqb (x .entry) i)) xs �
   where
     sides : (x : Item) (b : Bool) → eqb (x .entry) i ≡ b → (test x || not b) ≡ not b
     sides x true e = rw (h x (eqb-true (x .entry) i e))
-    sides x false e = either (test x)
-      where
-        either : (a : Bool) → (a || true) ≡ true
-        either true = refl
-        either false = refl
+    sides x false e = or-true (test x)
 
 -- is empty where all of its own went
 pub share-gone : (test : Item → Bool) (i : ℕ) (xs : List Item) → ((x : Item) → x .entry ≡ i → test x ≡ true) → shareOf i (without test xs) ≡ []
@@ -113,11 +119,7 @@ share-gone test i xs h = without-twice test (λ x. not (eqb (x .entry) i)) xs �
   where
     sides : (x : Item) (b : Bool) → eqb (x .entry) i ≡ b → (test x || not b) ≡ true
     sides x true e = rw (h x (eqb-true (x .entry) i e))
-    sides x false e = either (test x)
-      where
-        either : (a : Bool) → (a || true) ≡ true
-        either true = refl
-        either false = refl
+    sides x false e = or-true (test x)
 
 -- of items that are all its own, or none
 pub share-own : (i : ℕ) (xs : List Item) → ((x : Item) → List·Memᴰ x xs → x .entry ≡ i) → shareOf i xs ≡ xs

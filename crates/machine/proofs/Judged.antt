@@ -1,19 +1,18 @@
 -- A call on an entry behind its tests: it is done exactly where the entry is there and no test fits, and where it is
 -- refused all is as it was. Assumes nothing.
 use Prim.Native.Nat.{ℕ, _≤_}
-use mathlib.Core.Path.{_≡_, refl, sym, ap, subst, _∙_}
-use mathlib.Core.Bool.{Bool, true, false}
+use mathlib.Core.Path.{_≡_, refl}
+use mathlib.Core.Bool.{Bool}
 use mathlib.Core.Option.{Option, none, some}
 use mathlib.Core.List.{List, [], _∷_}
 use native.Mathlib.Omega.{arith}
-use lib.ListN.{getD, getElem?}
-use Rattle.units.specs.Refusals.{pick, numberOf, verdict}
+use lib.ListN.{getElem?}
+use Rattle.units.specs.Refusals.{numberOf, verdict}
 use Rattle.units.specs.declared.refusals.Refusal.{Refusal}
 use Rattle.units.specs.declared.refusals.Refusal.the-variants as refusal
 use Rattle.units.specs.declared.refusals.Verdict.{Verdict}
 use Rattle.units.specs.declared.refusals.Verdict.the-variants.{Passed, Refused}
 use Rattle.units.proofs.Judging.{Clear, clear}
-use Rattle.ends.specs.Answers.{answerOf}
 use Rattle.machine.specs.Machine.{End, Machine, Outcome, at, found, answers, judged, unless, onEntry}
 use Rattle.machine.specs.Laws.{Is}
 

@@ -12,3 +12,8 @@ pub mod Acking
 pub mod Judged
 pub mod Hosting
 pub mod Handing
+pub mod Touching
+pub mod Apart
+pub mod Standing
+pub mod Folding
+pub mod Vectors

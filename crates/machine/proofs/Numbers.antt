@@ -8,12 +8,13 @@ use mathlib.Core.List.{List, [], _∷_, List·Memᴰ, List·Memᴰ·head, List·
 use native.Mathlib.Omega.{arith}
 use lib.ListN.{length, getElem?}
 use lib.Dec.{eqb, leb}
-use borrow.Author.Tests.{eq-eqb, ne-eqb, eqb-true, eqb-false, le-leb, leb-true, lt-leb}
+use borrow.Author.Tests.{eq-eqb, eqb-true, le-leb, lt-leb}
 use Rattle.units.specs.Refusals.{pick}
-use Rattle.machine.specs.Machine.{Number, End, Item, past, isSpent, fallen, tickedAll, anySpent}
+use Rattle.machine.specs.Machine.{Number, End, past, isSpent, fallen, tickedAll, anySpent}
 use Rattle.machine.specs.Laws.{item}
 use Rattle.machine.specs.LawsTick.{dueFrom, Falls, AllFall, Retried}
 use Rattle.machine.proofs.Entries.{not-none}
+use Rattle.machine.proofs.Items.{or-true}
 
 -- ---- timers
 
@@ -52,15 +53,15 @@ none-retried M (z ∷ zs) zero x y h g =
     omega arith
 none-retried M (z ∷ zs) (suc k) x y h g = none-retried M zs k x y h g
 
-or-false : (a b : Bool) → (a || b) ≡ false → (a ≡ false) × (b ≡ false)
-or-false true b h = absurd (let z : _≡_ {A = ℕ} 0 1 = cc in omega arith)
-or-false false b h = (refl, h)
+neither : (a b : Bool) → (a || b) ≡ false → (a ≡ false) × (b ≡ false)
+neither true b h = absurd (let z : _≡_ {A = ℕ} 0 1 = cc in omega arith)
+neither false b h = (refl, h)
 
 pub due-retried : (M : ℕ) (xs : List Number) → anySpent M xs ≡ false → Retried (λ x. pick (eqb (x .timer) 1) 1 0) xs (tickedAll M true xs)
 unfolding tickedAll anySpent
 due-retried M [] n k x y h g = not-none h
 due-retried M (z ∷ zs) n zero x y h g =
-    let s = or-false (isSpent M z) (anySpent M zs) n in
+    let s = neither (isSpent M z) (anySpent M zs) n in
     let a : z ≡ x = cc in
     let b : fallen (not (isSpent M z)) z ≡ y = cc in
     rw (← b, ← a, s .0) (sides (eqb (z .timer) 1))
@@ -69,7 +70,7 @@ due-retried M (z ∷ zs) n zero x y h g =
     sides true = refl
     sides false = omega arith
 due-retried M (z ∷ zs) n (suc k) x y h g =
-    let s = or-false (isSpent M z) (anySpent M zs) n in
+    let s = neither (isSpent M z) (anySpent M zs) n in
     due-retried M zs (s .1) k x y h (subst (λ (b : Bool). getElem? (tickedAll M (not b) zs) k ≡ some y) (s .0) g)
 
 -- ---- which is spent
@@ -80,11 +81,7 @@ some-spent M [] k x h t r = not-none h
 some-spent M (z ∷ zs) zero x h t r =
     let a : z ≡ x = cc in
     rw (a, eq-eqb (x .timer) 1 t, le-leb M (x .retries) r)
-some-spent M (z ∷ zs) (suc k) x h t r = rw (some-spent M zs k x h t r) (sides (isSpent M z))
-  where
-    sides : (b : Bool) → (b || true) ≡ true
-    sides true = refl
-    sides false = refl
+some-spent M (z ∷ zs) (suc k) x h t r = rw (some-spent M zs k x h t r) (or-true (isSpent M z))
 
 pub none-spent : (M : ℕ) (xs : List Number) → ((k : ℕ) (x : Number) → getElem? xs k ≡ some x → x .timer ≡ 1 → x .retries < M) → anySpent M xs ≡ false
 unfolding anySpent

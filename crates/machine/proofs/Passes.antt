@@ -1,22 +1,22 @@
 -- Something done to every entry in table order, which makes of each entry what depends on that entry alone, may take its
 -- waiting frames and may add some behind: what it makes of the whole machine. Assumes nothing.
-use Prim.Native.Nat.{ℕ, zero, suc, _+_, _≤_, _<_}
-use mathlib.Core.Path.{_≡_, refl, sym, ap, subst, _∙_}
-use mathlib.Core.Logic.{_≢_, _⊎_, inl, inr}
-use mathlib.Core.Bool.{Bool, true, false, not, _&&_, _||_}
+use Prim.Native.Nat.{ℕ, zero, suc, _≤_, _<_}
+use mathlib.Core.Path.{_≡_, refl, sym, ap, _∙_}
+use mathlib.Core.Logic.{_⊎_, inl, inr}
+use mathlib.Core.Bool.{Bool, true, false, _&&_, _||_}
 use mathlib.Core.Option.{Option, none, some}
-use mathlib.Core.List.{List, [], _∷_, _++_, append-nil, append-assoc, List·Memᴰ, List·Memᴰ·append-cases, List·Memᴰ·not-nil}
+use mathlib.Core.List.{List, [], _++_, append-nil, append-assoc, List·Memᴰ, List·Memᴰ·append-cases, List·Memᴰ·not-nil}
 use native.Mathlib.Decide.{decLt, ℕ-discrete}
 use native.Mathlib.Omega.{arith}
 use lib.ListN.{length, getElem?, set, length-set}
 use lib.Dec.{eqb, ltb}
-use borrow.Author.Tests.{lt-ltb, le-ltb, eq-eqb, ne-eqb, ltb-true}
+use borrow.Author.Tests.{lt-ltb, le-ltb, eq-eqb, ne-eqb}
 use Rattle.units.specs.Refusals.{pick}
 use Rattle.machine.specs.Machine.{End, Item, Sort, Machine, node, at, found, without, each}
 use Rattle.machine.specs.Laws.{Is, shareOf}
 use Rattle.machine.specs.LawsTick.{inTurn, inTable}
 use Rattle.machine.proofs.Entries.{elem-there, elem-lt, elem-past, elem-set-same, elem-set-other}
-use Rattle.machine.proofs.Items.{without-append, without-ext, without-none, without-twice, share-kept, share-gone, share-own, share-other}
+use Rattle.machine.proofs.Items.{or-false, without-append, without-ext, without-none, without-twice, share-kept, share-gone, share-own, share-other}
 
 -- what an entry becomes, whether its waiting frames go, and what of it begins to wait
 module _ (become : End → End) (gone : End → Bool) (adds : Sort → ℕ → End → List Item)
@@ -37,6 +37,7 @@ module _ (become : End → End) (gone : End → Bool) (adds : Sort → ℕ → E
     done : (i : ℕ) (e : End) → i < k → Is m i e → Is m′ i (become e)
     left : (i : ℕ) → k ≤ i → getElem? (m′ .ends) i ≡ getElem? (m .ends) i
     count : length (m′ .ends) ≡ length (m .ends)
+    head : node m′ (m .ends) (m .waiting) ≡ m
     waiting : (q : Sort) → m′ .waiting q ≡ without (goes m k) (m .waiting q) ++ inTurn k (added m q)
 
   -- what was added is of the entries before
@@ -60,10 +61,6 @@ module _ (become : End → End) (gone : End → Bool) (adds : Sort → ℕ → E
   goes-more : (m : Machine) (k : ℕ) (e : End) → Is m k e → (x : Item) → goes m (suc k) x ≡ (goes m k x || (gone e && eqb (x .entry) k))
   goes-more m k e h x = sides (ℕ-discrete (x .entry) k) (decLt (x .entry) k)
     where
-      or-false : (a : Bool) → (a || false) ≡ a
-      or-false true = refl
-      or-false false = refl
-
       and-false : (a : Bool) → (a && false) ≡ false
       and-false true = refl
       and-false false = refl
@@ -98,10 +95,6 @@ module _ (become : End → End) (gone : End → Bool) (adds : Sort → ℕ → E
           (ap (λ (l : List Item). l ++ kept) (without-ext _ _ (m .waiting q) (λ x z. sym (goes-more m k e h x ∙ rw g))))
       sides false g =
           ap (λ (l : List Item). l ++ kept) (without-ext _ _ (m .waiting q) (λ x z. sym (goes-more m k e h x ∙ rw g (or-false _))))
-        where
-          or-false : (a : Bool) → (a || false) ≡ a
-          or-false true = refl
-          or-false false = refl
 
   upto-more : (m m′ : Machine) (k : ℕ) → Upto m k m′ → (e : End) → Is m k e → Upto m (suc k) (passed k e m′)
   upto-more m m′ k u e h =
@@ -109,6 +102,7 @@ module _ (become : End → End) (gone : End → Bool) (adds : Sort → ℕ → E
         done = λ i d l z. sides i d z l (ℕ-discrete i k);
         left = λ i l. elem-set-other (m′ .ends) k i (become e) (λ y. omega arith) ∙ u .left i (omega arith);
         count = length-set (m′ .ends) k (become e) ∙ u .count;
+        head = u .head;
         waiting = λ q. waits-more m k e h q (m′ .waiting q) (u .waiting q);
       }
     where
@@ -126,6 +120,7 @@ module _ (become : End → End) (gone : End → Bool) (adds : Sort → ℕ → E
           done = λ i e l z. absurd (omega arith);
           left = λ i l. refl;
           count = refl;
+          head = refl;
           waiting = λ q. sym (append-nil (without (goes m 0) (m .waiting q)) ∙ without-none (goes m 0) (m .waiting q) (λ x z. rw (le-ltb (x .entry) 0 (omega arith))));
         }
     upto (suc k) h =
@@ -145,6 +140,9 @@ module _ (become : End → End) (gone : End → Bool) (adds : Sort → ℕ → E
 
     pub pass-count : length (whole .ends) ≡ length (m .ends)
     pass-count = all .count
+
+    pub pass-head : node whole (m .ends) (m .waiting) ≡ m
+    pass-head = all .head
 
     pub pass-waiting : (q : Sort) → whole .waiting q ≡ without (λ x. at m (x .entry) false gone) (m .waiting q) ++ inTable m (adds q)
     pass-waiting q = all .waiting q ∙ ap (λ (l : List Item). l ++ inTable m (adds q)) (without-ext _ _ (m .waiting q) (λ x z. sides x (decLt (x .entry) (length (m .ends)))))

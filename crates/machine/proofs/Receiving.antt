@@ -1,9 +1,9 @@
 -- The laws of what a receiver takes in (specs/LawsArriving.antt): Data, a Reset, an Urgent. Assumes nothing.
-use Prim.Native.Nat.{ℕ, zero, suc, _+_, _*_, _≤_, _<_}
+use Prim.Native.Nat.{ℕ, zero, suc, _+_, _≤_, _<_}
 use mathlib.Core.Path.{_≡_, refl, sym, ap, subst, _∙_}
 use mathlib.Core.Logic.{_≢_}
-use mathlib.Core.Bool.{Bool, true, false, not, false≢true}
-use mathlib.Core.Option.{Option, none, some}
+use mathlib.Core.Bool.{false≢true}
+use mathlib.Core.Option.{none, some}
 use mathlib.Core.List.{List, [], _∷_, _++_, append-nil}
 use native.Mathlib.Omega.{arith}
 use lib.ListN.{length, drop, getElem?, set, replicate, length-set}
@@ -14,25 +14,33 @@ use Rattle.table.proofs.Good.{good-entry}
 use Rattle.frame.specs.declared.FrameType.the-variants as type
 use Rattle.ends.specs.Answers.{arrivedOf}
 use Rattle.ends.specs.States.{isClosed}
-use Rattle.ends.specs.declared.State.{State}
-use Rattle.ends.specs.declared.State.the-variants.{Closed, Enabled, Open, Failing}
+use Rattle.ends.specs.declared.State.the-variants.{Open}
 use Rattle.ends.specs.declared.answers.Arrived.the-variants as was
 use Rattle.blocks.specs.Blocks.{blockOf}
 use Rattle.blocks.specs.Reading.{readBlock}
+use Rattle.blocks.proofs.Appending.{length-one}
 use Rattle.blocks.proofs.Reading.{read-written}
 use Rattle.machine.specs.Calls.{Answer, arrives}
-use Rattle.machine.specs.Machine.{End, Sort, acks, Machine, Outcome, node, turned, waits, holding, handing-on, anew, offset, heldRun, blockRoom, delivering, receiving, resetting, taken, step}
+use Rattle.machine.specs.Machine.{End, acks, Machine, Outcome, node, turned, waits, holding, handing-on, anew, offset, heldRun, blockRoom, delivering, receiving, resetting, taken, step}
 use Rattle.machine.specs.Sound.{Sound}
-use Rattle.machine.specs.Laws.{Is, answer, after, WaitsLast}
-use Rattle.machine.specs.LawsArriving.{Comes, Ready, Told, Delivers, StartDelivers, Free, Holds, LaterHeld, OtherAcked, Begins, ResetBegins, UrgentDelivers}
+use Rattle.machine.specs.Laws.{Is, answer, after, Free}
+use Rattle.machine.specs.LawsArriving.{Comes, Ready, Told, Delivers, StartDelivers, Holds, LaterHeld, OtherAcked, Begins, ResetBegins, UrgentDelivers}
 use Rattle.machine.proofs.Entries.{not-none, elem-lt, elem-in, elem-set-same}
 use Rattle.machine.proofs.Items.{rank-other, waits-last}
 use Rattle.machine.proofs.Blocks.{Places, run-start, run-later, run-behind, gap-behind, new-there, not-new, block-fits, run-fits, put-short, beyond-stays}
 use Rattle.machine.proofs.Coming.{May, come-is}
+use Rattle.machine.proofs.Hosting.{not-closed, anew-is}
 
 -- what holds of what the entry makes of it holds of the call
 pub carry : {o : Outcome} (P : Machine → Answer → Type 0) {n : Outcome} → o ≡ n → P (n .machine) (n .answer) → P (o .machine) (o .answer)
 carry P h x = rw h x
+
+-- there is a place at the start
+one : (t : List ℕ) (m : Machine) → Sound t m → (i : ℕ) (e : End) → Is m i e → 1 ≤ length (e .places)
+one t m S i e here =
+    let b = S .bounded i e here in
+    let l : i < countOf t = (let n = S .count in let k = elem-lt (m .ends) i here in omega arith) in
+    omega (arith, good-entry t (S .table) i l .window-low, b .places)
 
 -- ---- Data
 
@@ -134,23 +142,23 @@ module _ (t : List ℕ) (m : Machine) (S : Sound t m) (i : ℕ) (e : End) (s : �
 
 pub start-delivers : StartDelivers
 unfolding StartDelivers
-start-delivers t m S i e s p block f c r new first = delivers t m S i e s p block f c r new first
+start-delivers t m S i e s p block f c r free first =
+    delivers t m S i e s p block f c r (ap (getElem? (e .places)) first ∙ nothing (e .places) (one t m S i e (c .there)) free) first
+  where
+    nothing : (ps : Places) → 1 ≤ length ps → ((q : List ℕ) → getElem? ps 0 ≢ some (some q)) → getElem? ps 0 ≡ some none
+    nothing [] l h = absurd (omega arith)
+    nothing (none ∷ ps) l h = refl
+    nothing (some q ∷ ps) l h = absurd (h q refl)
 
 pub later-held : LaterHeld
 unfolding LaterHeld
-later-held t m S i e s p block f c r new later free = holds t m S i e s p block f c r new later free
+later-held t m S i e s p block f c r free new later = holds t m S i e s p block f c r new later free
 
 pub other-acked : OtherAcked
 unfolding OtherAcked
 other-acked t m S i e s p block f c r old = repeats t m S i e s p block f c r old
 
 -- ---- a Reset and an Urgent
-
-not-closed : (s : State) → s ≢ Closed → isClosed s ≡ false
-not-closed Closed h = absurd (h refl)
-not-closed (Enabled t sent) h = refl
-not-closed Open h = refl
-not-closed (Failing n) h = refl
 
 pub reset-begins : ResetBegins
 unfolding ResetBegins resetting taken
@@ -162,7 +170,7 @@ reset-begins t m S i e s p block f c up few =
         numbers = refl;
         end = anew Open e;
         is = elem-set-same (m .ends) i (anew Open e) (elem-lt (m .ends) i (c .there));
-        anew = record { entry = refl; state = refl; start = refl; numbers = refl; places = refl; urgent = refl };
+        anew = anew-is Open e;
         counts = record { accepted = refl; confirmed = refl };
         behind = refl;
         others = λ q d. rw (rank-other q acks d);
@@ -173,20 +181,24 @@ reset-begins t m S i e s p block f c up few =
 pub urgent-delivers : UrgentDelivers
 unfolding UrgentDelivers taken
 urgent-delivers t m S i e s p block f c opened short room =
-    carry (λ m′ a. (a .numbers ≡ 0 ∷ 5 ∷ length (blockOf (p ∷ [])) ∷ []) × (readBlock (a .out) ≡ p ∷ []) × (m′ ≡ m))
+    carry (λ m′ a. (a .numbers ≡ 0 ∷ 5 ∷ (10 + length p) ∷ []) × (readBlock (a .out) ≡ p ∷ []) × (drop (10 + length p) (a .out) ≡ drop (10 + length p) block) × (m′ ≡ m))
     (come-is t m S f i e type.Urgent s p block c
-    (record { up = ap isClosed opened; opened = λ d. opened; short = λ d. short; few = λ d. absurd (false≢true d); room = λ d. room }))
-    (refl, read-written block (p ∷ []) fit, refl)
+    (record { up = ap isClosed opened; opened = λ d. opened; short = λ d. short; few = λ d. absurd (false≢true d); room = λ d. room })) (
+      rw (length-one p),
+      read-written block (p ∷ []) fit,
+      subst (λ (n : ℕ). drop n (sets block 0 (blockOf (p ∷ []))) ≡ drop n block) (length-one p) (beyond-stays block (blockOf (p ∷ [])) fit),
+      refl,
+    )
   where
     only : (k : ℕ) (q : List ℕ) → getElem? (p ∷ []) k ≡ some q → length q ≤ e .entry .largest
     only zero q h = let z : p ≡ q = cc in rw (← z) short
     only (suc k) q h = not-none h
 
-    one : 1 ≤ e .entry .window
-    one =
-        let b = S .bounded i e (c .there) .entry in
-        let l : i < countOf t = (let n = S .count in let k = elem-lt (m .ends) i (c .there) in omega arith) in
-        rw b (good-entry t (S .table) i l .window-low)
+    wide : 1 ≤ e .entry .window
+    wide =
+        let b = S .bounded i e (c .there) in
+        let w : e .entry .window ≡ length (e .places) = ap (λ x. x .window) (b .entry) ∙ sym (b .places) in
+        omega (arith, one t m S i e (c .there))
 
     fit : length (blockOf (p ∷ [])) ≤ length block
-    fit = let z = block-fits (e .entry) (p ∷ []) one only in omega arith
+    fit = let z = block-fits (e .entry) (p ∷ []) wide only in omega arith

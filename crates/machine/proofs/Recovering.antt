@@ -1,23 +1,22 @@
 -- The ends that have no timer running become Enabled: as one pass over the entries, and the bits that tell which. Assumes
 -- nothing.
-use Prim.Native.Nat.{ℕ, zero, suc, _+_, _-_, _*_, _/_, _%_, _^_, _≤_, _<_}
-use mathlib.Core.Path.{_≡_, refl, sym, ap, subst, _∙_, fun-ext}
-use mathlib.Core.Logic.{_≢_, _↔_}
+use Prim.Native.Nat.{ℕ, zero, suc, _+_, _*_, _/_, _%_, _^_}
+use mathlib.Core.Path.{_≡_, refl, sym, ap, _∙_, fun-ext}
+use mathlib.Core.Logic.{_↔_}
 use mathlib.Core.Bool.{Bool, true, false, _&&_}
 use mathlib.Core.Option.{Option, none, some}
 use mathlib.Core.List.{List, [], _∷_, _++_, append-nil, List·Memᴰ, List·Memᴰ·not-nil}
 use native.Mathlib.Nat.{zero-div, pow-succ'}
 use native.Mathlib.Omega.{arith}
-use lib.ListN.{length, getElem?, set}
-use lib.Dec.{eqb}
+use lib.ListN.{getElem?, set}
 use lib.Pow.{shr-shr}
 use Rattle.units.specs.Refusals.{pick}
 use Rattle.ends.specs.States.{isSends, isOver}
 use Rattle.ends.specs.declared.State.the-variants.{Enabled}
-use Rattle.machine.specs.Machine.{End, Item, Sort, acks, resets, urgents, resends, datas, Machine, node, found, turned, waits, anew, enabled, recovered, bitsFrom, without}
-use Rattle.machine.specs.Laws.{Is, item}
+use Rattle.machine.specs.Machine.{End, Item, Sort, acks, resets, urgents, resends, datas, Machine, node, found, turned, waits, anew, enabled, recovered, bitsFrom}
+use Rattle.machine.specs.Laws.{Is}
 use Rattle.machine.specs.LawsTick.{dueOver}
-use Rattle.machine.proofs.Entries.{set-same, not-none}
+use Rattle.machine.proofs.Entries.{set-same}
 use Rattle.machine.proofs.Passes.{passed}
 use Rattle.machine.proofs.Timers.{one-own}
 

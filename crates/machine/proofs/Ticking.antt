@@ -1,31 +1,31 @@
 -- The laws of a tick (specs/LawsTick.antt), from its two passes over the entries. Assumes nothing.
-use Prim.Native.Nat.{ℕ, zero, suc, _+_, _-_, _≤_, _<_}
+use Prim.Native.Nat.{ℕ, zero, suc}
 use mathlib.Core.Path.{_≡_, refl, sym, ap, subst, _∙_}
-use mathlib.Core.Logic.{_≢_, _⊎_, inl, inr}
-use mathlib.Core.Bool.{Bool, true, false, _&&_}
+use mathlib.Core.Logic.{_≢_}
+use mathlib.Core.Bool.{Bool, true, false}
 use mathlib.Core.Option.{Option, none, some}
-use mathlib.Core.List.{List, [], _∷_, _++_, append-nil, append-assoc, List·Memᴰ, List·Memᴰ·tail, Memᴰ·append-right}
+use mathlib.Core.List.{List, [], _∷_, _++_, append-nil, List·Memᴰ, Memᴰ·append-right}
 use native.Mathlib.Omega.{arith}
 use lib.ListN.{length, getElem?}
 use lib.Dec.{eqb}
 use borrow.Author.Tests.{eq-eqb, ne-eqb}
 use Rattle.units.specs.Refusals.{pick}
-use Rattle.ends.specs.States.{isOpen, isOver}
+use Rattle.ends.specs.States.{isOver}
 use Rattle.ends.specs.declared.State.{State}
-use Rattle.ends.specs.declared.State.the-variants.{Closed, Enabled, Open, Failing}
+use Rattle.ends.specs.declared.State.the-variants.{Enabled, Open}
 use Rattle.machine.specs.Calls.{ticks}
-use Rattle.machine.specs.Machine.{Number, End, Item, Sort, acks, resets, urgents, resends, datas, Machine, found, only, past, numbered, stated, anew, failing, tickedAll, anySpent, ticked, each, recovered, bitsFrom, ticking, step, without}
+use Rattle.machine.specs.Machine.{Number, End, Item, Sort, acks, resets, urgents, resends, datas, Machine, found, only, past, numbered, anew, failing, tickedAll, anySpent, ticked, each, recovered, bitsFrom, ticking, step}
 use Rattle.machine.specs.Laws.{Is, after, answer, item, shareOf}
-use Rattle.machine.specs.LawsTick.{timers, inTurn, inTable, fails, dueFrom, due, dueOver, failed, SendsAgain, ExpiredResends, Fails, ExpiredFails, GoesOnFailing, FailingFalls, ResetFalls, ResetTimerFalls, ClosedStays, TimersWait, Recovers, TickRecovers, TickAlone}
+use Rattle.machine.specs.LawsTick.{timers, inTurn, inTable, fails, dueFrom, due, dueOver, SendsAgain, ExpiredResends, Fails, ExpiredFails, FailingFalls, ResetFalls, ResetTimerFalls, ClosedStays, TimersWait, Recovers, TickRecovers, TickAlone}
 use Rattle.machine.proofs.Items.{rank-other, without-none, without-in}
 use Rattle.machine.proofs.Passes.{pass-end, pass-count, pass-waiting, pass-share}
-use Rattle.machine.proofs.Timers.{fell, timed, due-own, ticked-is}
+use Rattle.machine.proofs.Timers.{fell, timed, due-own, nothing-due, ticked-is}
 use Rattle.machine.proofs.Numbers.{all-fall, none-retried, due-retried, some-spent, none-spent, due-in}
 use Rattle.machine.proofs.Recovering.{again, overAdds, over-own, recovered-is, bit-iff}
 
 -- ---- the two passes
 
-abbrev tickOne : ℕ → End → Machine → Machine
+abbrev pub tickOne : ℕ → End → Machine → Machine
 tickOne i e m = ticked m i e (e .state)
 
 module _ (m : Machine) where
@@ -39,10 +39,10 @@ module _ (m : Machine) where
   timers-share = pass-share timed fails due due-own tickOne ticked-is m
 
   -- then those that are over
-  abbrev last : Machine
+  abbrev pub last : Machine
   last = each (length (timers m .ends)) recovered (timers m)
 
-  after-is : after m ticks ≡ last
+  pub after-is : after m ticks ≡ last
   unfolding step ticking
   after-is = ap (λ (n : ℕ). each n recovered (timers m)) (sym timers-count)
 
@@ -180,11 +180,7 @@ module _ (m : Machine) (i : ℕ) (e : End) (here : Is m i e) (state : e .state �
     now-fails = rw (state, spent)
 
     none-due : (q : Sort) → due q i e ≡ []
-    none-due acks = refl
-    none-due resets = rw state
-    none-due urgents = refl
-    none-due resends = rw (state, spent)
-    none-due datas = refl
+    none-due = nothing-due i e (rw state) (rw (state, spent))
 
     fails-then : Fails m i e
     fails-then =
@@ -218,11 +214,7 @@ failing-falls m i e n here state =
     }
   where
     same : (q : Sort) → pick (fails e) [] (shareOf i (m .waiting q)) ++ due q i e ≡ shareOf i (m .waiting q)
-    same acks = rw state (append-nil _)
-    same resets = rw state (append-nil _)
-    same urgents = rw state (append-nil _)
-    same resends = rw state (append-nil _)
-    same datas = rw state (append-nil _)
+    same q = let f : fails e ≡ false = rw state in rw (f, nothing-due i e (rw state) (rw state) q) (append-nil _)
 
 module _ (m : Machine) (i : ℕ) (e : End) (here : Is m i e) (timer : ℕ) (sent : Bool) (state : e .state ≡ Enabled timer sent) where
   enabled-share : (q : Sort) (b : Bool) → eqb timer 1 ≡ b → shareOf i (after m ticks .waiting q) ≡ shareOf i (m .waiting q) ++ only resets (λ l. pick b (item i 0 ∷ []) []) q []

@@ -1,13 +1,13 @@
 -- The timers of one entry: what a tick makes of it and of what waits, as one pass over the entries. Assumes nothing.
-use Prim.Native.Nat.{ℕ, zero, suc, _+_, _-_, _≤_, _<_}
-use mathlib.Core.Path.{_≡_, refl, sym, ap, subst, _∙_, fun-ext}
-use mathlib.Core.Logic.{_≢_, _⊎_, inl, inr}
-use mathlib.Core.Bool.{Bool, true, false, not, _&&_, _||_}
-use mathlib.Core.List.{List, [], _∷_, _++_, append-nil, append-assoc, List·Memᴰ, List·Memᴰ·head, List·Memᴰ·tail, List·Memᴰ·cases-cons, List·Memᴰ·not-nil, List·Memᴰ·eq-of-singleton}
+use Prim.Native.Nat.{ℕ, suc, _-_}
+use mathlib.Core.Path.{_≡_, refl, sym, ap, _∙_, fun-ext}
+use mathlib.Core.Logic.{_⊎_, inl, inr}
+use mathlib.Core.Bool.{Bool, true, false}
+use mathlib.Core.List.{List, [], _∷_, _++_, append-nil, append-assoc, List·Memᴰ, List·Memᴰ·cases-cons, List·Memᴰ·not-nil, List·Memᴰ·eq-of-singleton}
 use native.Mathlib.Omega.{arith}
-use lib.ListN.{length, getElem?, set}
+use lib.ListN.{set}
 use lib.Dec.{eqb}
-use borrow.Author.Tests.{eq-eqb, ne-eqb, eqb-true}
+use borrow.Author.Tests.{ne-eqb, eqb-true}
 use Rattle.units.specs.Refusals.{pick}
 use Rattle.ends.specs.States.{isOpen}
 use Rattle.ends.specs.declared.State.{State}
@@ -70,6 +70,14 @@ due-own resends i e x h = sides (isOpen (e .state)) (fails e) h
     sides false b h = absurd (List·Memᴰ·not-nil h)
 due-own datas i e x h = absurd (List·Memᴰ·not-nil h)
 
+-- neither its Reset nor data
+pub nothing-due : (i : ℕ) (e : End) → dueReset (e .state) i ≡ [] → due resends i e ≡ [] → (q : Sort) → due q i e ≡ []
+nothing-due i e r d acks = refl
+nothing-due i e r d resets = r
+nothing-due i e r d urgents = refl
+nothing-due i e r d resends = d
+nothing-due i e r d datas = refl
+
 -- ---- retransmissions, one after the other, are those that are due
 
 same-node : (m : Machine) (es : List End) (v w : Sort → List Item) → ((q : Sort) → v q ≡ w q) → node m es v ≡ node m es w
@@ -110,16 +118,14 @@ module _ (m : Machine) (i : ℕ) (e : End) (here : Is m i e) where
   becomes s d w h f g =
       ap (λ (z : End). node m (set (m .ends) i z) w) (sym f ∙ ap (λ (z : State). fell z e) (sym h)) ∙ same-node m _ _ _ (λ q. sym (g q))
 
+  -- nothing of it goes and nothing is added
+  still-waits : fails e ≡ false → dueReset (e .state) i ≡ [] → due resends i e ≡ [] → (q : Sort)
+      → pick (fails e) (without (λ x. eqb (x .entry) i) (m .waiting q)) (m .waiting q) ++ due q i e ≡ m .waiting q
+  still-waits f r d q = rw (f, nothing-due i e r d q) (append-nil (m .waiting q))
+
   closed-is : e .state ≡ Closed → m ≡ then
   closed-is h =
-      ap (λ (l : List End). node m l (m .waiting)) (sym (set-same (m .ends) i here)) ∙ becomes Closed e (m .waiting) h refl none
-    where
-      none : (q : Sort) → pick (fails e) (without (λ x. eqb (x .entry) i) (m .waiting q)) (m .waiting q) ++ due q i e ≡ m .waiting q
-      none acks = rw h (append-nil (m .waiting acks))
-      none resets = rw h (append-nil (m .waiting resets))
-      none urgents = rw h (append-nil (m .waiting urgents))
-      none resends = rw h (append-nil (m .waiting resends))
-      none datas = rw h (append-nil (m .waiting datas))
+      ap (λ (l : List End). node m l (m .waiting)) (sym (set-same (m .ends) i here)) ∙ becomes Closed e (m .waiting) h refl (still-waits (rw h) (rw h) (rw h))
 
   enabled-is : (timer : ℕ) (sent : Bool) → e .state ≡ Enabled timer sent → ticked m i e (Enabled timer sent) ≡ then
   unfolding ticked
@@ -169,11 +175,7 @@ module _ (m : Machine) (i : ℕ) (e : End) (here : Is m i e) where
 
       gone : anySpent (e .entry .retries) (e .numbers) ≡ true → (q : Sort)
           → pick (fails e) (without (λ x. eqb (x .entry) i) (m .waiting q)) (m .waiting q) ++ due q i e ≡ without (λ x. eqb (x .entry) i) (m .waiting q)
-      gone z acks = rw (h, z) (append-nil _)
-      gone z resets = rw (h, z) (append-nil _)
-      gone z urgents = rw (h, z) (append-nil _)
-      gone z resends = rw (h, z) (append-nil _)
-      gone z datas = rw (h, z) (append-nil _)
+      gone z q = let f : fails e ≡ true = rw (h, z) in rw (f, nothing-due i e (rw h) (rw (h, z)) q) (append-nil _)
 
       more : anySpent (e .entry .retries) (e .numbers) ≡ false → (q : Sort)
           → pick (fails e) (without (λ x. eqb (x .entry) i) (m .waiting q)) (m .waiting q) ++ due q i e ≡ only resends (λ l. l ++ dueFrom i e 0 (e .numbers)) q (m .waiting q)
@@ -192,14 +194,7 @@ module _ (m : Machine) (i : ℕ) (e : End) (here : Is m i e) where
 
   failing-is : (n : ℕ) → e .state ≡ Failing n → ticked m i e (Failing n) ≡ then
   unfolding ticked
-  failing-is n h = becomes (Failing n) (failing (tickedAll (e .entry .retries) false (e .numbers)) e) (m .waiting) h refl none
-    where
-      none : (q : Sort) → pick (fails e) (without (λ x. eqb (x .entry) i) (m .waiting q)) (m .waiting q) ++ due q i e ≡ m .waiting q
-      none acks = rw h (append-nil (m .waiting acks))
-      none resets = rw h (append-nil (m .waiting resets))
-      none urgents = rw h (append-nil (m .waiting urgents))
-      none resends = rw h (append-nil (m .waiting resends))
-      none datas = rw h (append-nil (m .waiting datas))
+  failing-is n h = becomes (Failing n) (failing (tickedAll (e .entry .retries) false (e .numbers)) e) (m .waiting) h refl (still-waits (rw h) (rw h) (rw h))
 
   pub ticked-is : ticked m i e (e .state) ≡ then
   unfolding ticked

@@ -1,19 +1,21 @@
--- Words that the laws of the machine share, and two laws of all calls: a refusal leaves all as it was, and a call on one
--- entry leaves every other. The laws of single calls are in the other files Laws*.antt. Assumes nothing.
+-- Words that the laws of the machine share, and the laws of all calls: what none alters, that a refusal leaves all as
+-- it was, and that a call on one entry leaves every other. The laws of single calls are in the other files Laws*.antt.
+-- In brackets: the section of paper 01 that a law is from. Proved in proofs/Standing.antt and proofs/Apart.antt.
+-- Assumes nothing.
 use Prim.Native.Nat.{ℕ, _<_}
 use mathlib.Core.Path.{_≡_}
 use mathlib.Core.Logic.{_≢_}
 use mathlib.Core.Bool.{Bool, not}
 use mathlib.Core.Option.{none, some}
 use mathlib.Core.List.{List, [], _∷_, _++_}
-use lib.ListN.{getD, getElem?, replicate}
+use lib.ListN.{length, getD, getElem?, replicate}
 use lib.Dec.{eqb}
 use Rattle.ends.specs.declared.State.{State}
 use Rattle.frame.specs.Reading.{headerOf}
 use Rattle.frame.specs.declared.Header.{Header}
 use Rattle.frame.specs.declared.Read.the-variants as read
 use Rattle.machine.specs.Calls.{Call, opens, closes, counts, sends, urges, arrives, hands-out, ticks, Answer}
-use Rattle.machine.specs.Machine.{End, Item, Sort, Machine, rank, without, entryFor, step}
+use Rattle.machine.specs.Machine.{End, Item, Sort, Machine, node, rank, without, past, offset, begun, entryFor, step}
 use Rattle.machine.specs.Sound.{Sound}
 
 -- ---- words
@@ -46,11 +48,18 @@ pub record Next (m : Machine) (q : Sort) (x : Item) (xs : List Item) : Type 0 wh
   pub first : m .waiting q ≡ x ∷ xs
   pub before : (r : Sort) → rank r < rank q → m .waiting r ≡ []
 
--- what waits of entry i
+-- whether it is entry i's
 abbrev pub ofEntry : ℕ → Item → Bool
 ofEntry i x = eqb (x .entry) i
 
--- d is e as it is when it becomes s: start 1, nothing taken, held or urgent; and with e's counts ("End points")
+-- nothing is held at the start of the window; of a machine, in no end point
+abbrev pub Free : End → Type 0
+Free e = (p : List ℕ) → getElem? (e .places) 0 ≢ some (some p)
+
+abbrev pub AllFree : Machine → Type 0
+AllFree m = (i : ℕ) (e : End) → Is m i e → Free e
+
+-- d is what e becomes as it becomes s: start 1, nothing taken or held, no Urgent ("End points")
 pub record Anew (s : State) (e d : End) : Type 0 where
   pub entry : d .entry ≡ e .entry
   pub state : d .state ≡ s
@@ -59,9 +68,35 @@ pub record Anew (s : State) (e d : End) : Type 0 where
   pub places : d .places ≡ replicate (e .entry .window) none
   pub urgent : d .urgent ≡ none
 
+-- accepted and confirmed are kept
 pub record SameCounts (e d : End) : Type 0 where
   pub accepted : d .accepted ≡ e .accepted
   pub confirmed : d .confirmed ≡ e .confirmed
+
+-- ---- the window
+
+-- rules out testing the window by comparing plain bytes: the number k past the start lies k past it, also where the
+-- byte has gone round ("(s - start) mod 256 < W", "Three ways to wind it too far")
+unfoldable pub WindowFolds : Type 0
+WindowFolds = (e : End) → e .start < 256 → (k : ℕ) → k < 256 → offset e (past e k) ≡ k
+
+-- ---- what no call alters
+
+-- nothing but end points and what waits alters, there are as many end points, and each is of its entry
+pub record Standing (m m′ : Machine) : Type 0 where
+  pub head : node m′ (m .ends) (m .waiting) ≡ m
+  pub count : length (m′ .ends) ≡ length (m .ends)
+  pub entry : (i : ℕ) (e d : End) → Is m i e → Is m′ i d → d .entry ≡ e .entry
+
+-- address, protocol ID, store and table stay ("The channel table": setup decides them)
+unfoldable pub TableStays : Type 0
+TableStays = (m : Machine) (c : Call) → Standing m (after m c)
+
+-- rules out the one that lets the start wait for its host: what is at the start is delivered at once, so that after
+-- setup and any calls nothing is held there ("Three ways to wind it too far")
+pub record StartStaysFree : Type 0 where
+  pub first : (t : List ℕ) (room : ℕ) → AllFree (begun t room)
+  pub then : (m : Machine) (c : Call) → AllFree m → AllFree (after m c)
 
 -- ---- a refusal ("Refusal numbers": all lent memory, the node included, is then the same as before)
 
@@ -81,10 +116,10 @@ unfoldable pub RefusedStays : Type 0
 RefusedStays = (m : Machine) (c : Call) → c ≢ ticks → getD (answer m c .numbers) 0 0 ≢ 0
     → (after m c ≡ m) × (answer m c .out ≡ lent c)
 
--- ---- independence (the end of "End points": a call on one entry leaves every other's state, window, timers and counts)
+-- ---- independence (the end of "End points": a call on one entry leaves every other's state, window, timers, counts)
 
--- the entry that a call is on: for an arrival the one that the frame is for, for handing out the owner of what goes out; a
--- tick is on all
+-- the entry that a call is on: for an arrival the one that the frame is for, for handing out the owner of what goes
+-- out; a tick is on all. Of a call that is refused RefusedStays says more.
 abbrev pub On : Machine → Call → ℕ → Type 0
 On m (opens j) i = j ≡ i
 On m (closes j) i = j ≡ i

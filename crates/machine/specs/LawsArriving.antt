@@ -1,13 +1,14 @@
--- Laws of arrivals: what each frame that the remote end writes must do at the entry that it is for. They rule out a node
--- that refuses all, one that always answers "ignored", one that leaves its state alone, and one that delivers the first
--- payload and afterwards only acknowledges ("How tight the contracts are"). Assumes nothing.
-use Prim.Native.Nat.{ℕ, zero, suc, _+_, _≤_, _<_}
+-- Laws of arrivals: what each frame that the remote end writes must do at the entry that it is for. They rule out a
+-- node that refuses all, one that always answers "ignored", one that leaves its state alone, and one that delivers the
+-- first payload and afterwards only acknowledges ("How tight the contracts are"). That nothing is held at the start of
+-- a window is StartStaysFree of Laws.antt. Proved in proofs/Coming.antt, Receiving.antt, Acking.antt. Assumes nothing.
+use Prim.Native.Nat.{ℕ, suc, _+_, _≤_, _<_}
 use mathlib.Core.Path.{_≡_}
 use mathlib.Core.Logic.{_≢_}
 use mathlib.Core.Bool.{Bool, true, false, _&&_}
-use mathlib.Core.Option.{Option, none, some}
+use mathlib.Core.Option.{none, some}
 use mathlib.Core.List.{List, [], _∷_, _++_}
-use lib.ListN.{length, drop, getD, getElem?, set, replicate}
+use lib.ListN.{length, drop, getElem?, set, replicate}
 use lib.Dec.{eqb}
 use Rattle.window.specs.Numbers.{byteOf}
 use Rattle.frame.specs.Layout.{payloadOf, frameBytes}
@@ -27,11 +28,12 @@ use Rattle.machine.specs.Calls.{Answer, arrives}
 use Rattle.machine.specs.Machine.{Number, End, Item, Sort, acks, resends, Machine, number, holding, only, without}
 use Rattle.machine.specs.Machine.{offset, running, heldCount, mostAcks, blockRoom, isOurs}
 use Rattle.machine.specs.Sound.{Sound}
-use Rattle.machine.specs.Laws.{Is, answer, after, item, WaitsLast, Anew, SameCounts, ofEntry}
+use Rattle.machine.specs.Laws.{Is, answer, after, item, WaitsLast, Free, Anew, SameCounts, ofEntry}
 
 -- ---- a frame for entry i, which is e
 
--- whole and by the rules, to our address and protocol, of the entry's remote end and channel: its type, number and payload
+-- whole and by the rules, to our address and protocol, of the entry's remote end and channel: its type, number and
+-- payload
 pub record Comes (m : Machine) (f : List ℕ) (i : ℕ) (e : End) (t : FrameType) (s : ℕ) (p : List ℕ) : Type 0 where
   pub there : Is m i e
   pub byte : s < 256
@@ -73,8 +75,8 @@ pub record Ready (m : Machine) (e : End) (p block : List ℕ) : Type 0 where
   pub few : length (m .waiting acks) < mostAcks
   pub room : blockRoom (e .entry) ≤ length block
 
--- the answer is Data, the block holds these payloads and beyond its end nothing altered, and an acknowledgement of s waits
--- behind all others
+-- the answer is Data, the block holds these payloads and beyond its end nothing altered, and an acknowledgement of s
+-- waits behind all others
 pub record Told (m m′ : Machine) (a : Answer) (i s : ℕ) (ps : List (List ℕ)) (block : List ℕ) : Type 0 where
   pub numbers : a .numbers ≡ 0 ∷ 4 ∷ length (blockOf ps) ∷ []
   pub holds : readBlock (a .out) ≡ ps
@@ -95,15 +97,11 @@ pub record Delivers (m m′ : Machine) (a : Answer) (i : ℕ) (e : End) (s : ℕ
 -- delivered
 unfoldable pub StartDelivers : Type 0
 StartDelivers = (t : List ℕ) (m : Machine) → Sound t m → (i : ℕ) (e : End) (s : ℕ) (p block f : List ℕ)
-    → Comes m f i e type.Data s p → Ready m e p block → getElem? (e .places) (offset e s) ≡ some none → offset e s ≡ 0
+    → Comes m f i e type.Data s p → Ready m e p block → Free e → offset e s ≡ 0
     → Delivers m (after m (arrives block f)) (answer m (arrives block f)) i e s p block
 
--- nothing is held at the start of the window
-abbrev pub Free : End → Type 0
-Free e = (q : List ℕ) → getElem? (e .places) 0 ≢ some (some q)
-
--- a number in the window, after the start, and new: nothing is delivered yet; it is held at its place, and all else of the
--- end point stays
+-- a number in the window, after the start, and new: nothing is delivered yet; it is held at its place, and all else of
+-- the end point stays
 pub record Holds (m m′ : Machine) (a : Answer) (i : ℕ) (e : End) (s : ℕ) (p block : List ℕ) : Type 0 where
   pub told : Told m m′ a i s [] block
   pub end : Is m′ i (holding (e .start) (set (e .places) (offset e s) (some p)) e)
@@ -111,11 +109,12 @@ pub record Holds (m m′ : Machine) (a : Answer) (i : ℕ) (e : End) (s : ℕ) (
 -- rules out the one that leaves its state alone: what comes out of order is kept for later
 unfoldable pub LaterHeld : Type 0
 LaterHeld = (t : List ℕ) (m : Machine) → Sound t m → (i : ℕ) (e : End) (s : ℕ) (p block f : List ℕ)
-    → Comes m f i e type.Data s p → Ready m e p block → getElem? (e .places) (offset e s) ≡ some none → offset e s ≢ 0
-    → Free e → Holds m (after m (arrives block f)) (answer m (arrives block f)) i e s p block
+    → Comes m f i e type.Data s p → Ready m e p block → Free e
+    → getElem? (e .places) (offset e s) ≡ some none → offset e s ≢ 0
+    → Holds m (after m (arrives block f)) (answer m (arrives block f)) i e s p block
 
--- rules out the one that answers "ignored", and the one that does not acknowledge data outside the window: a number held
--- already or outside is acknowledged again, nothing is delivered, and every end point is as it was
+-- rules out the one that answers "ignored", and the one that does not acknowledge data outside the window: a number
+-- held already or outside is acknowledged again, nothing is delivered, and every end point is as it was
 unfoldable pub OtherAcked : Type 0
 OtherAcked = (t : List ℕ) (m : Machine) → Sound t m → (i : ℕ) (e : End) (s : ℕ) (p block f : List ℕ)
     → Comes m f i e type.Data s p → Ready m e p block → getElem? (e .places) (offset e s) ≢ some none
@@ -148,8 +147,10 @@ unfoldable pub UrgentDelivers : Type 0
 UrgentDelivers = (t : List ℕ) (m : Machine) → Sound t m → (i : ℕ) (e : End) (s : ℕ) (p block f : List ℕ)
     → Comes m f i e type.Urgent s p → e .state ≡ Open → length p ≤ e .entry .largest
     → blockRoom (e .entry) ≤ length block
-    → (answer m (arrives block f) .numbers ≡ 0 ∷ 5 ∷ length (blockOf (p ∷ [])) ∷ [])
-    × (readBlock (answer m (arrives block f) .out) ≡ p ∷ []) × (after m (arrives block f) ≡ m)
+    → (answer m (arrives block f) .numbers ≡ 0 ∷ 5 ∷ (10 + length p) ∷ [])
+    × (readBlock (answer m (arrives block f) .out) ≡ p ∷ [])
+    × (drop (10 + length p) (answer m (arrives block f) .out) ≡ drop (10 + length p) block)
+    × (after m (arrives block f) ≡ m)
 
 -- ---- acknowledgements ("Sender Enabled"; "Acknowledgement at Open or Failing")
 
@@ -166,7 +167,8 @@ pub record Opens (m m′ : Machine) (i : ℕ) (e : End) : Type 0 where
 unfoldable pub AckOpens : Type 0
 AckOpens = (t : List ℕ) (m : Machine) → Sound t m → (i : ℕ) (e : End) (timer : ℕ) (p block f : List ℕ)
     → Comes m f i e type.Acknowledge 0 p → e .state ≡ Enabled timer true
-    → (answer m (arrives block f) .numbers ≡ 0 ∷ 2 ∷ []) × Opens m (after m (arrives block f)) i e
+    → (answer m (arrives block f) .numbers ≡ 0 ∷ 2 ∷ []) × (answer m (arrives block f) .out ≡ block)
+    × Opens m (after m (arrives block f)) i e
 
 -- ignored: so it is answered, and nothing alters
 pub record Ignored (m m′ : Machine) (a : Answer) (block : List ℕ) : Type 0 where
@@ -176,7 +178,8 @@ pub record Ignored (m m′ : Machine) (a : Answer) (block : List ℕ) : Type 0 w
 
 -- rules out a sender that opens by itself: without a Reset handed out, or with another number, it is ignored
 unfoldable pub EnabledIgnores : Type 0
-EnabledIgnores = (t : List ℕ) (m : Machine) → Sound t m → (i : ℕ) (e : End) (s timer : ℕ) (sent : Bool) (p block f : List ℕ)
+EnabledIgnores = (t : List ℕ) (m : Machine) → Sound t m
+    → (i : ℕ) (e : End) (s timer : ℕ) (sent : Bool) (p block f : List ℕ)
     → Comes m f i e type.Acknowledge s p → e .state ≡ Enabled timer sent → (sent && eqb s 0) ≡ false
     → Ignored m (after m (arrives block f)) (answer m (arrives block f)) block
 
@@ -218,6 +221,8 @@ pub record Confirms (m m′ : Machine) (a : Answer) (i : ℕ) (e : End) (s : ℕ
   pub accepted : end .accepted ≡ e .accepted
   pub start : end .start ≡ byteOf (e .start + passed)
   pub state : end .state ≡ stateAfter (e .state) (end .numbers)
+  pub entry : end .entry ≡ e .entry
+  pub places : end .places ≡ e .places
   pub urgent : end .urgent ≡ e .urgent
   pub waiting : (q : Sort) → m′ .waiting q ≡ stopped (e .state) i s q (m .waiting q)
 
@@ -227,6 +232,7 @@ AckConfirms = (t : List ℕ) (m : Machine) → Sound t m → (i : ℕ) (e : End)
     → Comes m f i e type.Acknowledge s p → Runs (e .state)
     → getElem? (e .numbers) (offset e s) ≡ some x → x .handed ≡ true → x .acked ≡ false
     → Confirms m (after m (arrives block f)) (answer m (arrives block f)) i e s x
+    × (answer m (arrives block f) .out ≡ block)
 
 -- rules out a confirmed count out of thin air: any other is ignored
 unfoldable pub OtherIgnored : Type 0

@@ -1,5 +1,6 @@
--- Laws of the host's calls: open, close, counts, send and Urgent go through under exactly their conditions, and what each
--- then does. They rule out a node that refuses all and one that leaves its state alone. Assumes nothing.
+-- Laws of the host's calls: open, close, counts, send and Urgent go through under exactly their conditions, and what
+-- each then does. They rule out a node that refuses all and one that leaves its state alone. Proved in
+-- proofs/Hosting.antt. Assumes nothing.
 use Prim.Native.Nat.{ℕ, _+_, _≤_, _<_}
 use mathlib.Core.Path.{_≡_}
 use mathlib.Core.Logic.{_≢_, _↔_}
@@ -10,13 +11,15 @@ use lib.ListN.{length}
 use Rattle.ends.specs.States.{isSends}
 use Rattle.ends.specs.declared.State.the-variants.{Closed, Enabled, Open}
 use Rattle.machine.specs.Calls.{opens, closes, counts, sends, urges}
-use Rattle.machine.specs.Machine.{End, Sort, resets, urgents, datas, Machine, number, urging, without, past, mostAccepted}
+use Rattle.machine.specs.Machine.{End, Sort, resets, urgents, datas, Machine}
+use Rattle.machine.specs.Machine.{number, urging, without, past, mostAccepted}
 use Rattle.machine.specs.Laws.{Is, answer, after, shareOf, WaitsLast, Anew, SameCounts, ofEntry}
 
 -- ---- open ("Open, by the host")
 
 unfoldable pub OpenGoes : Type 0
-OpenGoes = (m : Machine) (i : ℕ) → (answer m (opens i) .numbers ≡ 0 ∷ []) ↔ ((e : End) × Is m i e × (e .state ≡ Closed))
+OpenGoes = (m : Machine) (i : ℕ)
+    → (answer m (opens i) .numbers ≡ 0 ∷ []) ↔ ((e : End) × Is m i e × (e .state ≡ Closed))
 
 -- Enabled, with no Reset out yet; a sender's Reset waits behind all others, of a receiver nothing does
 pub record Enables (m m′ : Machine) (i : ℕ) (e : End) : Type 0 where
@@ -33,7 +36,8 @@ OpenEnables = (m : Machine) (i : ℕ) (e : End) → Is m i e → e .state ≡ Cl
 -- ---- close ("Close")
 
 unfoldable pub CloseGoes : Type 0
-CloseGoes = (m : Machine) (i : ℕ) → (answer m (closes i) .numbers ≡ 0 ∷ []) ↔ ((e : End) × Is m i e × (e .state ≢ Closed))
+CloseGoes = (m : Machine) (i : ℕ)
+    → (answer m (closes i) .numbers ≡ 0 ∷ []) ↔ ((e : End) × Is m i e × (e .state ≢ Closed))
 
 -- Closed, with nothing taken or held; nothing of it waits, and what waits of the others stays in its order
 pub record Closes (m m′ : Machine) (i : ℕ) (e : End) : Type 0 where
@@ -70,7 +74,8 @@ pub record MaySend (m : Machine) (i : ℕ) (e : End) (p : List ℕ) : Type 0 whe
   pub store : m .need ≤ m .room
 
 unfoldable pub SendGoes : Type 0
-SendGoes = (m : Machine) (i : ℕ) (p : List ℕ) → (answer m (sends i p) .numbers ≡ 0 ∷ []) ↔ ((e : End) × MaySend m i e p)
+SendGoes = (m : Machine) (i : ℕ) (p : List ℕ)
+    → (answer m (sends i p) .numbers ≡ 0 ∷ []) ↔ ((e : End) × MaySend m i e p)
 
 -- one more is accepted and taken, not yet handed out; it waits as data behind all others, and all else stays
 pub record Takes (m m′ : Machine) (i : ℕ) (e : End) (p : List ℕ) : Type 0 where
@@ -101,7 +106,8 @@ pub record MayUrge (m : Machine) (i : ℕ) (e : End) (p : List ℕ) : Type 0 whe
   pub store : m .need ≤ m .room
 
 unfoldable pub UrgentGoes : Type 0
-UrgentGoes = (m : Machine) (i : ℕ) (p : List ℕ) → (answer m (urges i p) .numbers ≡ 0 ∷ []) ↔ ((e : End) × MayUrge m i e p)
+UrgentGoes = (m : Machine) (i : ℕ) (p : List ℕ)
+    → (answer m (urges i p) .numbers ≡ 0 ∷ []) ↔ ((e : End) × MayUrge m i e p)
 
 -- it waits with its payload behind all others, and all else stays
 pub record Urges (m m′ : Machine) (i : ℕ) (e : End) (p : List ℕ) : Type 0 where

@@ -1,5 +1,5 @@
 -- Laws of handing out: what goes out next, what that leaves, and that each frame that goes out reads back as what was
--- meant. Assumes nothing.
+-- meant. Proved in proofs/Handing.antt. Assumes nothing.
 use Prim.Native.Nat.{ℕ, _≤_, _<_}
 use mathlib.Core.Path.{_≡_}
 use mathlib.Core.Logic.{_≢_, _⊎_}
@@ -9,14 +9,17 @@ use mathlib.Core.List.{List, [], _∷_, List·Memᴰ}
 use lib.ListN.{length, take, drop, getElem?, set}
 use Rattle.frame.specs.Layout.{payloadOf}
 use Rattle.frame.specs.Reading.{soundOf, headerOf, readOf}
+use Rattle.frame.specs.Types.{forSender}
 use Rattle.frame.specs.declared.Header.{Header}
 use Rattle.frame.specs.declared.Read.the-variants as read
+use Rattle.ends.specs.States.{isSends}
 use Rattle.ends.specs.declared.State.the-variants.{Enabled}
 use Rattle.machine.specs.Calls.{Answer, hands-out}
 use Rattle.machine.specs.Machine.{Number, End, Item, Sort, acks, resets, urgents, resends, datas, Machine}
 use Rattle.machine.specs.Machine.{number, stated, numbered, urging, offset, isOurs, typeOf, carried, frameOf}
 use Rattle.machine.specs.Sound.{Sound}
 use Rattle.machine.specs.Laws.{Is, answer, after, Next}
+use Rattle.machine.specs.LawsArriving.{Comes}
 
 -- ---- what goes out ("Handing out")
 
@@ -40,9 +43,10 @@ Sent urgents e s d = d ≡ urging none e
 Sent resends e s d = Timed e s d
 Sent datas e s d = Timed e s d
 
--- x of sort q goes out, and its entry is e: its frame, of 9 bytes or more, stands at the buffer's start, the bytes after it
--- stay, and its length is answered; of the sort the rest stays, and all other sorts
-pub record HandsOut (m m′ : Machine) (a : Answer) (q : Sort) (x : Item) (xs : List Item) (e : End) (buffer : List ℕ) : Type 0 where
+-- x of sort q goes out, and its entry is e: its frame, of 9 bytes or more, stands at the buffer's start, the bytes
+-- after it stay, and its length is answered; of the sort the rest stays, and all other sorts
+pub record HandsOut (m m′ : Machine) (a : Answer) (q : Sort) (x : Item) (xs : List Item) (e : End)
+    (buffer : List ℕ) : Type 0 where
   pub long : 9 ≤ length (frameOf m q e (x .number))
   pub numbers : a .numbers ≡ 0 ∷ length (frameOf m q e (x .number)) ∷ []
   pub frame : take (length (frameOf m q e (x .number))) (a .out) ≡ frameOf m q e (x .number)
@@ -92,8 +96,16 @@ unfoldable pub ReadsBack : Type 0
 ReadsBack = (t : List ℕ) (m : Machine) → Sound t m → (q : Sort) (x : Item) → List·Memᴰ x (m .waiting q)
     → (e : End) → Is m (x .entry) e → ReadsAs m q e (x .number) (frameOf m q e (x .number))
 
--- and the machine at its other end, n, does not refuse it with 10, 11 or 12
+-- and the machine n at its other end does not refuse it with 10, 11 or 12
 unfoldable pub PairedTakes : Type 0
 PairedTakes = (m n : Machine) (q : Sort) (e : End) (s : ℕ) (f : List ℕ) → (r : ReadsAs m q e s f)
     → n .own ≡ e .entry .remote → n .protocol ≡ m .protocol
     → (soundOf f ≡ true) × (isOurs n f ≡ true) × (headerOf f ≡ read.Frame (r .header))
+
+-- at an entry of n that names m, over the same channel and of the kind that takes such frames, it comes: so what is
+-- handed out here does there what LawsArriving.antt says
+unfoldable pub HandedComes : Type 0
+HandedComes = (m n : Machine) (q : Sort) (e : End) (s : ℕ) (f : List ℕ) → ReadsAs m q e s f → s < 256
+    → n .own ≡ e .entry .remote → n .protocol ≡ m .protocol
+    → (j : ℕ) (d : End) → Is n j d → d .entry .remote ≡ m .own → d .entry .channel ≡ e .entry .channel
+    → isSends (d .entry .kind) ≡ forSender (typeOf q) → Comes n f j d (typeOf q) s (carried q e s)

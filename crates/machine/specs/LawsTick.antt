@@ -1,5 +1,5 @@
 -- Laws of a tick: every running timer falls by one, what that makes of each end point and of what waits, and which end
--- points become Enabled then. Assumes nothing.
+-- points become Enabled then. Proved in proofs/Ticking.antt. Assumes nothing.
 use Prim.Native.Nat.{ℕ, zero, suc, _+_, _-_, _/_, _%_, _^_, _≤_, _<_}
 use mathlib.Core.Path.{_≡_}
 use mathlib.Core.Logic.{_≢_, _↔_}
@@ -14,7 +14,8 @@ use Rattle.ends.specs.declared.State.{State}
 use Rattle.ends.specs.declared.State.the-variants.{Closed, Enabled, Open, Failing}
 use Rattle.machine.specs.Calls.{ticks, Answer}
 use Rattle.machine.specs.Machine.{Number, End, Item, Sort, acks, resets, urgents, resends, datas, Machine}
-use Rattle.machine.specs.Machine.{stated, numbered, at, without, past, anew, running, failing, anySpent, ticked, each}
+use Rattle.machine.specs.Machine.{stated, numbered, at, without, past, anew, running}
+use Rattle.machine.specs.Machine.{failing, anySpent, ticked, each}
 use Rattle.machine.specs.Laws.{Is, answer, after, item, shareOf}
 
 -- ---- words
@@ -63,17 +64,18 @@ pub record Falls (x y : Number) : Type 0 where
   pub handed : y .handed ≡ x .handed
   pub acked : y .acked ≡ x .acked
 
--- so does every number, by its position in the window; the retries by themselves
+-- so falls every number, by its position in the window
 pub record AllFall (xs ys : List Number) : Type 0 where
   pub count : length ys ≡ length xs
   pub each : (k : ℕ) (x y : Number) → getElem? xs k ≡ some x → getElem? ys k ≡ some y → Falls x y
 
+-- and so many retries more each has
 abbrev pub Retried : (Number → ℕ) → List Number → List Number → Type 0
 Retried more xs ys =
     (k : ℕ) (x y : Number) → getElem? xs k ≡ some x → getElem? ys k ≡ some y → y .retries ≡ x .retries + more x
 
--- entry i at Open: each timer falls; one that comes to zero is one retry more and waits as a retransmission, last of the
--- entry's and in window order; nothing else of it alters
+-- entry i at Open: each timer falls; one that comes to zero is one retry more and waits as a retransmission, last of
+-- the entry's and in window order; nothing else of it alters
 pub record SendsAgain (m : Machine) (i : ℕ) (e : End) : Type 0 where
   pub numbers : List Number
   pub end : Is (after m ticks) i (numbered (e .start) numbers e)
@@ -168,7 +170,8 @@ TickRecovers = (m : Machine) → Recovers (timers m) (after m ticks) (answer m t
 
 -- ---- independence
 
--- what a tick makes of an entry and of its share of what waits depends on that entry alone (the end of "End points")
+-- what a tick makes of an entry and of its share of what waits depends on that entry alone (the end of "End points"):
+-- two functions that are given nothing else
 pub record TickAlone : Type 0 where
   pub becomes : End → End
   pub keeps : Sort → ℕ → End → List Item → List Item

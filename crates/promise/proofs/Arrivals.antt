@@ -1,12 +1,11 @@
--- An arrival at a machine: refused, and all is as it was; or taken in by one entry, and every other end point is as it was. Assumes
--- nothing.
+-- An arrival at a machine: refused, and all is as it was; or taken in by one entry, and so not on any other. Assumes nothing.
 use Prim.Native.Nat.{ℕ}
 use mathlib.Core.Path.{_≡_, refl, sym, ap, subst, _∙_}
 use mathlib.Core.Logic.{_≢_, _⊎_, inl, inr}
 use mathlib.Core.Bool.{Bool, true, false, not, _&&_}
 use mathlib.Core.Option.{Option, none, some}
 use mathlib.Core.List.{List, [], _∷_}
-use lib.ListN.{length, getElem?, set}
+use lib.ListN.{length, getElem?}
 use lib.Dec.{eqb}
 use borrow.Author.Tests.{not-false}
 use Rattle.units.specs.Refusals.{pick, verdict}
@@ -28,8 +27,10 @@ use Rattle.ends.specs.declared.State.the-variants.{Closed, Enabled, Open, Faili
 use Rattle.ends.specs.declared.answers.Arrived.the-variants as was
 use Rattle.lookup.proofs.Found.{Fitting}
 use Rattle.machine.specs.Machine.{End, Machine, Outcome, found, judged, told, isOurs, entryTests, entryFor, isNew, numberAt, acking, receiving, resetting, taken, reading, arriving}
+use Rattle.machine.specs.Calls.{arrives}
+use Rattle.machine.specs.Laws.{On}
 use Rattle.promise.specs.Seen.{isDone}
-use Rattle.promise.proofs.Entries.{elem-set-other, found-fits}
+use Rattle.promise.proofs.Entries.{found-fits}
 
 -- ---- refused, or taken in
 
@@ -39,6 +40,7 @@ pub record Refused (m : Machine) (block f : List ℕ) : Type 0 where
 
 pub record Taken (m : Machine) (block f : List ℕ) : Type 0 where
   pub header : Header
+  pub head : headerOf f ≡ read.Frame header
   pub read : readOf f ≡ read.Frame header
   pub end : End
   pub there : getElem? (m .ends) (entryFor m header) ≡ some end
@@ -83,6 +85,7 @@ module _ (m : Machine) (block f : List ℕ) where
       at-entry e g verdicts.Passed z =
           inr (record {
             header = h;
+            head = q;
             read = whole-read f h (not-false (soundOf f) (clear frameTests p .0)) q;
             end = e;
             there = g;
@@ -107,48 +110,34 @@ module _ (m : Machine) (block f : List ℕ) where
   pub arrival : Refused m block f ⊎ Taken m block f
   arrival = at-frame (verdict frameTests) refl
 
--- ---- what is taken in is done, and leaves the other end points
+-- what another entry takes in is not on entry i
+pub not-on : (m : Machine) (block f : List ℕ) (a : Taken m block f) (i : ℕ) → i ≢ entryFor m (a .header) → On m (arrives block f) i → ⊥
+not-on m block f a i d (h, q, z) = d (sym z ∙ ap (entryFor m) (same (sym q ∙ a .head)))
+  where
+    same : read.Frame h ≡ read.Frame (a .header) → h ≡ a .header
+    same e = cc
+
+-- ---- what is taken in is done
 
 module _ (m : Machine) (out : List ℕ) (k : ℕ) (x : End) (s : ℕ) (p : List ℕ) where
-  -- of two outcomes what holds of both
-  either : (P : Outcome → Type 0) (b : Bool) (o o′ : Outcome) → P o → P o′ → P (pick b o o′)
-  either P true o o′ h h′ = h
-  either P false o o′ h h′ = h′
-
   abbrev Done : Outcome → Type 0
   Done o = isDone (o .answer .numbers) ≡ true
 
-  abbrev Leaves : ℕ → Outcome → Type 0
-  Leaves i o = getElem? (o .machine .ends) i ≡ getElem? (m .ends) i
+  -- of two outcomes what holds of both
+  either : (b : Bool) (o o′ : Outcome) → Done o → Done o′ → Done (pick b o o′)
+  either true o o′ h h′ = h
+  either false o o′ h h′ = h′
 
   ack-done : (st : State) → Done (acking m out k x s st)
   unfolding acking
   ack-done Closed = refl
-  ack-done (Enabled t sent) = either Done (sent && eqb s 0) _ _ refl refl
-  ack-done Open = either Done (numberAt x s .handed && not (numberAt x s .acked)) _ _ refl refl
-  ack-done (Failing n) = either Done (numberAt x s .handed && not (numberAt x s .acked)) _ _ refl refl
+  ack-done (Enabled t sent) = either (sent && eqb s 0) _ _ refl refl
+  ack-done Open = either (numberAt x s .handed && not (numberAt x s .acked)) _ _ refl refl
+  ack-done (Failing n) = either (numberAt x s .handed && not (numberAt x s .acked)) _ _ refl refl
 
   pub taken-done : (q : FrameType) → Done (taken m out k x q s p)
   unfolding taken receiving resetting
-  taken-done type.Data = either Done (isNew x s) _ _ refl refl
+  taken-done type.Data = either (isNew x s) _ _ refl refl
   taken-done type.Acknowledge = ack-done (x .state)
   taken-done type.Reset = refl
   taken-done type.Urgent = refl
-
-  module _ (i : ℕ) (d : i ≢ k) where
-    put : (e : End) → getElem? (set (m .ends) k e) i ≡ getElem? (m .ends) i
-    put e = elem-set-other (m .ends) i k e d
-
-    ack-leaves : (st : State) → Leaves i (acking m out k x s st)
-    unfolding acking
-    ack-leaves Closed = refl
-    ack-leaves (Enabled t sent) = either (Leaves i) (sent && eqb s 0) _ _ (put _) refl
-    ack-leaves Open = either (Leaves i) (numberAt x s .handed && not (numberAt x s .acked)) _ _ (put _) refl
-    ack-leaves (Failing n) = either (Leaves i) (numberAt x s .handed && not (numberAt x s .acked)) _ _ (put _) refl
-
-    pub taken-leaves : (q : FrameType) → Leaves i (taken m out k x q s p)
-    unfolding taken receiving resetting
-    taken-leaves type.Data = either (Leaves i) (isNew x s) _ _ (put _) refl
-    taken-leaves type.Acknowledge = ack-leaves (x .state)
-    taken-leaves type.Reset = put _
-    taken-leaves type.Urgent = refl

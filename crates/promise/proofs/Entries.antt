@@ -1,12 +1,12 @@
--- Machines entry by entry: one entry put anew, the entry that a frame is for, and which entry a frame names. Assumes nothing.
-use Prim.Native.Nat.{ℕ, zero, suc, _<_}
+-- Machines entry by entry: the entry that a frame is for, and which entry a frame names. Assumes nothing.
+use Prim.Native.Nat.{ℕ, suc, _<_}
 use mathlib.Core.Path.{_≡_, refl, sym, ap, subst, _∙_}
 use mathlib.Core.Logic.{_≢_}
 use mathlib.Core.Bool.{Bool, true, false, true≢false, false≢true, _&&_}
-use mathlib.Core.Option.{Option, none, some}
-use mathlib.Core.List.{List, [], _∷_, List·Memᴰ, List·Memᴰ·head, List·Memᴰ·tail}
+use mathlib.Core.Option.{Option, some}
+use mathlib.Core.List.{List, [], _∷_}
 use native.Mathlib.Omega.{arith}
-use lib.ListN.{length, getD, getElem?, set}
+use lib.ListN.{length, getElem?}
 use lib.Dec.{eqb}
 use borrow.Author.Tests.{eq-eqb, eqb-true}
 use Rattle.units.specs.Refusals.{pick}
@@ -23,44 +23,17 @@ use Rattle.lookup.specs.Fitting.{fits}
 use Rattle.lookup.proofs.Found.{Fitting, fitting}
 use Rattle.machine.specs.Machine.{End, Machine, placeOf, entryFor}
 use Rattle.machine.specs.Sound.{Sound}
+use Rattle.machine.proofs.Entries.{not-none, elem-lt}
 use Rattle.promise.specs.Seen.{names}
-
--- ---- what there is at a place of a list
-
-pub not-some : {A : Type 0} (a : A) → _≡_ {A = Option A} none (some a) → ⊥
-not-some a e = let z : _≡_ {A = ℕ} 0 1 = cc in omega arith
 
 pub some-same : {A : Type 0} {a b : A} → _≡_ {A = Option A} (some a) (some b) → a ≡ b
 some-same e = cc
-
-module _ {A : Type 0} where
-  pub elem-lt : (l : List A) (i : ℕ) (a : A) → getElem? l i ≡ some a → i < length l
-  elem-lt [] i a h = absurd (not-some a h)
-  elem-lt (x ∷ xs) zero a h = omega arith
-  elem-lt (x ∷ xs) (suc i) a h = let z = elem-lt xs i a h in omega arith
-
-  pub elem-set-same : (l : List A) (i : ℕ) (a v : A) → getElem? l i ≡ some a → getElem? (set l i v) i ≡ some v
-  elem-set-same [] i a v h = absurd (not-some a h)
-  elem-set-same (x ∷ xs) zero a v h = refl
-  elem-set-same (x ∷ xs) (suc i) a v h = elem-set-same xs i a v h
-
-  pub elem-set-other : (l : List A) (i j : ℕ) (v : A) → i ≢ j → getElem? (set l j v) i ≡ getElem? l i
-  elem-set-other [] i j v d = refl
-  elem-set-other (x ∷ xs) zero zero v d = absurd (d refl)
-  elem-set-other (x ∷ xs) zero (suc j) v d = refl
-  elem-set-other (x ∷ xs) (suc i) zero v d = refl
-  elem-set-other (x ∷ xs) (suc i) (suc j) v d = elem-set-other xs i j v (λ e. d (ap suc e))
-
-  pub getD-mem : (l : List A) (i : ℕ) (d : A) → i < length l → List·Memᴰ (getD l i d) l
-  getD-mem [] i d h = absurd (omega arith)
-  getD-mem (x ∷ xs) zero d h = List·Memᴰ·head refl
-  getD-mem (x ∷ xs) (suc i) d h = List·Memᴰ·tail (getD-mem xs i d (omega arith))
 
 -- ---- the entry that a frame is for
 
 placed : (test : End → Bool) (es : List End) (e : End) → getElem? es (placeOf test es) ≡ some e → test e ≡ true
 unfolding placeOf
-placed test [] e h = absurd (not-some e h)
+placed test [] e h = not-none h
 placed test (x ∷ xs) e h = sides (test x) refl h (placed test xs e)
   where
     sides : (b : Bool) → test x ≡ b → getElem? (x ∷ xs) (pick b 0 (suc (placeOf test xs))) ≡ some e → (getElem? xs (placeOf test xs) ≡ some e → test e ≡ true) → test e ≡ true
@@ -87,7 +60,7 @@ is-false false h = refl
 
 module _ (t : List ℕ) (m : Machine) (S : Sound t m) (i : ℕ) (e : End) (there : getElem? (m .ends) i ≡ some e) where
   pub known : i < countOf t
-  known = let z = elem-lt (m .ends) i e there in let y = S .count in omega arith
+  known = let z = elem-lt (m .ends) i there in let y = S .count in omega arith
 
   pub entry-is : e .entry ≡ entryOf t i
   entry-is = S .bounded i e there .entry

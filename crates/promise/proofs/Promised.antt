@@ -66,11 +66,11 @@ module _ (t : List ℕ) (m : Machine) (S : Sound t m) (i : ℕ) (e : End) (there
   s-step k ticks = s-ticks t m i e there
 
   r-step : isSends (e .entry .kind) ≡ false → (c : Call) → RStep t m i e c (step m c)
-  r-step k (opens j) = r-opens t m i e there k j
-  r-step k (closes j) = r-closes-it t m i e there k j
-  r-step k (counts j) = r-counts t m i e there k j
-  r-step k (sends j p) = r-sends t m i e there k j p
-  r-step k (urges j p) = r-urges t m i e there k j p
+  r-step k (opens j) = r-opens t m S i e there k j
+  r-step k (closes j) = r-closes-it t m S i e there k j
+  r-step k (counts j) = r-counts t m S i e there k j
+  r-step k (sends j p) = r-sends t m S i e there k j p
+  r-step k (urges j p) = r-urges t m S i e there k j p
   r-step k (arrives block f) = r-arrives t m S i e there k block f
   r-step k (hands-out buffer) = r-hands t m S i e there k buffer
   r-step k ticks = r-ticks t m i e there (S .bounded i e there .receives (ap (λ (x : Entry). isSends (x .kind)) (sym (entry-is t m S i e there)) ∙ k))

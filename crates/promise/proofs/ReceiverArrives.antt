@@ -33,44 +33,17 @@ use Rattle.machine.specs.Calls.{arrives}
 use Rattle.machine.specs.Machine.{End, Item, acks, Machine, Outcome, anew, offset, isNew, heldRun, handing-on, numberAt, entryFor, blockRoom, acking, receiving, entryTests, resetting, taken, step, without}
 use Rattle.machine.specs.Sound.{Sound}
 use Rattle.machine.proofs.Blocks.{run-fits, block-fits, put-short}
-use Rattle.machine.proofs.Entries.{elem-in}
+use Rattle.machine.proofs.Entries.{elem-lt, elem-set-same, elem-in}
 use Rattle.promise.specs.History.{Pay, RSeen, r-quiet, r-resets, r-takes}
 use Rattle.promise.specs.Seen.{names, r-came, r-seen}
 use Rattle.promise.specs.Link.{owedTo}
 use Rattle.promise.proofs.Channel.{r-open, Up, Recv, Taken as Given, r-reset, r-take, r-drop, r-data}
 use Rattle.promise.proofs.Laws.{RNext, rn-reset, rn-data}
-use Rattle.promise.proofs.Entries.{some-same, elem-set-same, entry-is, names-own, names-other}
+use Rattle.promise.proofs.Entries.{some-same, entry-is, names-own, names-other}
 use Rattle.promise.proofs.SenderCalls.{refused-done}
-use Rattle.promise.proofs.Arrivals.{Refused, Taken, arrival, taken-done, taken-leaves}
-use Rattle.promise.proofs.ReceiverView.{r-state-of, recvOf, reset-view, owed-own, owed-other, owed-kept, owed-gone, new-same, given-then, view-then}
-use Rattle.promise.proofs.ReceiverCalls.{owed, RStep, r-still}
-
--- ---- what another entry takes in leaves its acknowledgements
-
-module _ (m : Machine) (out : List ℕ) (k : ℕ) (x : End) (s : ℕ) (p : List ℕ) (j : ℕ) (d : j ≢ k) where
-  abbrev Leaves : Outcome → Type 0
-  Leaves o = owed j (o .machine) ≡ owed j m
-
-  either : (b : Bool) (o o′ : Outcome) → Leaves o → Leaves o′ → Leaves (pick b o o′)
-  either true o o′ h h′ = h
-  either false o o′ h h′ = h′
-
-  kept : owedTo j (without (λ y. eqb (y .entry) k) (m .waiting acks)) ≡ owed j m
-  kept = owed-kept j (λ y. eqb (y .entry) k) (m .waiting acks) (λ y h. ne-eqb (y .entry) k (λ q. d (sym h ∙ q)))
-
-  ack-keeps : (st : State) → Leaves (acking m out k x s st)
-  unfolding acking
-  ack-keeps Closed = refl
-  ack-keeps (Enabled t sent) = either (sent && eqb s 0) _ _ kept refl
-  ack-keeps Open = either (numberAt x s .handed && not (numberAt x s .acked)) _ _ refl refl
-  ack-keeps (Failing n) = either (numberAt x s .handed && not (numberAt x s .acked)) _ _ refl refl
-
-  taken-keeps : (q : FrameType) → Leaves (taken m out k x q s p)
-  unfolding taken receiving resetting
-  taken-keeps type.Data = either (isNew x s) _ _ (owed-other j (m .waiting acks) k s d) (owed-other j (m .waiting acks) k s d)
-  taken-keeps type.Acknowledge = ack-keeps (x .state)
-  taken-keeps type.Reset = owed-other j (without (λ y. eqb (y .entry) k) (m .waiting acks)) k 0 d ∙ kept
-  taken-keeps type.Urgent = refl
+use Rattle.promise.proofs.Arrivals.{Refused, Taken, arrival, not-on, taken-done}
+use Rattle.promise.proofs.ReceiverView.{r-state-of, recvOf, reset-view, owed-own, owed-gone, new-same, given-then, view-then}
+use Rattle.promise.proofs.ReceiverCalls.{owed, RStep, r-still, r-elsewhere}
 
 -- ---- Data for the entry
 
@@ -117,7 +90,7 @@ module _ (t : List ℕ) (m : Machine) (S : Sound t m) (j : ℕ) (e : End) (there
           let x = handing-on (length (heldRun ps)) ps e in
           rw new (
             x,
-            elem-set-same (m .ends) j e x there,
+            elem-set-same (m .ends) j x (elem-lt (m .ends) j there),
             data-as (r-take size r s p) q x (owedTo j (m .waiting acks ++ (record { entry = j; number = s } ∷ []))) (readBlock (sets out 0 (blockOf (heldRun ps)))) (given-then size e wide s p new (owed j m) ∙ sym run-reads)
                 (ap (recvOf x) (owed-own j (m .waiting acks) j s refl) ∙ view-then size e wide s p new (owed j m)),
           )
@@ -160,7 +133,7 @@ module _ (t : List ℕ) (m : Machine) (S : Sound t m) (j : ℕ) (e : End) (there
       let left : owed j (resetting m block j e .machine) ≡ 0 ∷ [] =
       owed-own j (without (λ y. eqb (y .entry) j) (m .waiting acks)) j 0 refl ∙ ap (λ (l : List ℕ). l ++ (0 ∷ [])) (owed-gone j (m .waiting acks)) in (
         anew Open e,
-        elem-set-same (m .ends) j e (anew Open e) there,
+        elem-set-same (m .ends) j (anew Open e) (elem-lt (m .ends) j there),
         subst (RNext W (recvOf e (owed j m)) r-resets) (sym (ap (recvOf (anew Open e)) left ∙ reset-view (e .entry .window))) (rn-reset (recvOf e (owed j m)) (up c)),
       )
 
@@ -204,7 +177,8 @@ module _ (t : List ℕ) (m : Machine) (S : Sound t m) (j : ℕ) (e : End) (there
     -- for another entry
     elsewhere : j ≢ k → came ≡ r-quiet → Step o
     elsewhere d z =
-        r-still t m j e (arrives block f) o e (taken-leaves m block k x s p j d q ∙ there) (ap (recvOf e) (taken-keeps m block k x s p j d q)) (seen ∙ z)
+        subst Step arrives-is
+        (r-elsewhere t m S j e there receives (arrives block f) (not-on m block f a j d) (ap (λ (v : Outcome). r-seen (entryOf t j) j (arrives block f) (v .answer)) arrives-is ∙ seen ∙ z))
 
     -- for this one, or for another that it does not name
     named : (own : RSeen) → forSender q ≡ false → came ≡ pick (names (entryOf t j) (a .header .source .0) (a .header .channel .0)) own r-quiet

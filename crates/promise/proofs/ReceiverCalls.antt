@@ -2,9 +2,8 @@
 -- it. Assumes nothing.
 use Prim.Native.Nat.{ℕ}
 use mathlib.Core.Path.{_≡_, refl, sym, ap, subst, _∙_}
-use mathlib.Core.Logic.{_≢_}
 use mathlib.Core.Bool.{Bool, true, false, true≢false, not, _&&_}
-use mathlib.Core.Option.{Option, none, some}
+use mathlib.Core.Option.{some}
 use mathlib.Core.List.{List, [], _∷_, _++_}
 use native.Mathlib.Decide.{ℕ-discrete}
 use lib.ListN.{length, getElem?, set}
@@ -22,14 +21,19 @@ use Rattle.ends.specs.declared.State.the-variants.{Closed, Enabled}
 use Rattle.good.proofs.Known.{is-closed}
 use Rattle.machine.specs.Calls.{Call, opens, closes, counts, sends, urges, Answer}
 use Rattle.machine.specs.Machine.{End, Item, acks, resets, urgents, datas, Machine, Outcome, turned, urging, anew, enabled, silent, waits, past, done, judged, unless, onEntry, found, senderTests, sendTests, tooShort, taking, isSome, opening, closing, sending, urgentSending, step, without}
+use Rattle.machine.specs.Sound.{Sound}
+use Rattle.machine.specs.Laws.{On, OthersStay}
+use Rattle.machine.specs.LawsCalls.{CountsTell}
+use Rattle.machine.proofs.Entries.{elem-lt, elem-set-same}
+use Rattle.machine.proofs.Hosting.{counts-tell}
+use Rattle.machine.proofs.Apart.{others-stay}
 use Rattle.promise.specs.History.{RSeen, r-quiet, r-closes}
 use Rattle.promise.specs.Seen.{isDone, r-seen}
 use Rattle.promise.specs.Link.{owedTo}
 use Rattle.promise.proofs.Channel.{Recv}
 use Rattle.promise.proofs.Laws.{RNext, rn-same, rn-open, rn-close}
-use Rattle.promise.proofs.Entries.{some-same, elem-set-same, elem-set-other}
-use Rattle.promise.proofs.SenderCalls.{refused-done, enabled-ends, counted-same}
-use Rattle.promise.proofs.ReceiverView.{r-state-of, recvOf, owed-kept, owed-gone}
+use Rattle.promise.proofs.SenderCalls.{refused-done, enabled-ends, never}
+use Rattle.promise.proofs.ReceiverView.{r-state-of, recvOf, owed-share, owed-gone}
 
 -- ---- what is to be shown
 
@@ -63,43 +67,38 @@ enabled-owed j k x m = sides (isSends (x .entry .kind))
 
 -- ---- a call on entry k
 
-module _ (t : List ℕ) (m : Machine) (j : ℕ) (e : End) (there : getElem? (m .ends) j ≡ some e) (receives : isSends (e .entry .kind) ≡ false) where
+module _ (t : List ℕ) (m : Machine) (S : Sound t m) (j : ℕ) (e : End) (there : getElem? (m .ends) j ≡ some e) (receives : isSends (e .entry .kind) ≡ false) where
   abbrev W : ℕ
   W = entryOf t j .window
 
-  module _ (c : ℕ → Call) (own : RSeen) (tests : End → List (Bool × Refusal)) (next : ℕ → End → Machine) (F : End → End)
-      (is : (k : ℕ) → step m (c k) ≡ onEntry m k (λ x. unless (tests x) [] m (done (next k x))))
-      (ends : (k : ℕ) (x : End) → next k x .ends ≡ set (m .ends) k (F x))
-      (others : (k : ℕ) (x : End) → j ≢ k → owed j (next k x) ≡ owed j m)
+  -- not on entry j
+  pub r-elsewhere : (c : Call) → (On m c j → ⊥) → r-seen (entryOf t j) j c (step m c .answer) ≡ r-quiet → RStep t m j e c (step m c)
+  unfolding OthersStay
+  r-elsewhere c n q =
+      let u = others-stay t m S c j n in
+      let w : owed j (step m c .machine) ≡ owed j m = sym (owed-share j (step m c .machine .waiting acks)) ∙ ap (owedTo j) (u .share acks) ∙ owed-share j (m .waiting acks) in
+      r-still t m j e c (step m c) e (u .end ∙ there) (ap (recvOf e) w) q
+
+  module _ (c : ℕ → Call) (on : (k : ℕ) → On m (c k) j → k ≡ j) (own : RSeen) (tests : End → List (Bool × Refusal)) (next : Machine) (end : End)
+      (is : step m (c j) ≡ onEntry m j (λ x. unless (tests x) [] m (done next)))
+      (ends : next .ends ≡ set (m .ends) j end)
       (seen : (k : ℕ) (a : Answer) → r-seen (entryOf t j) j (c k) a ≡ pick (isDone (a .numbers) && eqb k j) own r-quiet)
-      (passed : verdict (tests e) ≡ Passed → RNext W (recvOf e (owed j m)) own (recvOf (F e) (owed j (next j e)))) where
-    refused : (k : ℕ) (w : Refusal) → RStep t m j e (c k) (record { answer = record { numbers = numberOf w ∷ []; out = [] }; machine = m })
-    refused k w = r-still t m j e (c k) _ e there refl (seen k _ ∙ rw (refused-done w))
-
-    through : (k : ℕ) (x : End) → getElem? (m .ends) k ≡ some x → verdict (tests x) ≡ Passed → Dec (k ≡ j) → RStep t m j e (c k) (done (next k x))
-    through k x g p (yes q) =
-        let same : x ≡ e = some-same (sym g ∙ ap (λ (i : ℕ). getElem? (m .ends) i) q ∙ there) in
-        let z : r-seen (entryOf t j) j (c k) (done (next k x) .answer) ≡ own = seen k _ ∙ rw (eq-eqb k j q) in
-        let n : RNext W (recvOf e (owed j m)) own (recvOf (F e) (owed j (next k x))) = rw (q, same) (passed (rw same at p)) in
+      (passed : verdict (tests e) ≡ Passed → RNext W (recvOf e (owed j m)) own (recvOf end (owed j next))) where
+    judge : (v : Verdict) → verdict (tests e) ≡ v → RStep t m j e (c j) (judged v [] m (done next))
+    judge Passed p =
         record {
-          end = F e;
-          there = rw (ends k x, q, same) (elem-set-same (m .ends) j e (F e) there);
-          next = subst (λ (y : RSeen). RNext W (recvOf e (owed j m)) y (recvOf (F e) (owed j (next k x)))) (sym z) n;
+          end = end;
+          there = rw ends (elem-set-same (m .ends) j end (elem-lt (m .ends) j there));
+          next = subst (λ (z : RSeen). RNext W (recvOf e (owed j m)) z (recvOf end (owed j next))) (sym (seen j _ ∙ rw (eq-eqb j j refl))) (passed p);
         }
-    through k x g p (no d) =
-        r-still t m j e (c k) _ e (rw (ends k x) (elem-set-other (m .ends) j k (F x) (λ q. d (sym q)) ∙ there)) (ap (recvOf e) (others k x (λ q. d (sym q)))) (seen k _ ∙ rw (ne-eqb k j d))
-
-    judge : (k : ℕ) (x : End) → getElem? (m .ends) k ≡ some x → (v : Verdict) → verdict (tests x) ≡ v → RStep t m j e (c k) (judged v [] m (done (next k x)))
-    judge k x g Passed p = through k x g p (ℕ-discrete k j)
-    judge k x g (Refused w) p = refused k w
-
-    at-entry : (k : ℕ) (z : Option End) → getElem? (m .ends) k ≡ z
-        → RStep t m j e (c k) (found z (record { answer = record { numbers = numberOf refusal.NoEntry ∷ []; out = [] }; machine = m }) (λ x. unless (tests x) [] m (done (next k x))))
-    at-entry k none g = refused k refusal.NoEntry
-    at-entry k (some x) g = judge k x g (verdict (tests x)) refl
+    judge (Refused w) p = r-still t m j e (c j) _ e there refl (seen j _ ∙ rw (refused-done w))
 
     entry-step : (k : ℕ) → RStep t m j e (c k) (step m (c k))
-    entry-step k = subst (RStep t m j e (c k)) (sym (is k)) (at-entry k (getElem? (m .ends) k) refl)
+    entry-step k = sides (ℕ-discrete k j)
+      where
+        sides : Dec (k ≡ j) → RStep t m j e (c k) (step m (c k))
+        sides (yes q) = rw q (subst (RStep t m j e (c j)) (sym (is ∙ rw there)) (judge (verdict (tests e)) refl))
+        sides (no d) = r-elsewhere (c k) (λ h. d (on k h)) (seen k _ ∙ rw (ne-eqb k j d) (never (isDone (step m (c k) .answer .numbers)) own r-quiet))
 
   nothing : (b : Bool) → _≡_ {A = RSeen} r-quiet (pick b r-quiet r-quiet)
   nothing true = refl
@@ -113,32 +112,30 @@ module _ (t : List ℕ) (m : Machine) (j : ℕ) (e : End) (there : getElem? (m .
 
   pub r-opens : (k : ℕ) → RStep t m j e (opens k) (step m (opens k))
   unfolding step opening r-seen
-  r-opens k =
-      entry-step opens r-quiet (λ x. (not (isClosed (x .state)), refusal.WrongState) ∷ []) (λ i x. enabled i x m) (anew (Enabled 0 false)) (λ i. refl) (λ i x. enabled-ends i x m)
-      (λ i x d. enabled-owed j i x m) (λ i a. nothing (isDone (a .numbers) && eqb i j))
+  r-opens =
+      entry-step opens (λ k h. h) r-quiet (λ x. (not (isClosed (x .state)), refusal.WrongState) ∷ []) (enabled j e m) (anew (Enabled 0 false) e) (rw there) (enabled-ends j e m)
+      (λ i a. nothing (isDone (a .numbers) && eqb i j))
       (λ p.
-      rn-open _ _ (ap r-state-of (is-closed (e .state) (not-false (isClosed (e .state)) (clear ((not (isClosed (e .state)), refusal.WrongState) ∷ []) p .0)))) refl (enabled-owed j j e m)) k
+      rn-open _ _ (ap r-state-of (is-closed (e .state) (not-false (isClosed (e .state)) (clear ((not (isClosed (e .state)), refusal.WrongState) ∷ []) p .0)))) refl (enabled-owed j j e m))
 
   pub r-closes-it : (k : ℕ) → RStep t m j e (closes k) (step m (closes k))
   unfolding step closing r-seen
-  r-closes-it k =
-      entry-step closes r-closes (λ x. (isClosed (x .state), refusal.WrongState) ∷ []) (λ i x. silent i (turned i (anew Closed x) m)) (anew Closed) (λ i. refl) (λ i x. refl)
-      (λ i x d. owed-kept j (λ y. eqb (y .entry) i) (m .waiting acks) (λ y h. ne-eqb (y .entry) i (λ q. d (sym h ∙ q)))) (λ i a. refl)
-      (λ p. rn-close _ _ refl (owed-gone j (m .waiting acks))) k
+  r-closes-it =
+      entry-step closes (λ k h. h) r-closes (λ x. (isClosed (x .state), refusal.WrongState) ∷ []) (silent j (turned j (anew Closed e) m)) (anew Closed e) (rw there) refl (λ i a. refl)
+      (λ p. rn-close _ _ refl (owed-gone j (m .waiting acks)))
 
   pub r-sends : (k : ℕ) (p : List ℕ) → RStep t m j e (sends k p) (step m (sends k p))
   unfolding step sending r-seen
   r-sends k p =
-      entry-step (λ i. sends i p) r-quiet (λ x. sendTests m x p) (λ i x. waits datas i (past x (length (x .numbers))) (turned i (taking p x) m)) (taking p) (λ i. refl) (λ i x. refl)
-      (λ i x d. refl) (λ i a. nothing (isDone (a .numbers) && eqb i j)) (λ h. no-sender (clear (sendTests m e p) h .0)) k
+      entry-step (λ i. sends i p) (λ i h. h) r-quiet (λ x. sendTests m x p) (waits datas j (past e (length (e .numbers))) (turned j (taking p e) m)) (taking p e) (rw there) refl
+      (λ i a. nothing (isDone (a .numbers) && eqb i j)) (λ h. no-sender (clear (sendTests m e p) h .0)) k
 
   pub r-urges : (k : ℕ) (p : List ℕ) → RStep t m j e (urges k p) (step m (urges k p))
   unfolding step urgentSending r-seen
   r-urges k p =
-      entry-step (λ i. urges i p) r-quiet (λ x. senderTests x p ++ (isSome (x .urgent), refusal.UrgentWaits) ∷ tooShort m ∷ []) (λ i x. waits urgents i 0 (turned i (urging (some p) x) m))
-      (urging (some p)) (λ i. refl) (λ i x. refl)
-      (λ i x d. refl) (λ i a. nothing (isDone (a .numbers) && eqb i j)) (λ h. no-sender (clear (senderTests e p ++ (isSome (e .urgent), refusal.UrgentWaits) ∷ tooShort m ∷ []) h .0)) k
+      entry-step (λ i. urges i p) (λ i h. h) r-quiet (λ x. senderTests x p ++ (isSome (x .urgent), refusal.UrgentWaits) ∷ tooShort m ∷ []) (waits urgents j 0 (turned j (urging (some p) e) m)) (urging (some p) e)
+      (rw there) refl (λ i a. nothing (isDone (a .numbers) && eqb i j)) (λ h. no-sender (clear (senderTests e p ++ (isSome (e .urgent), refusal.UrgentWaits) ∷ tooShort m ∷ []) h .0)) k
 
   pub r-counts : (k : ℕ) → RStep t m j e (counts k) (step m (counts k))
-  unfolding r-seen
-  r-counts k = r-still t m j e (counts k) (step m (counts k)) e (rw (counted-same m k) there) (ap (λ (n : Machine). recvOf e (owed j n)) (counted-same m k)) refl
+  unfolding r-seen CountsTell
+  r-counts k = r-still t m j e (counts k) (step m (counts k)) e (rw (counts-tell m k) there) (ap (λ (n : Machine). recvOf e (owed j n)) (counts-tell m k)) refl

@@ -16,13 +16,14 @@ use Rattle.ends.specs.States.{isSends}
 use Rattle.machine.specs.Calls.{hands-out}
 use Rattle.machine.specs.Machine.{End, Item, Sort, acks, resets, urgents, resends, datas, Machine, Outcome, typeOf, frameOf, handed, step}
 use Rattle.machine.specs.Sound.{Sound}
+use Rattle.machine.proofs.Entries.{elem-lt, elem-set-same, elem-set-other}
 use Rattle.promise.specs.History.{RSeen, r-quiet, r-acks}
 use Rattle.promise.specs.Seen.{isDone, frameIn, names, r-went, r-out, r-seen}
 use Rattle.promise.specs.Link.{owedTo}
 use Rattle.promise.proofs.Laws.{RNext, rn-ack}
-use Rattle.promise.proofs.Entries.{some-same, elem-set-same, elem-set-other, names-own, names-other}
+use Rattle.promise.proofs.Entries.{some-same, names-own, names-other}
 use Rattle.promise.proofs.SenderCalls.{refused-done}
-use Rattle.promise.proofs.Handing.{fit, headerOut, out-reads, out-carries, Went, leaving, Stayed, hand, frame-in, read-nothing}
+use Rattle.promise.proofs.Handing.{headerOut, out-reads, Went, leaving, Stayed, hand, went-reads, frame-in, read-nothing}
 use Rattle.promise.proofs.ReceiverView.{recvOf}
 use Rattle.promise.proofs.ReceiverCalls.{owed, RStep, r-still}
 
@@ -58,11 +59,11 @@ module _ (t : List ℕ) (m : Machine) (S : Sound t m) (j : ℕ) (e : End) (there
 
     seen : r-seen (entryOf t j) j (hands-out buffer) (o .answer) ≡ r-went (entryOf t j) (headerOut m q x s) (typeOf q)
     unfolding r-seen
-    seen = rw (frame-in buffer (frameOf m q x s) (w .long), out-reads m x s q (fit t m S k x (w .owned .there) q s (w .owned .waits)))
+    seen = rw (frame-in buffer (frameOf m q x s) (w .long), out-reads m q x s (went-reads t m S buffer q w))
 
     -- at another entry
     elsewhere : j ≢ k → owed j (o .machine) ≡ owed j m → r-went (entryOf t j) (headerOut m q x s) (typeOf q) ≡ r-quiet → RStep t m j e (hands-out buffer) o
-    elsewhere d h z = r-still t m j e (hands-out buffer) o e (elem-set-other (m .ends) j k (handed q x s) d ∙ there) (ap (recvOf e) h) (seen ∙ z)
+    elsewhere d h z = r-still t m j e (hands-out buffer) o e (elem-set-other (m .ends) k j (handed q x s) d ∙ there) (ap (recvOf e) h) (seen ∙ z)
 
     -- what is a sender's is not of this one
     sender-out : isSends (x .entry .kind) ≡ true → owed j (o .machine) ≡ owed j m → r-went (entryOf t j) (headerOut m q x s) (typeOf q) ≡ r-quiet → RStep t m j e (hands-out buffer) o
@@ -76,21 +77,21 @@ module _ (t : List ℕ) (m : Machine) (S : Sound t m) (j : ℕ) (e : End) (there
       x = w .owned .end
 
       waits-then : owed j (leaving m buffer acks w .machine) ≡ owedTo j (w .rest)
-      waits-then = ap (λ (l : List Item). owedTo j (drop 1 l)) (w .waited)
+      waits-then = ap (λ (l : List Item). owedTo j (drop 1 l)) (w .next .first)
 
       sides : Dec (j ≡ w .item .entry) → RStep t m j e (hands-out buffer) (leaving m buffer acks w)
       sides (yes c) =
-          let waited : owed j m ≡ w .item .number ∷ owedTo j (w .rest) = ap (owedTo j) (w .waited) ∙ rw (eq-eqb (w .item .entry) j (sym c)) in
+          let waited : owed j m ≡ w .item .number ∷ owedTo j (w .rest) = ap (owedTo j) (w .next .first) ∙ rw (eq-eqb (w .item .entry) j (sym c)) in
           let same : w .owned .end ≡ e = some-same (sym (w .owned .there) ∙ sym (ap (λ (i : ℕ). getElem? (m .ends) i) c) ∙ there) in
           let z : r-seen (entryOf t j) j (hands-out buffer) (leaving m buffer acks w .answer) ≡ r-acks (w .item .number) = seen acks w ∙ rw (c, names-own t m S (w .item .entry) (w .owned .end) (w .owned .there)) in
           record {
             end = w .owned .end;
-            there = subst (λ (i : ℕ). getElem? (set (m .ends) i (w .owned .end)) j ≡ some (w .owned .end)) c (elem-set-same (m .ends) j e (w .owned .end) there);
+            there = subst (λ (i : ℕ). getElem? (set (m .ends) i (w .owned .end)) j ≡ some (w .owned .end)) c (elem-set-same (m .ends) j (w .owned .end) (elem-lt (m .ends) j there));
             next = subst (λ (y : RSeen). RNext W (recvOf e (owed j m)) y (recvOf (w .owned .end) (owed j (leaving m buffer acks w .machine)))) (sym z)
                 (rw (waits-then, same) (rn-ack (recvOf e (owed j m)) (w .item .number) (owedTo j (w .rest)) waited));
           }
       sides (no d) =
-          elsewhere acks w d (waits-then ∙ sym (ap (owedTo j) (w .waited) ∙ rw (ne-eqb (w .item .entry) j (λ c. d (sym c)))))
+          elsewhere acks w d (waits-then ∙ sym (ap (owedTo j) (w .next .first) ∙ rw (ne-eqb (w .item .entry) j (λ c. d (sym c)))))
           (rw (names-other t m S j e there (w .item .entry) (w .owned .end) (w .owned .there) (receives ∙ sym (w .owned .waits .receives)) d))
 
   by-sort : (q : Sort) (w : Went m buffer q) → RStep t m j e (hands-out buffer) (leaving m buffer q w)

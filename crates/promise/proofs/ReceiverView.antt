@@ -56,12 +56,9 @@ module _ (j : ℕ) where
       sides true h = ap (λ (l : List ℕ). x .number ∷ l) h
       sides false h = h
 
-  -- one more of its own, or of another entry's
+  -- one more of its own
   pub owed-own : (xs : List Item) (k s : ℕ) → k ≡ j → owedTo j (xs ++ (record { entry = k; number = s } ∷ [])) ≡ owedTo j xs ++ (s ∷ [])
   owed-own xs k s e = owed-append xs (record { entry = k; number = s } ∷ []) ∙ rw (eq-eqb k j e)
-
-  pub owed-other : (xs : List Item) (k s : ℕ) → j ≢ k → owedTo j (xs ++ (record { entry = k; number = s } ∷ [])) ≡ owedTo j xs
-  owed-other xs k s d = owed-append xs (record { entry = k; number = s } ∷ []) ∙ rw (ne-eqb k j (λ e. d (sym e))) (append-nil (owedTo j xs))
 
   -- by its share alone
   pub owed-share : (xs : List Item) → owedTo j (shareOf j xs) ≡ owedTo j xs
@@ -72,19 +69,6 @@ module _ (j : ℕ) where
       sides : (b : Bool) → eqb (x .entry) j ≡ b → owedTo j (shareOf j xs) ≡ owedTo j xs → owedTo j (pick (not b) (shareOf j xs) (x ∷ shareOf j xs)) ≡ pick b (x .number ∷ owedTo j xs) (owedTo j xs)
       sides true q h = rw q (ap (λ (l : List ℕ). x .number ∷ l) h)
       sides false q h = h
-
-  -- without what a test takes that takes none of its own
-  pub owed-kept : (test : Item → Bool) (xs : List Item) → ((x : Item) → x .entry ≡ j → test x ≡ false) → owedTo j (without test xs) ≡ owedTo j xs
-  unfolding without
-  owed-kept test [] f = refl
-  owed-kept test (x ∷ xs) f = sides (ℕ-discrete (x .entry) j) (test x) refl (owed-kept test xs f)
-    where
-      sides : Dec (x .entry ≡ j) → (b : Bool) → test x ≡ b → owedTo j (without test xs) ≡ owedTo j xs
-          → owedTo j (pick b (without test xs) (x ∷ without test xs)) ≡ pick (eqb (x .entry) j) (x .number ∷ owedTo j xs) (owedTo j xs)
-      sides (yes e) true q h = absurd (let z : _≡_ {A = Bool} true false = sym q ∙ f x e in let y : _≡_ {A = ℕ} 0 1 = cc in omega arith)
-      sides (yes e) false q h = rw (eq-eqb (x .entry) j e, h)
-      sides (no d) true q h = rw (ne-eqb (x .entry) j d) h
-      sides (no d) false q h = rw (ne-eqb (x .entry) j d) h
 
   -- without all of its own
   pub owed-gone : (xs : List Item) → owedTo j (without (λ x. eqb (x .entry) j) xs) ≡ []

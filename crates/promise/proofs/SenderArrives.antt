@@ -23,14 +23,15 @@ use Rattle.ends.specs.declared.State.the-variants.{Closed, Enabled, Open, Faili
 use Rattle.machine.specs.Calls.{arrives}
 use Rattle.machine.specs.Machine.{End, Machine, Outcome, counted, anew, stated, offset, numberAt, timed, ackedRun, running, passing, entryFor, acking, taken, step}
 use Rattle.machine.specs.Sound.{Sound}
+use Rattle.machine.proofs.Entries.{elem-lt, elem-set-same}
 use Rattle.promise.specs.History.{SSeen, s-quiet, s-hears}
 use Rattle.promise.specs.Seen.{names, s-came, s-seen, s-state-of}
 use Rattle.promise.proofs.Channel.{Send, s-ack, s-ack-at}
 use Rattle.promise.proofs.Laws.{SNext, sn-hear}
-use Rattle.promise.proofs.Entries.{some-same, elem-set-same, entry-is, names-own, names-other}
+use Rattle.promise.proofs.Entries.{some-same, names-own, names-other}
 use Rattle.promise.proofs.SenderView.{sendOf, counts-same, passed-view}
-use Rattle.promise.proofs.SenderCalls.{SStep, s-still, refused-done}
-use Rattle.promise.proofs.Arrivals.{Refused, Taken, arrival, taken-done, taken-leaves}
+use Rattle.promise.proofs.SenderCalls.{SStep, s-still, s-elsewhere, refused-done}
+use Rattle.promise.proofs.Arrivals.{Refused, Taken, arrival, not-on, taken-done}
 
 -- ---- an acknowledgement for the entry
 
@@ -57,7 +58,7 @@ module _ (m : Machine) (out : List ℕ) (i : ℕ) (e : End) (there : getElem? (m
       sides (Enabled timer sent) q = picked (sent && eqb s 0) refl
         where
           picked : (b : Bool) → (sent && eqb s 0) ≡ b → Acked m i e W s (acking m out i e s (Enabled timer sent))
-          picked true h = rw h (record { end = counted 0 0 (anew Open e); there = elem-set-same (m .ends) i e _ there; view = rw (q, h) })
+          picked true h = rw h (record { end = counted 0 0 (anew Open e); there = elem-set-same (m .ends) i _ (elem-lt (m .ends) i there); view = rw (q, h) })
           picked false h = rw h (record { end = e; there = there; view = rw (q, h) })
       sides Open q = picked counts refl
         where
@@ -65,7 +66,7 @@ module _ (m : Machine) (out : List ℕ) (i : ℕ) (e : End) (there : getElem? (m
           picked true h =
               rw h (record {
                 end = passing (ackedRun (timed 0 true e s)) (timed 0 true e s) e;
-                there = elem-set-same (m .ends) i e _ there;
+                there = elem-set-same (m .ends) i _ (elem-lt (m .ends) i there);
                 view = passed-view W e narrow s (handed-out (numberAt e s .handed) (not (numberAt e s .acked)) h) (e .state) refl ∙ rw (q, counts-same W e narrow s, h);
               })
           picked false h = rw h (record { end = e; there = there; view = rw (q, counts-same W e narrow s, h) })
@@ -76,7 +77,7 @@ module _ (m : Machine) (out : List ℕ) (i : ℕ) (e : End) (there : getElem? (m
               let e′ = passing (ackedRun (timed 0 true e s)) (timed 0 true e s) e in
               rw h (record {
                 end = stated (Failing (running (e′ .numbers))) e′;
-                there = elem-set-same (m .ends) i e _ there;
+                there = elem-set-same (m .ends) i _ (elem-lt (m .ends) i there);
                 view = passed-view W e narrow s (handed-out (numberAt e s .handed) (not (numberAt e s .acked)) h) (Failing (running (e′ .numbers))) (rw q) ∙ rw (q, counts-same W e narrow s, h);
               })
           picked false h = rw h (record { end = e; there = there; view = rw (q, counts-same W e narrow s, h) })
@@ -101,6 +102,10 @@ module _ (t : List ℕ) (m : Machine) (S : Sound t m) (i : ℕ) (e : End) (there
     abbrev o : Outcome
     o = taken m block k (a .end) (a .header .kind) (a .header .seq .0) (payloadOf f)
 
+    arrives-is : step m (arrives block f) ≡ o
+    unfolding step
+    arrives-is = a .is
+
     seen : s-seen (entryOf t i) i (arrives block f) (o .answer) ≡ s-came (entryOf t i) (a .header) (a .header .kind)
     unfolding s-seen
     seen = rw (taken-done m block k (a .end) (a .header .seq .0) (payloadOf f) (a .header .kind), a .read)
@@ -108,8 +113,8 @@ module _ (t : List ℕ) (m : Machine) (S : Sound t m) (i : ℕ) (e : End) (there
     -- for another entry
     elsewhere : i ≢ k → s-came (entryOf t i) (a .header) (a .header .kind) ≡ s-quiet → SStep t i e (arrives block f) o
     elsewhere d q =
-        s-still t i e (arrives block f) o e
-        (taken-leaves m block k (a .end) (a .header .seq .0) (payloadOf f) i d (a .header .kind) ∙ there) refl (seen ∙ q)
+        subst (SStep t i e (arrives block f)) arrives-is
+        (s-elsewhere t m S i e there (arrives block f) (not-on m block f a i d) (ap (λ (z : Outcome). s-seen (entryOf t i) i (arrives block f) (z .answer)) arrives-is ∙ seen ∙ q))
 
     -- a frame for receivers is not for this one
     not-here : forSender (a .header .kind) ≡ false → i ≢ k
@@ -120,10 +125,6 @@ module _ (t : List ℕ) (m : Machine) (S : Sound t m) (i : ℕ) (e : End) (there
     taken-ack : a .header .kind ≡ type.Acknowledge → o ≡ acking m block k (a .end) (a .header .seq .0) (a .end .state)
     unfolding taken
     taken-ack q = rw q
-
-    arrives-is : step m (arrives block f) ≡ o
-    unfolding step
-    arrives-is = a .is
 
     by-kind : (q : FrameType) → a .header .kind ≡ q → SStep t i e (arrives block f) o
     by-kind type.Data q = elsewhere (not-here (ap forSender q)) (rw q)

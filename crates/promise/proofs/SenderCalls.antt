@@ -2,9 +2,8 @@
 -- it. Assumes nothing.
 use Prim.Native.Nat.{ℕ, _<_}
 use mathlib.Core.Path.{_≡_, refl, sym, ap, subst, _∙_}
-use mathlib.Core.Logic.{_≢_}
 use mathlib.Core.Bool.{Bool, true, false, not, _&&_}
-use mathlib.Core.Option.{Option, none, some}
+use mathlib.Core.Option.{some}
 use mathlib.Core.List.{List, [], _∷_, _++_}
 use native.Mathlib.Decide.{ℕ-discrete}
 use lib.ListN.{length, getElem?, set}
@@ -23,13 +22,18 @@ use Rattle.ends.specs.declared.State.{State}
 use Rattle.ends.specs.declared.State.the-variants.{Closed, Enabled, Open}
 use Rattle.good.proofs.Known.{is-open}
 use Rattle.machine.specs.Calls.{Call, opens, closes, counts, sends, urges, Answer}
-use Rattle.machine.specs.Machine.{End, Machine, Outcome, turned, urging, anew, enabled, silent, done, judged, unless, onEntry, found, senderTests, sendTests, tooShort, taking, isSome, past, waits, datas, resets, urgents, opening, closing, counting, sending, urgentSending, step}
+use Rattle.machine.specs.Machine.{End, Machine, Outcome, turned, urging, anew, enabled, silent, done, judged, unless, onEntry, senderTests, sendTests, tooShort, taking, isSome, past, waits, datas, resets, urgents, opening, closing, sending, urgentSending, step}
 use Rattle.machine.specs.Sound.{Sound}
+use Rattle.machine.specs.Laws.{On, OthersStay}
+use Rattle.machine.specs.LawsCalls.{CountsTell}
+use Rattle.machine.proofs.Entries.{elem-lt, elem-set-same}
+use Rattle.machine.proofs.Hosting.{counts-tell}
+use Rattle.machine.proofs.Apart.{others-stay}
 use Rattle.promise.specs.History.{SSeen, s-quiet, s-accepts, s-ends, s-open}
 use Rattle.promise.specs.Seen.{isDone, s-seen, s-state-of}
 use Rattle.promise.proofs.Channel.{Send}
 use Rattle.promise.proofs.Laws.{SNext, sn-same, sn-accept, sn-end}
-use Rattle.promise.proofs.Entries.{some-same, elem-set-same, elem-set-other, entry-is}
+use Rattle.promise.proofs.Entries.{entry-is}
 use Rattle.promise.proofs.SenderView.{sendOf, sent-view}
 
 -- ---- what is to be shown
@@ -76,23 +80,10 @@ enabled-ends j x m = sides (isSends (x .entry .kind))
     sides true = refl
     sides false = refl
 
--- counts alter nothing
-abbrev counting-at : Machine → End → Outcome
-counting-at m x =
-    unless ((not (isSends (x .entry .kind)), refusal.OtherKind) ∷ []) [] m
-    (record { answer = record { numbers = 0 ∷ x .accepted ∷ x .confirmed ∷ []; out = [] }; machine = m })
-
-pub counted-same : (m : Machine) (j : ℕ) → step m (counts j) .machine ≡ m
-unfolding step counting
-counted-same m j = at-entry (getElem? (m .ends) j)
-  where
-    judge : (v : Verdict) (o : Outcome) → o .machine ≡ m → judged v [] m o .machine ≡ m
-    judge Passed o h = h
-    judge (Refused w) o h = refl
-
-    at-entry : (z : Option End) → found z (record { answer = record { numbers = numberOf refusal.NoEntry ∷ []; out = [] }; machine = m }) (counting-at m) .machine ≡ m
-    at-entry none = refl
-    at-entry (some x) = judge (verdict ((not (isSends (x .entry .kind)), refusal.OtherKind) ∷ [])) _ refl
+-- what is not done is not seen
+pub never : {A : Type 0} (b : Bool) (own quiet : A) → pick (b && false) own quiet ≡ quiet
+never true own quiet = refl
+never false own quiet = refl
 
 -- ---- a call on entry j
 
@@ -100,55 +91,50 @@ module _ (t : List ℕ) (m : Machine) (S : Sound t m) (i : ℕ) (e : End) (there
   abbrev W : ℕ
   W = entryOf t i .window
 
-  module _ (c : ℕ → Call) (own : SSeen) (tests : End → List (Bool × Refusal)) (next : ℕ → End → Machine) (F : End → End)
-      (is : (j : ℕ) → step m (c j) ≡ onEntry m j (λ x. unless (tests x) [] m (done (next j x))))
-      (ends : (j : ℕ) (x : End) → next j x .ends ≡ set (m .ends) j (F x))
+  -- not on entry i
+  pub s-elsewhere : (c : Call) → (On m c i → ⊥) → s-seen (entryOf t i) i c (step m c .answer) ≡ s-quiet → SStep t i e c (step m c)
+  unfolding OthersStay
+  s-elsewhere c n q = s-still t i e c (step m c) e (others-stay t m S c i n .end ∙ there) refl q
+
+  module _ (c : ℕ → Call) (on : (j : ℕ) → On m (c j) i → j ≡ i) (own : SSeen) (tests : End → List (Bool × Refusal)) (next : Machine) (end : End)
+      (is : step m (c i) ≡ onEntry m i (λ x. unless (tests x) [] m (done next)))
+      (ends : next .ends ≡ set (m .ends) i end)
       (seen : (j : ℕ) (a : Answer) → s-seen (entryOf t i) i (c j) a ≡ pick (isDone (a .numbers) && eqb j i) own s-quiet)
-      (passed : verdict (tests e) ≡ Passed → SNext W (sendOf e) own (sendOf (F e))) where
-    refused : (j : ℕ) (w : Refusal) → SStep t i e (c j) (record { answer = record { numbers = numberOf w ∷ []; out = [] }; machine = m })
-    refused j w = s-still t i e (c j) _ e there refl (seen j _ ∙ rw (refused-done w))
-
-    through : (j : ℕ) (x : End) → getElem? (m .ends) j ≡ some x → verdict (tests x) ≡ Passed → Dec (j ≡ i) → SStep t i e (c j) (done (next j x))
-    through j x g p (yes q) =
-        let same : x ≡ e = some-same (sym g ∙ ap (λ (k : ℕ). getElem? (m .ends) k) q ∙ there) in
+      (passed : verdict (tests e) ≡ Passed → SNext W (sendOf e) own (sendOf end)) where
+    judge : (v : Verdict) → verdict (tests e) ≡ v → SStep t i e (c i) (judged v [] m (done next))
+    judge Passed p =
         record {
-          end = F e;
-          there = rw (ends j x, q, same) (elem-set-same (m .ends) i e (F e) there);
-          next = subst (λ (z : SSeen). SNext W (sendOf e) z (sendOf (F e))) (sym (seen j _ ∙ rw (eq-eqb j i q))) (passed (rw same at p));
+          end = end;
+          there = rw ends (elem-set-same (m .ends) i end (elem-lt (m .ends) i there));
+          next = subst (λ (z : SSeen). SNext W (sendOf e) z (sendOf end)) (sym (seen i _ ∙ rw (eq-eqb i i refl))) (passed p);
         }
-    through j x g p (no d) =
-        s-still t i e (c j) _ e (rw (ends j x) (elem-set-other (m .ends) i j (F x) (λ q. d (sym q)) ∙ there)) refl (seen j _ ∙ rw (ne-eqb j i d))
-
-    judge : (j : ℕ) (x : End) → getElem? (m .ends) j ≡ some x → (v : Verdict) → verdict (tests x) ≡ v → SStep t i e (c j) (judged v [] m (done (next j x)))
-    judge j x g Passed p = through j x g p (ℕ-discrete j i)
-    judge j x g (Refused w) p = refused j w
-
-    at-entry : (j : ℕ) (z : Option End) → getElem? (m .ends) j ≡ z
-        → SStep t i e (c j) (found z (record { answer = record { numbers = numberOf refusal.NoEntry ∷ []; out = [] }; machine = m }) (λ x. unless (tests x) [] m (done (next j x))))
-    at-entry j none g = refused j refusal.NoEntry
-    at-entry j (some x) g = judge j x g (verdict (tests x)) refl
+    judge (Refused w) p = s-still t i e (c i) _ e there refl (seen i _ ∙ rw (refused-done w))
 
     entry-step : (j : ℕ) → SStep t i e (c j) (step m (c j))
-    entry-step j = subst (SStep t i e (c j)) (sym (is j)) (at-entry j (getElem? (m .ends) j) refl)
+    entry-step j = sides (ℕ-discrete j i)
+      where
+        sides : Dec (j ≡ i) → SStep t i e (c j) (step m (c j))
+        sides (yes q) = rw q (subst (SStep t i e (c i)) (sym (is ∙ rw there)) (judge (verdict (tests e)) refl))
+        sides (no d) = s-elsewhere (c j) (λ h. d (on j h)) (seen j _ ∙ rw (ne-eqb j i d) (never (isDone (step m (c j) .answer .numbers)) own s-quiet))
 
   -- ---- each call
 
   pub s-opens : (j : ℕ) → SStep t i e (opens j) (step m (opens j))
   unfolding step opening s-seen
-  s-opens j =
-      entry-step opens s-ends (λ x. (not (isClosed (x .state)), refusal.WrongState) ∷ []) (λ k x. enabled k x m) (anew (Enabled 0 false)) (λ k. refl) (λ k x. enabled-ends k x m) (λ k a. refl)
-      (λ p. sn-end _ _) j
+  s-opens =
+      entry-step opens (λ j h. h) s-ends (λ x. (not (isClosed (x .state)), refusal.WrongState) ∷ []) (enabled i e m) (anew (Enabled 0 false) e) (rw there) (enabled-ends i e m) (λ k a. refl)
+      (λ p. sn-end _ _)
 
   pub s-closes : (j : ℕ) → SStep t i e (closes j) (step m (closes j))
   unfolding step closing s-seen
-  s-closes j =
-      entry-step closes s-ends (λ x. (isClosed (x .state), refusal.WrongState) ∷ []) (λ k x. silent k (turned k (anew Closed x) m)) (anew Closed) (λ k. refl) (λ k x. refl) (λ k a. refl)
-      (λ p. sn-end _ _) j
+  s-closes =
+      entry-step closes (λ j h. h) s-ends (λ x. (isClosed (x .state), refusal.WrongState) ∷ []) (silent i (turned i (anew Closed e) m)) (anew Closed e) (rw there) refl (λ k a. refl)
+      (λ p. sn-end _ _)
 
   pub s-sends : (j : ℕ) (p : List ℕ) → SStep t i e (sends j p) (step m (sends j p))
   unfolding step sending s-seen
   s-sends j p =
-      entry-step (λ k. sends k p) (s-accepts p) (λ x. sendTests m x p) (λ k x. waits datas k (past x (length (x .numbers))) (turned k (taking p x) m)) (taking p) (λ k. refl) (λ k x. refl) (λ k a. refl)
+      entry-step (λ k. sends k p) (λ k h. h) (s-accepts p) (λ x. sendTests m x p) (waits datas i (past e (length (e .numbers))) (turned i (taking p e) m)) (taking p e) (rw there) refl (λ k a. refl)
       accepts j
     where
       accepts : verdict (sendTests m e p) ≡ Passed → SNext W (sendOf e) (s-accepts p) (sendOf (taking p e))
@@ -166,9 +152,9 @@ module _ (t : List ℕ) (m : Machine) (S : Sound t m) (i : ℕ) (e : End) (there
   pub s-urges : (j : ℕ) (p : List ℕ) → SStep t i e (urges j p) (step m (urges j p))
   unfolding step urgentSending s-seen
   s-urges j p =
-      entry-step (λ k. urges k p) s-quiet (λ x. senderTests x p ++ (isSome (x .urgent), refusal.UrgentWaits) ∷ tooShort m ∷ []) (λ k x. waits urgents k 0 (turned k (urging (some p) x) m)) (urging (some p)) (λ k. refl) (λ k x. refl)
-      (λ k a. nothing (isDone (a .numbers) && eqb k i)) (λ h. sn-same (sendOf e)) j
+      entry-step (λ k. urges k p) (λ k h. h) s-quiet (λ x. senderTests x p ++ (isSome (x .urgent), refusal.UrgentWaits) ∷ tooShort m ∷ []) (waits urgents i 0 (turned i (urging (some p) e) m)) (urging (some p) e)
+      (rw there) refl (λ k a. nothing (isDone (a .numbers) && eqb k i)) (λ h. sn-same (sendOf e)) j
 
   pub s-counts : (j : ℕ) → SStep t i e (counts j) (step m (counts j))
-  unfolding s-seen
-  s-counts j = s-still t i e (counts j) (step m (counts j)) e (rw (counted-same m j) there) refl refl
+  unfolding s-seen CountsTell
+  s-counts j = s-still t i e (counts j) (step m (counts j)) e (rw (counts-tell m j) there) refl refl

@@ -19,14 +19,15 @@ use Rattle.ends.specs.States.{isSends}
 use Rattle.machine.specs.Calls.{Answer, hands-out}
 use Rattle.machine.specs.Machine.{End, Sort, acks, resets, urgents, resends, datas, Machine, Outcome, offset, numbered, numberAt, timed, typeOf, carried, frameOf, handed, step}
 use Rattle.machine.specs.Sound.{WaitsData, Waits, Sound}
-use Rattle.promise.specs.History.{Pay, SSeen, s-quiet, s-resets, s-sends}
+use Rattle.machine.proofs.Entries.{elem-lt, elem-set-same, elem-set-other}
+use Rattle.promise.specs.History.{SSeen, s-quiet, s-resets, s-sends}
 use Rattle.promise.specs.Seen.{isDone, frameIn, names, s-went, s-out, s-seen, s-state-of}
 use Rattle.promise.proofs.Laws.{SNext, sn-same, sn-reset, sn-send}
 use Rattle.promise.proofs.Channel.{s-hand}
-use Rattle.promise.proofs.Entries.{some-same, elem-set-same, elem-set-other, names-own, names-other}
+use Rattle.promise.proofs.Entries.{some-same, names-own, names-other}
 use Rattle.promise.proofs.SenderView.{sendOf, handed-view}
 use Rattle.promise.proofs.SenderCalls.{SStep, s-still, refused-done}
-use Rattle.promise.proofs.Handing.{fit, headerOut, out-reads, out-carries, Went, leaving, Stayed, hand, frame-in, read-nothing}
+use Rattle.promise.proofs.Handing.{headerOut, out-reads, Went, leaving, Stayed, hand, went-reads, frame-in, read-nothing}
 
 module _ (t : List ℕ) (m : Machine) (S : Sound t m) (i : ℕ) (e : End) (there : getElem? (m .ends) i ≡ some e) (sends : isSends (e .entry .kind) ≡ true) (buffer : List ℕ) where
   abbrev W : ℕ
@@ -61,11 +62,11 @@ module _ (t : List ℕ) (m : Machine) (S : Sound t m) (i : ℕ) (e : End) (there
     seen : s-seen (entryOf t i) i (hands-out buffer) (o .answer) ≡ s-went (entryOf t i) (headerOut m q x s) (carried q x s) (typeOf q)
     unfolding s-seen
     seen =
-        rw (frame-in buffer (frameOf m q x s) (w .long), out-reads m x s q (fit t m S k x (w .owned .there) q s (w .owned .waits)), out-carries m x s q)
+        rw (frame-in buffer (frameOf m q x s) (w .long), out-reads m q x s (went-reads t m S buffer q w), went-reads t m S buffer q w .payload)
 
     -- at another entry
     elsewhere : i ≢ k → s-went (entryOf t i) (headerOut m q x s) (carried q x s) (typeOf q) ≡ s-quiet → SStep t i e (hands-out buffer) o
-    elsewhere d z = s-still t i e (hands-out buffer) o e (elem-set-other (m .ends) i k (handed q x s) d ∙ there) refl (seen ∙ z)
+    elsewhere d z = s-still t i e (hands-out buffer) o e (elem-set-other (m .ends) k i (handed q x s) d ∙ there) refl (seen ∙ z)
 
     -- at this one
     here : i ≡ k → (own : SSeen) → s-went (entryOf t i) (headerOut m q x s) (carried q x s) (typeOf q) ≡ own → SNext W (sendOf x) own (sendOf (handed q x s)) → SStep t i e (hands-out buffer) o
@@ -73,7 +74,7 @@ module _ (t : List ℕ) (m : Machine) (S : Sound t m) (i : ℕ) (e : End) (there
         let same : x ≡ e = some-same (sym (w .owned .there) ∙ sym (ap (λ (j : ℕ). getElem? (m .ends) j) c) ∙ there) in
         record {
           end = handed q x s;
-          there = subst (λ (j : ℕ). getElem? (set (m .ends) j (handed q x s)) i ≡ some (handed q x s)) c (elem-set-same (m .ends) i e (handed q x s) there);
+          there = subst (λ (j : ℕ). getElem? (set (m .ends) j (handed q x s)) i ≡ some (handed q x s)) c (elem-set-same (m .ends) i (handed q x s) (elem-lt (m .ends) i there));
           next = subst (λ (y : SSeen). SNext W (sendOf e) y (sendOf (handed q x s))) (sym (seen ∙ z)) (subst (λ (y : End). SNext W (sendOf y) own (sendOf (handed q x s))) same n);
         }
 

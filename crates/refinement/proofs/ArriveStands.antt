@@ -1,12 +1,12 @@
 -- An arrival is the machine's: the same tests, the same entry, and what each frame comes to there. Assumes nothing.
-use Prim.Native.Nat.{ℕ, zero, suc, _+_, _*_, _≤_, _<_}
-use mathlib.Core.Path.{_≡_, refl, sym, ap, subst, _∙_}
+use Prim.Native.Nat.{ℕ, zero, suc, _≤_, _<_}
+use mathlib.Core.Path.{_≡_, refl, sym, ap, _∙_}
 use mathlib.Core.Bool.{Bool, true, false, not, _&&_, true≢false}
-use mathlib.Core.List.{List, [], _∷_, map}
+use mathlib.Core.List.{List, [], _∷_}
 use native.Mathlib.Decide.{decLt}
 use native.Mathlib.Omega.{arith}
-use lib.ListN.{length, getD, getElem?, length-map}
-use lib.Dec.{eqb, leb, ltb}
+use lib.ListN.{length, getD, length-map}
+use lib.Dec.{ltb}
 use borrow.Author.Tests.{lt-leb, le-leb, lt-ltb, le-ltb, not-false, ltb-false, leb-false}
 use Rattle.units.specs.Refusals.{pick, verdict, numberOf}
 use Rattle.units.specs.declared.Address.{Address}
@@ -18,7 +18,7 @@ use Rattle.units.proofs.Judging.{clear}
 use Rattle.waiting.specs.Acks.{placeOf as oldestPlace, waitingOf}
 use Rattle.order.specs.Order.{acksIn}
 use Rattle.order.proofs.Ringed.{from-length}
-use Rattle.table.specs.Layout.{countOf, ownOf, protocolOf}
+use Rattle.table.specs.Layout.{countOf}
 use Rattle.table.specs.Areas.{storeOf}
 use Rattle.frame.specs.Layout.{payloadOf}
 use Rattle.frame.specs.Reading.{soundOf, headerOf, readOf}
@@ -27,32 +27,32 @@ use Rattle.frame.specs.declared.Read.{Read}
 use Rattle.frame.specs.declared.Read.the-variants as read
 use Rattle.frame.specs.declared.FrameType.{FrameType}
 use Rattle.frame.specs.declared.FrameType.the-variants as type
+use Rattle.frame.specs.Types.{forSender, carries, answered}
 use Rattle.ends.specs.Ends.{loadEntry, endOf}
-use Rattle.ends.specs.Heads.{countIn, ownIn, protocolIn, needIn}
-use Rattle.ends.specs.States.{isSends, isClosed, isOpen}
-use Rattle.ends.specs.Answers.{arrivedOf}
+use Rattle.ends.specs.Heads.{countIn}
+use Rattle.ends.specs.States.{isSends, isOpen}
 use Rattle.ends.specs.Lent.{Lent}
 use Rattle.ends.specs.declared.State.the-variants.{Open}
 use Rattle.ends.specs.declared.EndPoint.{EndPoint}
 use Rattle.ends.specs.declared.answers.Arrived.{Arrived}
 use Rattle.ends.specs.declared.answers.Arrived.the-variants as arrived
 use Rattle.lookup.specs.Lookup.{firstFrom, entryFor}
-use Rattle.frame.specs.Types.{forSender, carries, answered}
 use Rattle.lookup.specs.Fitting.{fits}
 use Rattle.lookup.proofs.First.{first-is}
 use Rattle.lookup.proofs.Found.{found-fits}
 use Rattle.arriving.specs.Arriving as memory
-use Rattle.arriving.specs.Arriving.{blockRoom, entryVerdict, takenAnswer, takenAfter, answerAs, afterAs, entryAnswer, entryAfter, readAnswer, readAfter, frameTests, arrivalAnswer, arrivalAfter}
+use Rattle.arriving.specs.Arriving.{entryVerdict, takenAnswer, takenAfter, answerAs, afterAs, entryAnswer, entryAfter}
+use Rattle.arriving.specs.Arriving.{readAnswer, readAfter, frameTests, arrivalAnswer, arrivalAfter}
 use Rattle.good.specs.Good.{Lists, Good}
-use Rattle.good.specs.Calls.{Memory, lent, kept, answer, after}
-use Rattle.machine.specs.Calls.{Answer, arrives, Bytes}
+use Rattle.good.specs.Calls.{Memory, lent, answer, after}
+use Rattle.machine.specs.Calls.{arrives, Bytes}
 use Rattle.good.proofs.Known.{is-open}
 use Rattle.good.proofs.Framing.{count-low}
 use Rattle.good.proofs.Arrivals.{payload-size, header-byte}
 use Rattle.good.proofs.NoCorners.{no-corner}
 use Rattle.machine.specs.Machine as machine
-use Rattle.machine.specs.Machine.{End, Sort, acks, Machine, Outcome, listed, answers, judged, found, at, placeOf, reading, isOurs, arriving, taken, step}
-use Rattle.refinement.specs.Standing.{endFor, endAt, ackItem, waitingFor, standsFor, Stands, Follows}
+use Rattle.machine.specs.Machine.{End, acks, Machine, Outcome, answers, judged, found, placeOf, reading, arriving, taken, step}
+use Rattle.refinement.specs.Standing.{endFor, endAt, ackItem, waitingFor, standsFor, Follows}
 use Rattle.refinement.proofs.Listing.{length-listed, getD-listed, elem-listed, elem-none}
 use Rattle.refinement.proofs.Following.{size-is}
 use Rattle.refinement.proofs.AckStands.{Takes, ack-takes}
@@ -61,21 +61,13 @@ use Rattle.refinement.proofs.ReceiveStands.{urgent-takes, reset-takes, 
 -- ---- the first that fits
 
 module _ (test : End → Bool) (d : End) where
-  place-le : (es : List End) → placeOf test es ≤ length es
-  unfolding placeOf
-  place-le [] = omega arith
-  place-le (e ∷ es) = sides (place-le es) (test e)
-    where
-      sides : placeOf test es ≤ length es → (z : Bool) → pick z 0 (suc (placeOf test es)) ≤ suc (length es)
-      sides below true = omega arith
-      sides below false = omega arith
-
   place-before : (es : List End) (j : ℕ) → j < placeOf test es → test (getD es j d) ≡ false
   unfolding placeOf
   place-before [] j h = absurd (omega arith)
   place-before (e ∷ es) j h = sides (place-before es) (test e) refl j h
     where
-      sides : ((j : ℕ) → j < placeOf test es → test (getD es j d) ≡ false) → (z : Bool) → test e ≡ z → (j : ℕ) → j < pick z 0 (suc (placeOf test es)) → test (getD (e ∷ es) j d) ≡ false
+      sides : ((j : ℕ) → j < placeOf test es → test (getD es j d) ≡ false) → (z : Bool) → test e ≡ z → (j : ℕ)
+          → j < pick z 0 (suc (placeOf test es)) → test (getD (e ∷ es) j d) ≡ false
       sides below true z j h = absurd (omega arith)
       sides below false z zero h = z
       sides below false z (suc j) h = below j (omega arith)
@@ -85,12 +77,14 @@ module _ (test : End → Bool) (d : End) where
   place-holds [] h = absurd (omega arith)
   place-holds (e ∷ es) h = sides (place-holds es) (test e) refl h
     where
-      sides : (placeOf test es < length es → test (getD es (placeOf test es) d) ≡ true) → (z : Bool) → test e ≡ z → pick z 0 (suc (placeOf test es)) < suc (length es)
+      sides : (placeOf test es < length es → test (getD es (placeOf test es) d) ≡ true) → (z : Bool) → test e ≡ z
+          → pick z 0 (suc (placeOf test es)) < suc (length es)
           → test (getD (e ∷ es) (pick z 0 (suc (placeOf test es))) d) ≡ true
       sides below true z h = z
       sides below false z h = below (omega arith)
 
-module _ (t : List ℕ) (n : Memory) (l : Lists) (g : Good t (n .node) (n .book) l) (room : storeOf t ≤ length (n .store)) (block : List ℕ) where
+module _ (t : List ℕ) (n : Memory) (l : Lists) (g : Good t (n .node) (n .book) l) (room : storeOf t ≤ length (n .store))
+    (block : List ℕ) where
   abbrev M : Machine
   M = standsFor t n l
 
@@ -133,21 +127,25 @@ module _ (t : List ℕ) (n : Memory) (l : Lists) (g : Good t (n .node) (n .book)
         (λ z. test-is j hj ∙ place-holds test (endAt n 0) (M .ends) (rw long hj))
 
     no-entry : countIn (n .node) ≤ j → countIn (n .node) ≤ i
-    no-entry hj =
-        let c = count-low t (n .node) (n .book) l g in
-        let z : i ≡ 16 = first ∙ first-is fitting 0 16 16 (omega arith) (omega arith) (λ k lo hi. none k (decLt k (countIn (n .node)))) (λ y. absurd (omega arith)) in
-        omega arith
+    no-entry hj = omega (arith, count-low t (n .node) (n .book) l g, last)
       where
         none : (k : ℕ) → Dec (k < countIn (n .node)) → fitting k ≡ false
         none k (yes y) = test-is k y ∙ place-before test (endAt n 0) (M .ends) k (omega arith)
         none k (no y) = rw (le-ltb k (countIn (n .node)) (omega arith))
+
+        last : i ≡ 16
+        last =
+            first
+            ∙ first-is fitting 0 16 16 (omega arith) (omega arith) (λ k lo hi. none k (decLt k (countIn (n .node))))
+            (λ y. absurd (omega arith))
 
   -- ---- refused
 
   refuse : (w : Refusal) → Takes t (answers (numberOf w ∷ []) block M) (arrived.Refused w) x
   refuse w = record { numbers = refl; out = refl; stands = record { lists = l; good = g; room = room; is = refl } }
 
-  judge : (v : Verdict) (o : Outcome) (a : Arrived) (y : Lent) → (v ≡ Passed → Takes t o a y) → Takes t (judged v block M o) (answerAs v a) (afterAs v x y)
+  judge : (v : Verdict) (o : Outcome) (a : Arrived) (y : Lent) → (v ≡ Passed → Takes t o a y)
+      → Takes t (judged v block M o) (answerAs v a) (afterAs v x y)
   judge Passed o a y h = h refl
   judge (Refused w) o a y h = refuse w
 
@@ -157,51 +155,34 @@ module _ (t : List ℕ) (n : Memory) (l : Lists) (g : Good t (n .node) (n .book)
   and-false true b h e = h
   and-false false b h e = absurd (true≢false (sym e))
 
-  module _ (i : ℕ) (li : i < countIn (n .node)) (h : Header) (p : List ℕ) (kind : isSends (endOf (n .node) i .entry .kind) ≡ forSender (h .kind)) (hs : h .seq .0 < 256)
+  module _ (i : ℕ) (li : i < countIn (n .node)) (h : Header) (p : List ℕ)
+      (kind : isSends (endOf (n .node) i .entry .kind) ≡ forSender (h .kind)) (hs : h .seq .0 < 256)
       (size : length p ≡ h .length) (some : carries (h .kind) ≡ true → 1 ≤ length p) where
     abbrev e : EndPoint
     e = endOf (n .node) i
 
-    took : (q : FrameType) → isSends (e .entry .kind) ≡ forSender q → (carries q ≡ true → e .state ≡ Open) → (carries q ≡ true → length p ≤ e .entry .largest) → (carries q ≡ true → 1 ≤ length p)
-        → (answered q ≡ true → waitingOf (n .node) < 32) → Takes t (taken M block i (endAt n i) q (h .seq .0) p) (takenAnswer x i e q (h .seq .0) p) (takenAfter x i e q (h .seq .0) p)
+    abbrev TakesAs : FrameType → Type 0
+    TakesAs q = Takes t (taken M block i (endAt n i) q (h .seq .0) p) (takenAnswer x i e q (h .seq .0) p) (takenAfter x i e q (h .seq .0) p)
+
+    took : (q : FrameType) → isSends (e .entry .kind) ≡ forSender q → (carries q ≡ true → e .state ≡ Open)
+        → (carries q ≡ true → length p ≤ e .entry .largest) → (carries q ≡ true → 1 ≤ length p)
+        → (answered q ≡ true → waitingOf (n .node) < 32) → TakesAs q
     unfolding taken takenAnswer takenAfter
     took type.Data k o m s f = data-takes t n l g room i li k block (o refl) (h .seq .0) hs p (s refl) (m refl) (f refl)
     took type.Acknowledge k o m s f = ack-takes t n l g room i li k (h .seq .0) hs block
     took type.Reset k o m s f = reset-takes t n l g room i li k block (f refl) (h .seq .0) p
     took type.Urgent k o m s f = urgent-takes t n l g room i li k block p
 
-    abbrev Tests : ℕ → ℕ → ℕ → Verdict
-    Tests waiting need wide =
-        verdict
-        ((isClosed (e .state), refusal.NoEndPoint)
-        ∷ (carries (h .kind) && not (isOpen (e .state)), refusal.NoEndPoint)
-        ∷ (carries (h .kind) && ltb (e .entry .largest) (h .length), refusal.PayloadLength)
-        ∷ (answered (h .kind) && leb 32 waiting, refusal.AcksFull)
-        ∷ (ltb (length (n .store)) need, refusal.TooShort)
-        ∷ (carries (h .kind) && ltb (length block) (6 + wide * (4 + e .entry .largest)), refusal.TooShort)
-        ∷ [])
-
-    asked : entryVerdict x i h ≡ Tests (waitingOf (n .node)) (needIn (n .node)) (e .run .window .size)
-    asked = rw (lt-leb (countIn (n .node)) i li)
-
-    judges : verdict (machine.entryTests M (endAt n i) (h .kind) (h .length) (length block)) ≡ Tests (length (M .waiting acks)) (storeOf t) (e .entry .window)
-    unfolding endFor
-    judges = refl
-
     waiting-is : length (M .waiting acks) ≡ waitingOf (n .node)
     unfolding waitingFor
     waiting-is = length-map (acksIn (n .node)) ackItem ∙ from-length (n .node) (oldestPlace (n .node)) (waitingOf (n .node))
 
+    -- the tests are the same: how many acknowledgements wait, the store that is needed, the window in force
     same : verdict (machine.entryTests M (endAt n i) (h .kind) (h .length) (length block)) ≡ entryVerdict x i h
-    same =
-        judges
-        ∙ ap (λ (k : ℕ). Tests k (storeOf t) (e .entry .window)) waiting-is
-        ∙ ap (λ (k : ℕ). Tests (waitingOf (n .node)) k (e .entry .window)) (sym (g .tabled .need))
-        ∙ ap (λ (k : ℕ). Tests (waitingOf (n .node)) (needIn (n .node)) k) (sym (size-is t (n .node) (n .book) l g i li))
-        ∙ sym asked
+    unfolding endFor
+    same = rw (waiting-is, lt-leb (countIn (n .node)) i li, g .tabled .need, size-is g li)
 
-    passed : entryVerdict x i h ≡ Passed
-        → Takes t (taken M block i (endAt n i) (h .kind) (h .seq .0) p) (takenAnswer x i e (h .kind) (h .seq .0) p) (takenAfter x i e (h .kind) (h .seq .0) p)
+    passed : entryVerdict x i h ≡ Passed → TakesAs (h .kind)
     passed v =
         let c = clear (memory.entryTests (n .node) i e (h .kind) (h .length) (length (n .store)) (length block)) v in
         took (h .kind) kind
@@ -210,7 +191,8 @@ module _ (t : List ℕ) (n : Memory) (l : Lists) (g : Good t (n .node) (n .book)
         some
         (λ d. leb-false 32 (waitingOf (n .node)) (and-false (answered (h .kind)) _ (c .1 .1 .1 .1 .0) d))
 
-    at-entry : Takes t (judged (verdict (machine.entryTests M (endAt n i) (h .kind) (h .length) (length block))) block M (taken M block i (endAt n i) (h .kind) (h .seq .0) p))
+    at-entry : Takes t (judged (verdict (machine.entryTests M (endAt n i) (h .kind) (h .length) (length block))) block M
+        (taken M block i (endAt n i) (h .kind) (h .seq .0) p))
         (entryAnswer x i h p) (entryAfter x i h p)
     unfolding entryAnswer entryAfter
     at-entry = rw same (judge (entryVerdict x i h) _ _ _ passed)
@@ -225,7 +207,8 @@ module _ (t : List ℕ) (n : Memory) (l : Lists) (g : Good t (n .node) (n .book)
     no-end : (i : ℕ) (h : Header) → countIn (n .node) ≤ i → entryVerdict x i h ≡ Refused refusal.NoEndPoint
     no-end i h li = rw (le-leb (countIn (n .node)) i li)
 
-    refused-at : (k : ℕ) (h : Header) (p : List ℕ) → countIn (n .node) ≤ k → Takes t (answers (numberOf refusal.NoEndPoint ∷ []) block M) (entryAnswer x k h p) (entryAfter x k h p)
+    refused-at : (k : ℕ) (h : Header) (p : List ℕ) → countIn (n .node) ≤ k
+        → Takes t (answers (numberOf refusal.NoEndPoint ∷ []) block M) (entryAnswer x k h p) (entryAfter x k h p)
     unfolding entryAnswer entryAfter
     refused-at k h p far = rw (no-end k h far) (refuse refusal.NoEndPoint)
 
@@ -233,15 +216,18 @@ module _ (t : List ℕ) (n : Memory) (l : Lists) (g : Good t (n .node) (n .book)
     unfolding entryFor endOf
     kinds h li = found-fits (n .node) (g .tabled .index) (forSender (h .kind)) (h .source .0) (h .channel .0) li .kind
 
+    abbrev Reads : Read → Type 0
+    Reads v = Takes t (reading M block v (payloadOf f)) (readAnswer x v (payloadOf f)) (readAfter x v (payloadOf f))
+
     framed : (h : Header) → soundOf f ≡ true → headerOf f ≡ read.Frame h
-        → Takes t (reading M block (read.Frame h) (payloadOf f)) (readAnswer x (read.Frame h) (payloadOf f)) (readAfter x (read.Frame h) (payloadOf f))
+        → Reads (read.Frame h)
     unfolding reading readAnswer readAfter
     framed h sound e = sides (decLt (j h) (countIn (n .node)))
       where
         r : readOf f ≡ read.Frame h
         r = whole-read h sound e
 
-        sides : Dec (j h < countIn (n .node)) → Takes t (reading M block (read.Frame h) (payloadOf f)) (readAnswer x (read.Frame h) (payloadOf f)) (readAfter x (read.Frame h) (payloadOf f))
+        sides : Dec (j h < countIn (n .node)) → Reads (read.Frame h)
         sides (yes hj) =
             let z = same-entry h hj in
             let li : i h < countIn (n .node) = rw z hj in
@@ -251,28 +237,24 @@ module _ (t : List ℕ) (n : Memory) (l : Lists) (g : Good t (n .node) (n .book)
             let far = no-entry h (omega arith) in
             rw (elem-none (countOf t) (endAt n) (j h) (omega (arith, count-is))) (refused-at (i h) h (payloadOf f) far)
 
-    reads : (v : Read) → soundOf f ≡ true → headerOf f ≡ v → Takes t (reading M block v (payloadOf f)) (readAnswer x v (payloadOf f)) (readAfter x v (payloadOf f))
+    reads : (v : Read) → soundOf f ≡ true → headerOf f ≡ v → Reads v
     unfolding reading readAnswer readAfter
     reads (read.Refused w) sound e = refuse w
     reads (read.Frame h) sound e = framed h sound e
 
-    abbrev Frames : ℕ → ℕ → Verdict
-    Frames own protocol = verdict ((not (soundOf f), refusal.BadFrame) ∷ (not (eqb (getD f 0 0) own && eqb (getD f 1 0) protocol), refusal.NotOurs) ∷ [])
-
-    frame-same : Frames (ownOf t .0) (protocolOf t) ≡ verdict (frameTests (n .node) f)
-    frame-same = ap (λ (a : Address). Frames (a .0) (protocolOf t)) (sym (g .tabled .own)) ∙ ap (λ (a : ℕ). Frames (ownIn (n .node) .0) a) (sym (g .tabled .protocol))
+    frame-same : verdict ((not (soundOf f), refusal.BadFrame) ∷ (not (machine.isOurs M f), refusal.NotOurs) ∷ [])
+        ≡ verdict (frameTests (n .node) f)
+    frame-same = rw (ap (λ (a : Address). a .0) (g .tabled .own), g .tabled .protocol)
 
     arrive-takes : Takes t (arriving M block f) (arrivalAnswer x f) (arrivalAfter x f)
     unfolding arriving arrivalAnswer arrivalAfter
     arrive-takes =
         rw frame-same
-        (judge (verdict (frameTests (n .node) f)) _ _ _ (λ v. let c = clear (frameTests (n .node) f) v in reads (headerOf f) (not-false (soundOf f) (c .0)) refl))
+        (judge (verdict (frameTests (n .node) f)) _ _ _
+        (λ v. let c = clear (frameTests (n .node) f) v in reads (headerOf f) (not-false (soundOf f) (c .0)) refl))
 
-    arrive-at : Follows t n M (arrives block f)
+    pub arrive-follows : Follows t n M (arrives block f)
     unfolding step answer after
-    arrive-at =
+    arrive-follows =
         let k = arrive-takes in
         record { answers = rw (k .numbers, k .out); stands = k .stands }
-
-pub arrive-follows : (t : List ℕ) (n : Memory) (m : Machine) → Stands t n m → (block f : List ℕ) → Bytes f → Follows t n m (arrives block f)
-arrive-follows t n m s block f b = subst (λ (m : Machine). Follows t n m (arrives block f)) (s .is) (arrive-at t n (s .lists) (s .good) (s .room) block f b)

@@ -1,23 +1,25 @@
--- A call on one entry leaves what every other entry stands for; and what the whole node then stands for, from what that one entry and what
--- waits stand for. Assumes nothing.
-use Prim.Native.Nat.{ℕ, _+_, _≤_, _<_}
+-- A call on one entry leaves what every other entry stands for; and so what the whole node stands for then, from what
+-- that entry and what waits stand for. Assumes nothing.
+use Prim.Native.Nat.{ℕ, _≤_, _<_}
 use mathlib.Core.Path.{_≡_, refl, sym, ap, subst, _∙_, fun-ext}
 use mathlib.Core.Logic.{_≢_}
 use mathlib.Core.Bool.{Bool, true, false, not, _&&_}
 use mathlib.Core.Option.{Option, none, some}
 use mathlib.Core.List.{List}
 use native.Mathlib.Omega.{arith}
-use lib.ListN.{length, take, drop, set}
+use lib.ListN.{length, getD, take, drop, replicate, set}
 use lib.Dec.{eqb}
+use lib.Seq.{sets}
 use borrow.Author.Tests.{not-true, eq-eqb}
 use Rattle.units.specs.Refusals.{pick}
-use Rattle.memory.specs.Layout.{timerAt, retriesAt}
+use Rattle.memory.specs.Layout.{lengthAt, timerAt, retriesAt}
 use Rattle.window.specs.Windows.{held, Good as GoodWindow}
-use Rattle.table.specs.Layout.{countOf}
-use Rattle.table.specs.Areas.{storeOf}
+use Rattle.table.specs.Layout.{countOf, entryOf}
+use Rattle.table.specs.Areas.{storeOf, slotsOf}
 use Rattle.ends.specs.Ends.{endOf}
 use Rattle.ends.specs.Heads.{countIn}
 use Rattle.ends.specs.States.{isSends}
+use Rattle.ends.specs.Lent.{Lent}
 use Rattle.ends.specs.declared.State.{State}
 use Rattle.ends.specs.declared.State.the-variants.{Closed, Enabled, Open, Failing}
 use Rattle.ends.specs.declared.EndPoint.{EndPoint}
@@ -25,13 +27,14 @@ use Rattle.slots.specs.Slots.{cell, past, spot, timerIn, retriesIn}
 use Rattle.handing.specs.Handing.{urgentPayload}
 use Rattle.good.specs.Good.{Lists, Stated, Good}
 use Rattle.good.specs.Calls.{Memory}
+use Rattle.good.proofs.Turns.{Kept}
 use Rattle.good.proofs.Known.{stated-as}
 use Rattle.good.proofs.Framing.{Within, Apart, entry-low, timer-owner, retries-owner}
-use Rattle.good.proofs.Stores.{urgent-low, areas-stay}
+use Rattle.good.proofs.Stores.{urgent-low, areas-stay, read-own, slot-room}
 use Rattle.good.proofs.Payloads.{s-filled, r-filled, Stored, unaltered, put, stored-long, payload-stays}
-use Rattle.machine.specs.Machine.{End, Item, Sort, Machine, node, listed}
-use Rattle.refinement.specs.Standing.{payloadFor, numberFor, placeFor, endFor, endAt, waitingFor, standsFor}
-use Rattle.refinement.proofs.Listing.{listed-ext, set-listed}
+use Rattle.machine.specs.Machine.{End, Item, Sort, node, listed, turned}
+use Rattle.refinement.specs.Standing.{payloadFor, numberFor, placeFor, endFor, endAt, waitingFor, standsFor, Stands}
+use Rattle.refinement.proofs.Listing.{listed-ext, listed-replicate, set-listed}
 
 -- ---- an end point stands for the same, in another book and store
 
@@ -44,30 +47,38 @@ module _ (st st′ b b′ : List ℕ) (i : ℕ) (e : EndPoint) where
   abbrev Same : (List ℕ → ℕ → ℕ) → ℕ → Type 0
   Same read k = read b′ (cell i (e .run .window) (past (e .run .window) k)) ≡ read b (cell i (e .run .window) (past (e .run .window) k))
 
-  places-same : ((k : ℕ) → isSends (e .entry .kind) ≡ false → held (e .run .window) k ≡ true → payloadFor st′ b′ i e k ≡ payloadFor st b i e k)
+  places-same : ((k : ℕ) → isSends (e .entry .kind) ≡ false → held (e .run .window) k ≡ true → payloadFor st′ b′ i e k
+      ≡ payloadFor st b i e k)
       → (k : ℕ) → placeFor st′ b′ i e k ≡ placeFor st b i e k
   places-same p k = sides (not (isSends (e .entry .kind)) && held (e .run .window) k) refl
     where
       sides : (t : Bool) → (not (isSends (e .entry .kind)) && held (e .run .window) k) ≡ t
           → _≡_ {A = Option (List ℕ)} (pick t (some (payloadFor st′ b′ i e k)) none) (pick t (some (payloadFor st b i e k)) none)
-      sides true h = let z = both-true (not (isSends (e .entry .kind))) (held (e .run .window) k) h in ap some (p k (not-true (isSends (e .entry .kind)) (z .0)) (z .1))
+      sides true h =
+          let z = both-true (not (isSends (e .entry .kind))) (held (e .run .window) k) h in
+          ap some (p k (not-true (isSends (e .entry .kind)) (z .0)) (z .1))
       sides false h = refl
 
-  numbers-same : (k : ℕ) → payloadFor st′ b′ i e k ≡ payloadFor st b i e k → Same retriesIn k → Same timerIn k → numberFor st′ b′ i e k ≡ numberFor st b i e k
+  pub numbers-same : (k : ℕ) → payloadFor st′ b′ i e k ≡ payloadFor st b i e k → Same retriesIn k → Same timerIn k
+      → numberFor st′ b′ i e k ≡ numberFor st b i e k
   numbers-same k p r t = rw (p, r, t)
 
-  urgent-same : (isSends (e .entry .kind) ≡ true → urgentPayload st′ e ≡ urgentPayload st e) → (isSends (e .entry .kind) ≡ false → e .run .urgent ≡ 0)
-      → _≡_ {A = Option (List ℕ)} (pick (eqb (e .run .urgent) 0) none (some (urgentPayload st′ e))) (pick (eqb (e .run .urgent) 0) none (some (urgentPayload st e)))
+  abbrev urgentIn : List ℕ → Option (List ℕ)
+  urgentIn st = pick (eqb (e .run .urgent) 0) none (some (urgentPayload st e))
+
+  urgent-same : (isSends (e .entry .kind) ≡ true → urgentPayload st′ e ≡ urgentPayload st e)
+      → (isSends (e .entry .kind) ≡ false → e .run .urgent ≡ 0)
+      → urgentIn st′ ≡ urgentIn st
   urgent-same s r = sides (isSends (e .entry .kind)) refl
     where
-      sides : (t : Bool) → isSends (e .entry .kind) ≡ t
-          → _≡_ {A = Option (List ℕ)} (pick (eqb (e .run .urgent) 0) none (some (urgentPayload st′ e))) (pick (eqb (e .run .urgent) 0) none (some (urgentPayload st e)))
+      sides : (t : Bool) → isSends (e .entry .kind) ≡ t → urgentIn st′ ≡ urgentIn st
       sides true h = rw (s h)
       sides false h = rw (eq-eqb (e .run .urgent) 0 (r h))
 
   pub end-same : ((k : ℕ) → k < e .run .taken → numberFor st′ b′ i e k ≡ numberFor st b i e k)
       → ((k : ℕ) → isSends (e .entry .kind) ≡ false → held (e .run .window) k ≡ true → payloadFor st′ b′ i e k ≡ payloadFor st b i e k)
-      → (isSends (e .entry .kind) ≡ true → urgentPayload st′ e ≡ urgentPayload st e) → (isSends (e .entry .kind) ≡ false → e .run .urgent ≡ 0)
+      → (isSends (e .entry .kind) ≡ true → urgentPayload st′ e ≡ urgentPayload st e)
+      → (isSends (e .entry .kind) ≡ false → e .run .urgent ≡ 0)
       → endFor st′ b′ i e ≡ endFor st b i e
   unfolding endFor
   end-same ns ps us ur =
@@ -77,29 +88,59 @@ module _ (st st′ b b′ : List ℕ) (i : ℕ) (e : EndPoint) where
         urgent-same us ur,
       )
 
+-- where only links alter
+pub cells-same : (st b b′ : List ℕ) (i : ℕ) (e : EndPoint) → ((k : ℕ) → 4224 ≤ k → getD b′ k 0 ≡ getD b k 0)
+    → endFor st b′ i e ≡ endFor st b i e
+unfolding endFor
+cells-same st b b′ i e c =
+    rw (
+      listed-ext (e .run .taken) (numberFor st b′ i e) (numberFor st b i e)
+          (λ k h. numbers-same st st b b′ i e k (payload k) (c (retriesAt (at k)) (omega arith)) (c (timerAt (at k)) (omega arith))),
+      listed-ext (e .entry .window) (placeFor st b′ i e) (placeFor st b i e) (λ k h. places-same st st b b′ i e (λ j s l. payload j) k),
+    )
+  where
+    at : ℕ → ℕ
+    at k = cell i (e .run .window) (past (e .run .window) k)
+
+    payload : (k : ℕ) → payloadFor st b′ i e k ≡ payloadFor st b i e k
+    payload k = rw (c (lengthAt (at k)) (omega arith))
+
+-- a sender has no places
+pub no-places : (st b : List ℕ) (i : ℕ) (e : EndPoint) → isSends (e .entry .kind) ≡ true
+    → listed (e .entry .window) (placeFor st b i e) ≡ replicate (e .entry .window) none
+no-places st b i e k = listed-replicate (e .entry .window) (placeFor st b i e) none (λ j. rw k)
+
+-- nor has a window in which nothing is held
+pub none-held : (st b : List ℕ) (i : ℕ) (e : EndPoint) → ((k : ℕ) → held (e .run .window) k ≡ false)
+    → listed (e .entry .window) (placeFor st b i e) ≡ replicate (e .entry .window) none
+none-held st b i e h =
+    listed-replicate (e .entry .window) (placeFor st b i e) none (λ k. rw (h k) (sides (not (isSends (e .entry .kind))) k))
+  where
+    sides : (z : Bool) (k : ℕ) → _≡_ {A = Option (List ℕ)} (pick (z && false) (some (payloadFor st b i e k)) none) none
+    sides true k = refl
+    sides false k = refl
+
 -- ---- what Good says of numbers and Urgents
 
-module _ (t ws b : List ℕ) (l : Lists) (g : Good t ws b l) (i : ℕ) (li : i < countIn ws) where
+module _ {t ws b : List ℕ} {l : Lists} (g : Good t ws b l) {i : ℕ} (li : i < countIn ws) where
   abbrev e : EndPoint
   e = endOf ws i
 
-  pub no-urgent : isSends (e .entry .kind) ≡ false → e .run .urgent ≡ 0
-  no-urgent k = sides (e .state) (stated-as b l i e (g .entered i li) false k (e .state) refl)
+  -- a receiver takes no numbers and has no Urgent
+  receiver-none : isSends (e .entry .kind) ≡ false → (e .run .taken ≡ 0) × (e .run .urgent ≡ 0)
+  receiver-none k = sides (e .state) (stated-as b l i e (g .entered i li) false k (e .state) refl)
     where
-      sides : (s : State) → Stated b l i e false s → e .run .urgent ≡ 0
-      sides Closed a = a .fresh .urgent
-      sides (Enabled t sent) a = a .0 .fresh .urgent
-      sides Open a = a .receiving .urgent
+      sides : (s : State) → Stated b l i e false s → (e .run .taken ≡ 0) × (e .run .urgent ≡ 0)
+      sides Closed a = (a .fresh .taken, a .fresh .urgent)
+      sides (Enabled t sent) a = (a .0 .fresh .taken, a .0 .fresh .urgent)
+      sides Open a = (a .receiving .taken, a .receiving .urgent)
       sides (Failing n) a = absurd a
 
   pub none-taken : isSends (e .entry .kind) ≡ false → e .run .taken ≡ 0
-  none-taken k = sides (e .state) (stated-as b l i e (g .entered i li) false k (e .state) refl)
-    where
-      sides : (s : State) → Stated b l i e false s → e .run .taken ≡ 0
-      sides Closed a = a .fresh .taken
-      sides (Enabled t sent) a = a .0 .fresh .taken
-      sides Open a = a .receiving .taken
-      sides (Failing n) a = absurd a
+  none-taken k = receiver-none k .0
+
+  pub no-urgent : isSends (e .entry .kind) ≡ false → e .run .urgent ≡ 0
+  no-urgent k = receiver-none k .1
 
   pub urgent-most : isSends (e .entry .kind) ≡ true → e .run .urgent ≤ e .entry .largest
   urgent-most k = sides (e .state) (stated-as b l i e (g .entered i li) true k (e .state) refl)
@@ -110,9 +151,20 @@ module _ (t ws b : List ℕ) (l : Lists) (g : Good t ws b l) (i : ℕ) (li : i <
       sides Open a = a .sending .urgent
       sides (Failing n) a = a .sending .urgent
 
+-- ---- a payload put into a slot of an entry's is read back
+
+pub put-read : {t : List ℕ} (n : Memory) {l : Lists} (g : Good t (n .node) (n .book) l) → storeOf t ≤ length (n .store)
+    → {i : ℕ} (li : i < countIn (n .node)) (r : ℕ) (p : List ℕ) → r < slotsOf (entryOf t i .kind) (entryOf t i .window)
+    → length p ≤ endOf (n .node) i .entry .largest
+    → let at = spot (endOf (n .node) i .place) (endOf (n .node) i .entry .largest) r in take (length p) (drop at (sets (n .store) at p)) ≡ p
+put-read {t} n {l} g room {i} li r p low most =
+    read-own (n .store) p (spot (endOf (n .node) i .place) (endOf (n .node) i .entry .largest) r)
+    (omega (arith, slot-room t (n .node) (n .book) l g i li r low, most, room))
+
 -- ---- elsewhere: a call on entry j, seen from entry i
 
-module _ (t : List ℕ) (n m : Memory) (l l′ : Lists) (g : Good t (n .node) (n .book) l) (room : storeOf t ≤ length (n .store)) (i j : ℕ) (li : i < countIn (n .node)) (d : i ≢ j)
+module _ (t : List ℕ) (n m : Memory) (l l′ : Lists) (g : Good t (n .node) (n .book) l)
+    (room : storeOf t ≤ length (n .store)) (i j : ℕ) (li : i < countIn (n .node)) (d : i ≢ j)
     (a : Apart j (n .node) (m .node)) (v : Within j (n .book) (m .book) l l′) (st : Stored t n (m .store) j) where
   abbrev was : EndPoint
   was = endOf (n .node) i
@@ -135,7 +187,8 @@ module _ (t : List ℕ) (n m : Memory) (l l′ : Lists) (g : Good t (n .node) (n
 
   payload-there : (k : ℕ) → payloadFor (m .store) (m .book) i (endOf (m .node) i) k ≡ payloadFor (n .store) (n .book) i was k
       → payloadFor (m .store) (m .book) i was k ≡ payloadFor (n .store) (n .book) i was k
-  payload-there k h = subst (λ (e : EndPoint). payloadFor (m .store) (m .book) i e k ≡ payloadFor (n .store) (n .book) i was k) (a .others i d) h
+  payload-there k h =
+      subst (λ (e : EndPoint). payloadFor (m .store) (m .book) i e k ≡ payloadFor (n .store) (n .book) i was k) (a .others i d) h
 
   urgent-stays : isSends (was .entry .kind) ≡ true → urgentPayload (m .store) was ≡ urgentPayload (n .store) was
   urgent-stays k = read st
@@ -144,14 +197,15 @@ module _ (t : List ℕ) (n m : Memory) (l l′ : Lists) (g : Good t (n .node) (n
       read (unaltered e) = rw e
       read (put r p hj hr hp e) =
           rw e (areas-stay t (n .node) (n .book) l g i j (was .run .window .size) r (was .run .urgent) (n .store) p li hj
-          (urgent-low t (n .node) (n .book) l g i li k) hr (urgent-most t (n .node) (n .book) l g i li k) hp room d)
+          (urgent-low t (n .node) (n .book) l g i li k) hr (urgent-most g li k) hp room d)
 
   taken-stays : (k : ℕ) → k < was .run .taken → payloadFor (m .store) (m .book) i was k ≡ payloadFor (n .store) (n .book) i was k
   taken-stays k h = sides (isSends (was .entry .kind)) refl
     where
-      sides : (s : Bool) → isSends (was .entry .kind) ≡ s → payloadFor (m .store) (m .book) i was k ≡ payloadFor (n .store) (n .book) i was k
+      sides : (s : Bool) → isSends (was .entry .kind) ≡ s
+          → payloadFor (m .store) (m .book) i was k ≡ payloadFor (n .store) (n .book) i was k
       sides true s = payload-there k (payload-stays t n m l l′ g room i j li d a v st k (s-filled t (n .node) (n .book) l g i li s k h))
-      sides false s = absurd (omega (arith, none-taken t (n .node) (n .book) l g i li s))
+      sides false s = absurd (omega (arith, none-taken g li s))
 
   pub elsewhere : endAt m i ≡ endAt n i
   elsewhere =
@@ -159,19 +213,49 @@ module _ (t : List ℕ) (n m : Memory) (l l′ : Lists) (g : Good t (n .node) (n
       ∙ end-same (n .store) (m .store) (n .book) (m .book) i was
       (λ k h. numbers-same (n .store) (m .store) (n .book) (m .book) i was k (taken-stays k h) (retries-stay k) (timer-stays k))
       (λ k s h. payload-there k (payload-stays t n m l l′ g room i j li d a v st k (r-filled t (n .node) (n .book) l g i li s k h)))
-      urgent-stays (no-urgent t (n .node) (n .book) l g i li)
+      urgent-stays (no-urgent g li)
 
 -- ---- the whole node
 
--- where entry j stands for e now, and what waits for w
-pub turned-stands : (t : List ℕ) (n m : Memory) (l l′ : Lists) (g : Good t (n .node) (n .book) l) → storeOf t ≤ length (n .store) → (j : ℕ) → j < countIn (n .node)
-    → Apart j (n .node) (m .node) → Within j (n .book) (m .book) l l′ → Stored t n (m .store) j
-    → (e : End) (w : Sort → List Item) → endAt m j ≡ e → ((q : Sort) → waitingFor (m .node) l′ q ≡ w q)
-    → standsFor t m l′ ≡ node (standsFor t n l) (set (listed (countOf t) (endAt n)) j e) w
-turned-stands t n m l l′ g room j lj a v st e w here waits =
+-- what a call on entry i leaves of the memory n
+pub record Leaves (t : List ℕ) (n m : Memory) (l : Lists) (i : ℕ) : Type 0 where
+  pub lists : Lists
+  pub good : Good t (m .node) (m .book) lists
+  pub apart : Apart i (n .node) (m .node)
+  pub within : Within i (n .book) (m .book) l lists
+  pub stored : Stored t n (m .store) i
+
+pub leaves : {t : List ℕ} {n : Memory} {store out : List ℕ} {y : Lent} {l : Lists} {i : ℕ}
+    → Kept t (record { node = n .node; book = n .book; store = store; out = out }) y l i → (st : List ℕ) → Stored t n st i
+    → Leaves t n (record { node = y .node; book = y .book; store = st }) l i
+leaves k st s = record { lists = k .lists; good = k .good; apart = k .apart; within = k .within; stored = s }
+
+-- nothing was altered
+pub still : {t : List ℕ} {n : Memory} {l : Lists} → Good t (n .node) (n .book) l → storeOf t ≤ length (n .store)
+    → Stands t n (standsFor t n l)
+still {l = l} g room = record { lists = l; good = g; room = room; is = refl }
+
+-- entry i turned to what it was
+pub turned-same : {t : List ℕ} (n : Memory) {l : Lists} → Good t (n .node) (n .book) l → {i : ℕ} → i < countIn (n .node)
+    → standsFor t n l ≡ turned i (endAt n i) (standsFor t n l)
+turned-same {t} n {l} g {i} li =
+    ap (λ (es : List End). node (standsFor t n l) es (standsFor t n l .waiting))
+    (set-listed (countOf t) (endAt n) (endAt n) i (endAt n i) (let c = g .tabled .count in omega arith) refl (λ j h d. refl))
+
+-- entry i stands for E now, and what waits for w
+pub turned-stands : {t : List ℕ} {n : Memory} {l : Lists} (g : Good t (n .node) (n .book) l) → storeOf t ≤ length (n .store)
+    → {i : ℕ} → i < countIn (n .node) → {m : Memory} (k : Leaves t n m l i) {E : End} {w : Sort → List Item}
+    → endAt m i ≡ E → ((q : Sort) → waitingFor (m .node) (k .lists) q ≡ w q)
+    → Stands t m (node (standsFor t n l) (set (listed (countOf t) (endAt n)) i E) w)
+turned-stands {t} {n} {l} g room {i} li {m} k {E} here waits =
     let c = g .tabled .count in
-    rw (
-      stored-long t n (m .store) j st,
-      set-listed (countOf t) (endAt n) (endAt m) j e (omega arith) here (λ i h d. elsewhere t n m l l′ g room i j (omega arith) d a v st),
-      fun-ext waits,
-    )
+    let long = stored-long t n (m .store) i (k .stored) in
+    record {
+      lists = k .lists;
+      good = k .good;
+      room = rw long room;
+      is = rw (long, set-listed (countOf t) (endAt n) (endAt m) i E (omega arith) here away, fun-ext waits);
+    }
+  where
+    away : (j : ℕ) → j < countOf t → j ≢ i → endAt m j ≡ endAt n j
+    away j h d = elsewhere t n m l (k .lists) g room j i (omega (arith, g .tabled .count)) d (k .apart) (k .within) (k .stored)

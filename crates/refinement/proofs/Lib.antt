@@ -1,13 +1,11 @@
 pub mod Listing
 pub mod Elsewhere
+pub mod Waiting
 pub mod Following
 pub mod OpenStands
 pub mod SendStands
-pub mod Silencing
-pub mod CloseStands
-pub mod UrgentStands
-pub mod AckNumbers
-pub mod Timers
+pub mod Passing
+pub mod Numbers
 pub mod AckStands
 pub mod Places
 pub mod ReceiveStands
@@ -16,7 +14,6 @@ pub mod HandStands
 pub mod SetupStands
 pub mod TickNumbers
 pub mod TickStands
-pub mod TickEntryStands
 pub mod TickAllStands
 pub mod Refining
 pub mod Sounding

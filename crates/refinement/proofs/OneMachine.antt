@@ -13,11 +13,11 @@ use Rattle.good.specs.Good.{Lists, Good}
 use Rattle.good.specs.Calls.{Memory}
 use Rattle.machine.specs.Machine.{Sort, acks, resets, urgents, resends, datas, Machine, listed}
 use Rattle.refinement.specs.Standing.{endAt, plainItem, slotItem, waitingFor, standsFor, OneMachine}
-use Rattle.refinement.proofs.Following.{lists-are}
+use Rattle.refinement.proofs.Waiting.{lists-are}
 
 module _ (t u : List ℕ) (n : Memory) (l k : Lists) (g : Good t (n .node) (n .book) l) (h : Good u (n .node) (n .book) k) where
   same-list : (q : ℕ) → q < 4 → l q ≡ k q
-  same-list q z = lists-are (n .book) (n .book) l k refl (g .lines) (h .lines) q z
+  same-list q z = lists-are refl (g .lines) (h .lines) q z
 
   same-waiting : (q : Sort) → waitingFor (n .node) l q ≡ waitingFor (n .node) k q
   unfolding waitingFor

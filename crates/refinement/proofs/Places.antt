@@ -1,53 +1,53 @@
 -- A receiver's places: how many are held, which number is new, and what is delivered once it is put. Assumes nothing.
 use Prim.Native.Nat.{ℕ, zero, suc, _+_, _-_, _≤_, _<_}
-use mathlib.Core.Path.{_≡_, refl, sym, ap, subst, _∙_}
+use mathlib.Core.Path.{_≡_, refl, sym, ap, _∙_}
 use mathlib.Core.Logic.{_≢_, _⊎_, inl, inr}
-use mathlib.Core.Bool.{Bool, true, false, not, _&&_, true≢false}
+use mathlib.Core.Bool.{Bool, true, false, not, true≢false}
 use mathlib.Core.Option.{Option, none, some}
 use mathlib.Core.List.{List, [], _∷_, _++_}
 use native.Mathlib.Decide.{decLt, ℕ-discrete}
 use native.Mathlib.Omega.{arith}
-use lib.ListN.{length, getD, set, take, drop, replicate, length-set, length-drop, length-append, length-replicate, getD-replicate, List·getD-append, List·getD-eq-default}
+use lib.ListN.{length, getD, set, drop, replicate, length-set, length-drop, length-append, length-replicate}
+use lib.ListN.{getD-replicate, List·getD-append, List·getD-eq-default}
 use lib.Seq.{ext-getD, getD-set-same, getD-set-other, getD-drop, getD-append-add}
-use lib.Dec.{ltb}
-use borrow.Author.Tests.{lt-ltb, le-ltb, ltb-true}
+use borrow.Author.Tests.{lt-ltb, le-ltb}
 use Rattle.units.specs.Refusals.{pick}
-use Rattle.window.specs.Windows.{offsetOf, insideOf, held, heldCount, acceptOf, withHeld, Good as GoodWindow}
+use Rattle.window.specs.Windows.{offsetOf, held, heldCount, acceptOf, withHeld, Good as GoodWindow}
 use Rattle.window.specs.declared.Window.{Window}
 use Rattle.window.specs.declared.Accepted.{Accepted}
-use Rattle.window.specs.declared.Found.the-variants.{New, Held, Outside}
+use Rattle.window.specs.declared.Found.the-variants.{New, Held}
 use Rattle.window.proofs.Holding as holding
 use Rattle.window.proofs.Holding.{held-beyond, count-below}
 use Rattle.ends.specs.States.{isSends}
 use Rattle.ends.specs.Runs.{isNew}
 use Rattle.ends.specs.declared.EndPoint.{EndPoint}
 use Rattle.ends.specs.declared.State.{State}
-use Rattle.slots.specs.Slots.{slotFor, cell, spot, past, lengthIn}
-use Rattle.receiving.specs.Receiving.{withWindow}
 use Rattle.blocks.specs.Payloads.{payloads}
+use Rattle.receiving.specs.Receiving.{withWindow}
 use Rattle.good.proofs.Turns.{turnedTo}
 use Rattle.good.proofs.AckRuns.{Passes}
 use Rattle.machine.specs.Machine as machine
-use Rattle.machine.specs.Machine.{End, listed, isSome, heldRun}
+use Rattle.machine.specs.Machine.{listed, isSome, heldRun}
 use Rattle.refinement.specs.Standing.{payloadFor, placeFor, endFor}
-use Rattle.refinement.proofs.Listing.{length-listed, getD-listed, listed-ext}
+use Rattle.refinement.proofs.Listing.{count-snoc, length-listed, getD-listed}
+use Rattle.refinement.proofs.Passing.{payload-past}
 
 abbrev Place : Type 0
 Place = Option (List ℕ)
 
 -- ---- lists of places
 
-count-snoc : (ps : List Place) (p : Place) → machine.heldCount (ps ++ (p ∷ [])) ≡ pick (isSome p) (suc (machine.heldCount ps)) (machine.heldCount ps)
+abbrev more : Place → ℕ → ℕ
+more p n = pick (isSome p) (suc n) n
+
+held-snoc : (ps : List Place) (p : Place) → machine.heldCount (ps ++ (p ∷ [])) ≡ more p (machine.heldCount ps)
 unfolding machine.heldCount
-count-snoc [] p = refl
-count-snoc (x ∷ xs) p = rw (count-snoc xs p) (sides (isSome x) (isSome p))
+held-snoc = count-snoc machine.heldCount more (λ p ps. refl) (λ p q. both (isSome p) (isSome q))
   where
-    sides : (a b : Bool) → pick a (suc (pick b (suc (machine.heldCount xs)) (machine.heldCount xs))) (pick b (suc (machine.heldCount xs)) (machine.heldCount xs))
-        ≡ pick b (suc (pick a (suc (machine.heldCount xs)) (machine.heldCount xs))) (pick a (suc (machine.heldCount xs)) (machine.heldCount xs))
-    sides true true = refl
-    sides true false = refl
-    sides false true = refl
-    sides false false = refl
+    both : (a b : Bool) (n : ℕ) → pick a (suc (pick b (suc n) n)) (pick b (suc n) n) ≡ pick b (suc (pick a (suc n) n)) (pick a (suc n) n)
+    both true true n = refl
+    both true false n = refl
+    both false b n = refl
 
 -- one more in front
 listed-cons : {A : Type 0} (n : ℕ) (f : ℕ → A) → listed (suc n) f ≡ f 0 ∷ listed n (λ k. f (suc k))
@@ -56,7 +56,8 @@ listed-cons zero f = refl
 listed-cons (suc n) f = ap (λ (l : List _). l ++ (f (suc n) ∷ [])) (listed-cons n f)
 
 -- those held without a gap
-run-of : (ps : List Place) (q : ℕ) (f : ℕ → List ℕ) → q ≤ length ps → ((j : ℕ) → j < q → getD ps j none ≡ some (f j)) → (q < length ps → getD ps q none ≡ none)
+run-of : (ps : List Place) (q : ℕ) (f : ℕ → List ℕ) → q ≤ length ps → ((j : ℕ) → j < q → getD ps j none ≡ some (f j))
+    → (q < length ps → getD ps q none ≡ none)
     → heldRun ps ≡ listed q f
 unfolding heldRun listed
 run-of [] q f h all gap = let z : 0 ≡ q = omega arith in ap (λ (n : ℕ). listed n f) z
@@ -67,14 +68,16 @@ run-of (some p ∷ ps) (suc q) f h all gap =
     let z : p ≡ f 0 = (let y = all 0 (omega arith) in cc) in
     rw (z, run-of ps q (λ k. f (suc k)) (omega arith) (λ j l. all (suc j) (omega arith)) (λ l. gap (omega arith))) (sym (listed-cons q f))
 
-pub payloads-listed : (store b : List ℕ) (i : ℕ) (e : EndPoint) (q : ℕ) → payloads store b i (e .place) (e .entry .largest) (e .run .window) q ≡ listed q (payloadFor store b i e)
+pub payloads-listed : (store b : List ℕ) (i : ℕ) (e : EndPoint) (q : ℕ)
+    → payloads store b i (e .place) (e .entry .largest) (e .run .window) q ≡ listed q (payloadFor store b i e)
 unfolding payloads listed
 payloads-listed store b i e zero = refl
 payloads-listed store b i e (suc q) = rw (payloads-listed store b i e q)
 
 -- ---- of an end point that receives
 
-module _ (st b : List ℕ) (i : ℕ) (e : EndPoint) (k : isSends (e .entry .kind) ≡ false) (g : GoodWindow (e .run .window)) (size : e .run .window .size ≡ e .entry .window) where
+module _ (st b : List ℕ) (i : ℕ) (e : EndPoint) (k : isSends (e .entry .kind) ≡ false) (g : GoodWindow (e .run .window))
+    (size : e .run .window .size ≡ e .entry .window) where
   abbrev w : Window
   w = e .run .window
 
@@ -84,9 +87,10 @@ module _ (st b : List ℕ) (i : ℕ) (e : EndPoint) (k : isSends (e .entry .kind
   below : (n : ℕ) → machine.heldCount (listed n (placeFor st b i e)) ≡ holding.heldBelow w n
   unfolding listed machine.heldCount
   below zero = refl
-  below (suc n) = count-snoc (listed n (placeFor st b i e)) (placeFor st b i e n) ∙ rw (place-is n, below n) (sides (held w n))
+  below (suc n) = held-snoc (listed n (placeFor st b i e)) (placeFor st b i e n) ∙ rw (place-is n, below n) (sides (held w n))
     where
-      sides : (z : Bool) → pick (isSome (pick z (some (payloadFor st b i e n)) none)) (suc (holding.heldBelow w n)) (holding.heldBelow w n) ≡ pick z 1 0 + holding.heldBelow w n
+      sides : (z : Bool) → pick (isSome (pick z (some (payloadFor st b i e n)) none)) (suc (holding.heldBelow w n))
+          (holding.heldBelow w n) ≡ pick z 1 0 + holding.heldBelow w n
       sides true = omega arith
       sides false = omega arith
 
@@ -94,7 +98,8 @@ module _ (st b : List ℕ) (i : ℕ) (e : EndPoint) (k : isSends (e .entry .kind
   unfolding endFor
   count-is = count-below w g ∙ ap (holding.heldBelow w) size ∙ sym (below (e .entry .window))
 
-  place-at : (j : ℕ) (d : Place) → j < e .entry .window → getD (endFor st b i e .places) j d ≡ pick (held w j) (some (payloadFor st b i e j)) none
+  place-at : (j : ℕ) (d : Place) → j < e .entry .window
+      → getD (endFor st b i e .places) j d ≡ pick (held w j) (some (payloadFor st b i e j)) none
   unfolding endFor
   place-at j d h = getD-listed (e .entry .window) (placeFor st b i e) j d h ∙ place-is j
 
@@ -107,22 +112,27 @@ module _ (st b : List ℕ) (i : ℕ) (e : EndPoint) (k : isSends (e .entry .kind
   new-is s = sides (decLt (offsetOf w s) (w .size))
     where
       found : (z : Bool) → not (isSome (pick z (some (payloadFor st b i e (offsetOf w s))) none))
-          ≡ isNew (pick {A = Accepted} z (record { window = w; found = Held }) (record { window = withHeld w (offsetOf w s); found = New }) .found)
+          ≡ isNew (pick {A = Accepted} z (record { window = w; found = Held })
+          (record { window = withHeld w (offsetOf w s); found = New }) .found)
       found true = refl
       found false = refl
 
       sides : Dec (offsetOf w s < w .size) → machine.isNew (endFor st b i e) s ≡ isNew (acceptOf w s .found)
-      sides (yes h) = rw (lt-ltb (offsetOf w s) (w .size) h, place-at (offsetOf w s) (some []) (rw (← size) h)) (found (held w (offsetOf w s)))
+      sides (yes h) =
+          rw (lt-ltb (offsetOf w s) (w .size) h, place-at (offsetOf w s) (some []) (rw (← size) h)) (found (held w (offsetOf w s)))
       sides (no h) =
           let far : length (endFor st b i e .places) ≤ offsetOf w s = omega (arith, long, size) in
           rw (le-ltb (offsetOf w s) (w .size) (omega arith), List·getD-eq-default (endFor st b i e .places) (some []) far)
 
 -- ---- once the number s is put, with payload p, into another store and book
 
-module _ (st b st′ b′ : List ℕ) (i : ℕ) (e : EndPoint) (k : isSends (e .entry .kind) ≡ false) (g : GoodWindow (e .run .window)) (size : e .run .window .size ≡ e .entry .window)
-    (s : ℕ) (p : List ℕ) (inside : offsetOf (e .run .window) s < e .run .window .size) (q : ℕ) (u : Window) (P : Passes i (e .run .window) (offsetOf (e .run .window) s) q u) (few : q ≤ e .run .window .size)
+module _ (st b st′ b′ : List ℕ) (i : ℕ) (e : EndPoint) (k : isSends (e .entry .kind) ≡ false)
+    (g : GoodWindow (e .run .window)) (size : e .run .window .size ≡ e .entry .window)
+    (s : ℕ) (p : List ℕ) (inside : offsetOf (e .run .window) s < e .run .window .size) (q : ℕ) (u : Window)
+    (P : Passes i (e .run .window) (offsetOf (e .run .window) s) q u) (few : q ≤ e .run .window .size)
     (here : payloadFor st′ b′ i e (offsetOf (e .run .window) s) ≡ p)
-    (there : (j : ℕ) → held (e .run .window) j ≡ true → j ≢ offsetOf (e .run .window) s → payloadFor st′ b′ i e j ≡ payloadFor st b i e j) where
+    (there : (j : ℕ) → held (e .run .window) j ≡ true → j ≢ offsetOf
+    (e .run .window) s → payloadFor st′ b′ i e j ≡ payloadFor st b i e j) where
   abbrev v : Window
   v = e .run .window
 
@@ -159,23 +169,19 @@ module _ (st b st′ b′ : List ℕ) (i : ℕ) (e : EndPoint) (k : isSends (e .
       (λ h. let f = P .none 0 (P .first) in let z : q + 0 ≡ q = omega arith in
       ps-none q (omega (arith, long-ps)) (λ c. f .0 (z ∙ c)) (ap (held v) (sym z) ∙ f .1))
 
-  slot-is : (j : ℕ) → slotFor u (past u j) ≡ slotFor v (past v (q + j))
-  slot-is j = let c = P .cells j in omega arith
-
   abbrev then : State → EndPoint
   then z = turnedTo e z (withWindow (e .run) u)
 
   payload-is : (z : State) (j : ℕ) → payloadFor st′ b′ i (then z) j ≡ payloadFor st′ b′ i e (q + j)
   unfolding withWindow
-  payload-is z j =
-      ap (λ (c : ℕ). take (lengthIn b′ c) (drop (spot (e .place) (e .entry .largest) (slotFor u (past u j))) st′)) (P .cells j)
-      ∙ ap (λ (r : ℕ). take (lengthIn b′ (cell i v (past v (q + j)))) (drop (spot (e .place) (e .entry .largest) r) st′)) (slot-is j)
+  payload-is z j = payload-past st′ b′ i (e .place) (e .entry .largest) v u at q P j
 
   place-then : (z : State) (j : ℕ) → placeFor st′ b′ i (then z) j ≡ pick (held u j) (some (payloadFor st′ b′ i (then z) j)) none
   unfolding withWindow
   place-then z j = rw k
 
-  nearer : (z : State) (j : ℕ) → q + j < v .size → (h : Bool) → held u j ≡ h → getD ps (q + j) none ≡ pick h (some (payloadFor st′ b′ i (then z) j)) none
+  nearer : (z : State) (j : ℕ) → q + j < v .size → (h : Bool) → held u j ≡ h
+      → getD ps (q + j) none ≡ pick h (some (payloadFor st′ b′ i (then z) j)) none
   nearer z j l true h = ps-held (q + j) l (P .each j h) ∙ ap some (sym (payload-is z j))
   nearer z j l false h = let f = P .none j h in ps-none (q + j) l (f .0) (f .1)
 
@@ -196,14 +202,20 @@ module _ (st b st′ b′ : List ℕ) (i : ℕ) (e : EndPoint) (k : isSends (e .
   pub places-then : (z : State) → drop q ps ++ replicate q none ≡ listed (e .entry .window) (placeFor st′ b′ i (then z))
   places-then z =
       ext-getD none (drop q ps ++ replicate q none) (listed (e .entry .window) (placeFor st′ b′ i (then z)))
-      (length-append (drop q ps) (replicate q none) ∙ (let y : length (drop q ps) + length (replicate q none) ≡ e .entry .window = omega (arith, long-rest, length-replicate {A = Place} q none, size) in y)
+      (length-append (drop q ps) (replicate q none)
+      ∙ (let y : length (drop q ps) + length (replicate q none) ≡ e .entry .window = omega
+      (arith, long-rest, length-replicate {A = Place} q none, size) in y)
       ∙ sym (length-listed (e .entry .window) (placeFor st′ b′ i (then z))))
-      (λ j h. let hj : j < v .size = omega (arith, length-append (drop q ps) (replicate q none), long-rest, length-replicate {A = Place} q none) in
-      sides j hj (decLt j (v .size - q)) ∙ sym (getD-listed (e .entry .window) (placeFor st′ b′ i (then z)) j none (rw (← size) hj) ∙ place-then z j))
+      (λ j h. let hj : j < v .size = omega
+      (arith, length-append (drop q ps) (replicate q none), long-rest, length-replicate {A = Place} q none) in
+      sides j hj (decLt j (v .size - q))
+      ∙ sym (getD-listed (e .entry .window) (placeFor st′ b′ i (then z)) j none (rw (← size) hj) ∙ place-then z j))
     where
-      sides : (j : ℕ) → j < v .size → Dec (j < v .size - q) → getD (drop q ps ++ replicate q none) j none ≡ pick (held u j) (some (payloadFor st′ b′ i (then z) j)) none
+      sides : (j : ℕ) → j < v .size → Dec (j < v .size - q)
+          → getD (drop q ps ++ replicate q none) j none ≡ pick (held u j) (some (payloadFor st′ b′ i (then z) j)) none
       sides j h (yes l) =
-          List·getD-append (drop q ps) (replicate q none) none j (rw long-rest l) ∙ getD-drop q ps j none ∙ nearer z j (omega arith) (held u j) refl
+          List·getD-append (drop q ps) (replicate q none) none j (rw long-rest l) ∙ getD-drop q ps j none
+          ∙ nearer z j (omega arith) (held u j) refl
       sides j h (no l) =
           let y : j ≡ length (drop q ps) + (j - (v .size - q)) = omega (arith, long-rest) in
           ap (λ (m : ℕ). getD (drop q ps ++ replicate q none) m none) y

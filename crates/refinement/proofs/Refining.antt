@@ -1,30 +1,37 @@
--- The whole theorem: every call does what the machine does, and so every node that setup and calls can give stands for a machine.
--- Assumes nothing.
-use Rattle.good.specs.Calls.{at-setup, by-call}
-use Rattle.machine.specs.Calls.{opens, closes, counts, sends, urges, arrives, hands-out, ticks}
+-- The whole theorem: every call does what the machine does, and so every node that setup and calls can give stands for
+-- a machine. Assumes nothing.
+use Prim.Native.Nat.{ℕ, _≤_}
+use mathlib.Core.Path.{subst}
+use mathlib.Core.List.{List}
 use lib.ListN.{length}
-use Rattle.machine.specs.Machine.{begun, step}
-use Rattle.refinement.specs.Standing.{Refines, ReachStands}
+use Rattle.table.specs.Areas.{storeOf}
+use Rattle.good.specs.Good.{Lists, Good}
+use Rattle.good.specs.Calls.{Memory, at-setup, by-call}
+use Rattle.machine.specs.Calls.{Call, Fed, opens, closes, counts, sends, urges, arrives, hands-out, ticks}
+use Rattle.machine.specs.Machine.{Machine, begun, step}
+use Rattle.refinement.specs.Standing.{standsFor, Follows, Begins, Refines, ReachStands}
 use Rattle.refinement.proofs.SetupStands.{begins}
-use Rattle.refinement.proofs.OpenStands.{open-follows}
-use Rattle.refinement.proofs.CloseStands.{close-follows, counts-follow}
-use Rattle.refinement.proofs.SendStands.{send-follows}
-use Rattle.refinement.proofs.UrgentStands.{urgent-follows}
+use Rattle.refinement.proofs.OpenStands.{open-follows, close-follows, counts-follow}
+use Rattle.refinement.proofs.SendStands.{send-follows, urgent-follows}
 use Rattle.refinement.proofs.ArriveStands.{arrive-follows}
 use Rattle.refinement.proofs.HandStands.{hand-follows}
 use Rattle.refinement.proofs.TickAllStands.{tick-follows}
-use Rattle.refinement.specs.Standing.{Begins}
+
+-- of the machine that the memory stands for
+follows-at : (t : List ℕ) (n : Memory) (l : Lists) → Good t (n .node) (n .book) l → storeOf t ≤ length (n .store) → (c : Call) → Fed c
+    → Follows t n (standsFor t n l) c
+follows-at t n l g room (opens i) f = open-follows t n l g room i
+follows-at t n l g room (closes i) f = close-follows t n l g room i
+follows-at t n l g room (counts i) f = counts-follow t n l g room i
+follows-at t n l g room (sends i p) f = send-follows t n l g room i p
+follows-at t n l g room (urges i p) f = urgent-follows t n l g room i p
+follows-at t n l g room (arrives block frame) f = arrive-follows t n l g room block frame f
+follows-at t n l g room (hands-out buffer) f = hand-follows t n l g room buffer
+follows-at t n l g room ticks f = tick-follows t n l g room
 
 pub refines : Refines
 unfolding Refines
-refines t n m s (opens i) f = open-follows t n m s i
-refines t n m s (closes i) f = close-follows t n m s i
-refines t n m s (counts i) f = counts-follow t n m s i
-refines t n m s (sends i p) f = send-follows t n m s i p
-refines t n m s (urges i p) f = urgent-follows t n m s i p
-refines t n m s (arrives block frame) f = arrive-follows t n m s block frame f
-refines t n m s (hands-out buffer) f = hand-follows t n m s buffer
-refines t n m s ticks f = tick-follows t n m s
+refines t n m s c f = subst (λ (m : Machine). Follows t n m c) (s .is) (follows-at t n (s .lists) (s .good) (s .room) c f)
 
 pub reach-stands : ReachStands
 unfolding ReachStands Begins Refines

@@ -1,351 +1,323 @@
--- Send is the machine's: the next number is taken with its payload, and waits as the last of the data. Assumes nothing.
-use Prim.Native.Nat.{ℕ, zero, suc, _+_, _-_, _*_, _%_, _≤_, _<_}
-use mathlib.Core.Path.{_≡_, refl, sym, ap, subst, _∙_}
+-- Send and Urgent are the machine's: a payload is put into the store, and waits as the last of the data or the Urgents.
+-- Assumes nothing.
+use Prim.Native.Nat.{ℕ, _+_, _≤_, _<_, zero, suc}
+use mathlib.Core.Path.{_≡_, refl, sym, ap, _∙_, subst}
 use mathlib.Core.Logic.{_≢_}
-use mathlib.Core.Bool.{Bool, true, false, not, true≢false}
-use mathlib.Core.List.{List, [], _∷_, _++_, map, map-append, List·Memᴰ}
-use native.Mathlib.Decide.{decLt}
+use mathlib.Core.Bool.{true, false, Bool, not}
+use mathlib.Core.List.{List, [], _∷_, _++_, List·Memᴰ, List·Memᴰ·not-nil}
+use mathlib.Core.Option.{none, some}
 use native.Mathlib.Numerals.{add-one}
 use native.Mathlib.Omega.{arith}
-use lib.ListN.{length, getD, set, length-set}
-use lib.Seq.{sets, getD-set-same, getD-set-other}
-use lib.Dec.{eqb, leb, ltb}
-use borrow.Author.Tests.{le-leb, lt-leb, le-ltb}
-use Rattle.units.specs.Refusals.{pick, verdict}
-use Rattle.units.specs.declared.refusals.Refusal.{Refusal}
-use Rattle.units.specs.declared.refusals.Refusal.the-variants.{NoEntry, TooShort, WindowFull, RunFull}
+use lib.ListN.{length, getD, take, drop}
+use lib.Dec.{eqb}
+use borrow.Author.Tests.{le-ltb, ne-eqb, eq-eqb}
+use Rattle.units.specs.Refusals.{verdict, pick}
 use Rattle.units.specs.declared.refusals.Verdict.{Verdict}
-use Rattle.units.specs.declared.refusals.Verdict.the-variants.{Passed, Refused}
+use Rattle.units.specs.declared.refusals.Verdict.the-variants.{Passed}
+use Rattle.units.specs.declared.refusals.Refusal.{Refusal}
+use Rattle.units.specs.declared.refusals.Refusal.the-variants.{UrgentWaits}
 use Rattle.memory.specs.Layout as layout
 use Rattle.memory.specs.Layout.{lengthAt, timerAt, retriesAt, slotId}
 use Rattle.waiting.specs.Queues.{appended}
 use Rattle.order.specs.Order.{acksIn}
-use Rattle.window.specs.Windows.{held, Good as GoodWindow}
+use Rattle.window.specs.Windows.{Good as GoodWindow}
 use Rattle.window.specs.declared.Window.{Window}
-use Rattle.window.proofs.Sizes.{size-le}
-use Rattle.table.specs.Layout.{countOf, entryOf}
+use Rattle.table.specs.Layout.{entryOf}
 use Rattle.table.specs.Areas.{slotsOf, storeOf}
-use Rattle.table.specs.declared.Entry.{Entry}
 use Rattle.ends.specs.Ends.{endOf}
 use Rattle.ends.specs.Heads.{countIn, needIn}
-use Rattle.ends.specs.States.{isSends, isClosed}
-use Rattle.ends.specs.Answers.{answerOf}
 use Rattle.ends.specs.Lent.{Lent}
 use Rattle.ends.specs.declared.State.{State}
 use Rattle.ends.specs.declared.State.the-variants.{Open}
 use Rattle.ends.specs.declared.EndPoint.{EndPoint}
-use Rattle.slots.specs.Slots.{slotFor, cell, past, spot, numberIn, lengthIn, timerIn, retriesIn}
-use Rattle.handing.specs.Handing.{slotIn, urgentPayload}
-use Rattle.sending.specs.Sending.{senderTests, nextNumber, sentRun, sentBook, sent, sendAnswer, sendAfter}
-use Rattle.good.specs.Good.{Lists, Lines, OpenSender, Good, ownerOf, idAt}
-use Rattle.good.specs.Calls.{Memory, lent, answer, after}
-use Rattle.machine.specs.Calls.{sends}
-use Rattle.good.proofs.Known.{stated-as}
-use Rattle.good.proofs.Lined.{added, append-cells, append-lines, set-lines}
-use Rattle.good.proofs.Offsets.{id-high, id-owner, cell-inj, slot-inj, number-at}
-use Rattle.good.proofs.Framing.{Apart, Within, entry-low, cell-low, slot-lt}
-use Rattle.good.proofs.Turns.{turnedTo, saved-acks, Kept}
+use Rattle.slots.specs.Slots.{slotFor, cell, past, timerIn, retriesIn, spot}
+use Rattle.handing.specs.Handing.{urgentPayload}
+use Rattle.sending.specs.Sending as memory
+use Rattle.sending.specs.Sending.{nextNumber, sentRun, sentBook, sendAnswer, sendAfter, urgentRun, urgentAnswer, urgentAfter}
+use Rattle.good.specs.Good.{Lists, OpenSender, Good, Ranged}
+use Rattle.good.specs.Calls.{Memory, lent, kept, answer, after}
+use Rattle.machine.specs.Calls.{sends, urges}
+use Rattle.good.proofs.Lined.{append-cells, append-lines}
+use Rattle.good.proofs.Offsets.{cell-inj, slot-inj, urgent-owner}
+use Rattle.good.proofs.Framing.{cell-low, slot-lt}
+use Rattle.good.proofs.Turns.{turnedTo, saved-acks}
 use Rattle.good.proofs.SendKeeps.{next-waits, SendPassed, send-passed, send-keeps}
-use Rattle.good.proofs.Stores.{end-entry, slot-low, urgent-low, slots-stay, read-own, end-size, slot-room}
-use Rattle.good.proofs.Payloads.{payload-apart}
-use Rattle.good.proofs.Payloads.{s-filled, Stored, put, stored-long}
-use Rattle.machine.specs.Machine.{Number, End, Item, Sort, acks, resets, urgents, resends, datas, Machine, Outcome, listed, taking, turned, waits, done, judged, sendTests, sending, step}
+use Rattle.good.proofs.Stores.{slot-low, urgent-low, slots-stay}
+use Rattle.good.proofs.Payloads.{payload-apart, s-filled, put}
+use Rattle.good.proofs.Members.{mine-all}
+use Rattle.good.proofs.UrgentKeeps.{UrgentPassed, urgent-passed, urgent-keeps}
+use Rattle.machine.specs.Machine.{number, End, datas, Machine, listed, taking, turned, waits, done, judged, sendTests}
+use Rattle.machine.specs.Machine.{sending, step, senderTests, urgents, urging, isSome, tooShort, urgentSending}
 use Rattle.machine.specs.Machine as machine
-use Rattle.refinement.specs.Standing.{payloadFor, numberFor, placeFor, endFor, endAt, ackItem, plainItem, slotItem, waitingFor, standsFor, Stands, Follows}
-use Rattle.refinement.proofs.Listing.{length-listed, listed-ext}
-use Rattle.refinement.proofs.Elsewhere.{urgent-most, turned-stands}
-use Rattle.refinement.proofs.Following.{on-some, on-none, follows, lists-are, items-stay, windows-other}
+use Rattle.refinement.specs.Standing.{payloadFor, numberFor, endFor, endAt, slotItem, standsFor, Stands, Follows}
+use Rattle.refinement.proofs.Listing.{Put, put-both, length-listed, listed-ext}
+use Rattle.refinement.proofs.Elsewhere.{numbers-same, no-places, urgent-most, put-read, Leaves, leaves, turned-stands}
+use Rattle.refinement.proofs.Waiting.{waits-more, window-steady}
+use Rattle.refinement.proofs.Following.{follows, low-at, stated-at, unheld, item-for, size-is}
 
--- ---- the book: a length and the retries put, and one more that waits as data
-
-module _ (b : List ℕ) (l : Lists) (L : Lines b l) (c n : ℕ) (low : c < 2048) (none : (q : ℕ) → q < 4 → List·Memᴰ (slotId c) (l q) → ⊥) where
-  abbrev put-book : List ℕ
-  put-book = set (set b (lengthAt c) n) (retriesAt c) 0
-
-  put-lines : Lines put-book l
-  put-lines = set-lines (set b (lengthAt c) n) l (set-lines b l L (lengthAt c) n (omega arith)) (retriesAt c) 0 (omega arith)
-
-  pub sent-lines : Lines (sentBook b c n) (added l layout.datas (slotId c))
-  unfolding sentBook
-  sent-lines = append-lines put-book l put-lines layout.datas (slotId c) (omega arith) (omega arith) (omega arith) none
-
-  cells : (k : ℕ) → 4224 ≤ k → getD (sentBook b c n) k 0 ≡ getD put-book k 0
-  unfolding sentBook
-  cells k h = append-cells put-book l put-lines layout.datas (slotId c) (omega arith) (omega arith) (omega arith) none k h
-
-  retries-new : retriesIn (sentBook b c n) c ≡ 0
-  retries-new =
-      cells (retriesAt c) (omega arith)
-      ∙ getD-set-same (set b (lengthAt c) n) (retriesAt c) 0 0 (let z = L .long in let y = length-set b (lengthAt c) n in omega arith)
-
-  retries-old : (d : ℕ) → d < 2048 → d ≢ c → retriesIn (sentBook b c n) d ≡ retriesIn b d
-  retries-old d h ne =
-      cells (retriesAt d) (omega arith)
-      ∙ getD-set-other (set b (lengthAt c) n) (retriesAt c) (retriesAt d) 0 0 (λ e. ne (omega arith))
-      ∙ getD-set-other b (lengthAt c) (retriesAt d) n 0 (λ e. omega arith)
-
-  timers-old : (d : ℕ) → d < 2048 → timerIn (sentBook b c n) d ≡ timerIn b d
-  timers-old d h =
-      cells (timerAt d) (omega arith)
-      ∙ getD-set-other (set b (lengthAt c) n) (retriesAt c) (timerAt d) 0 0 (λ e. omega arith)
-      ∙ getD-set-other b (lengthAt c) (timerAt d) n 0 (λ e. omega arith)
-
--- a slot's number, of what waits
-slot-in : (i : ℕ) (w : Window) (s : ℕ) → slotFor w s < 128 → slotIn (slotId (cell i w s)) ≡ slotFor w s
-slot-in i w s h = omega arith
-
-module _ (t : List ℕ) (n : Memory) (l : Lists) (g : Good t (n .node) (n .book) l) (room : storeOf t ≤ length (n .store)) (i : ℕ) (p : List ℕ) where
+module _ (t : List ℕ) (n : Memory) (l : Lists) (g : Good t (n .node) (n .book) l) (room : storeOf t ≤ length (n .store))
+    (i : ℕ) (p : List ℕ) where
   abbrev M : Machine
   M = standsFor t n l
 
-  abbrev now : Memory
-  now = after n (sends i p)
+  abbrev e : EndPoint
+  e = endOf (n .node) i
 
-  -- ---- where it went through
+  abbrev E : End
+  E = endAt n i
+
+  abbrev w : Window
+  w = e .run .window
+
+  long : length (E .numbers) ≡ e .run .taken
+  unfolding endFor
+  long = length-listed (e .run .taken) (numberFor (n .store) (n .book) i e)
+
+  -- ---- send, where it went through
 
   module _ (li : i < countIn (n .node)) (h : sendAnswer (lent n []) i p ≡ Passed) where
-    abbrev e : EndPoint
-    e = endOf (n .node) i
-
-    abbrev w : Window
-    w = e .run .window
+    abbrev now : Memory
+    now = kept (sendAfter (lent n []) i p (sendAnswer (lent n []) i p))
 
     abbrev at : ℕ
     at = cell i w (past w (e .run .taken))
 
+    abbrev slot : ℕ
+    slot = slotFor w (nextNumber (e .run))
+
     went : SendPassed (lent n []) i p e (sendAfter (lent n []) i p (sendAnswer (lent n []) i p))
     went = send-passed t (lent n []) l i p g h
 
-    kept : Kept t (lent n []) (sendAfter (lent n []) i p (sendAnswer (lent n []) i p)) l i
-    kept = send-keeps t (lent n []) l i p g li
+    slot-fits : slot < slotsOf (entryOf t i .kind) (entryOf t i .window)
+    slot-fits = slot-low t (n .node) (n .book) l g i li (nextNumber (e .run))
+
+    left : Leaves t n now l i
+    left = leaves (send-keeps t (lent n []) l i p g li) (now .store) (put slot p li slot-fits (went .most) (went .stored))
 
     low : i < 16
-    low = entry-low t (n .node) (n .book) l g i li
+    low = low-at g li
 
     good : GoodWindow w
     good = g .entered i li .window
 
     was : OpenSender (n .book) l i e
-    was = stated-as (n .book) l i e (g .entered i li) true (went .sends) Open (went .opened)
+    was = stated-at g li true (went .sends) Open (went .opened)
 
-    at-low : at < 2048
-    at-low = cell-low i low w good (past w (e .run .taken))
-
-    none-waits : (q : ℕ) → q < 4 → List·Memᴰ (slotId at) (l q) → ⊥
-    none-waits = next-waits t (n .node) (n .book) l g i li was (went .room)
+    -- a length and the retries put, and one more that waits as data
+    put-s : Put (n .book) (sentBook (n .book) at (length p)) l (lengthAt at) (length p) (retriesAt at) 0 3 (slotId at)
+    unfolding sentBook
+    put-s =
+        let h = cell-low i low w good (past w (e .run .taken)) in
+        put-both (g .lines) (lengthAt at) (length p) (retriesAt at) 0 3 (slotId at) (omega arith) (omega arith) (omega arith) (omega arith)
+        (omega arith) (omega arith) (next-waits t (n .node) (n .book) l g i li was (went .room))
 
     book : now .book ≡ sentBook (n .book) at (length p)
-    unfolding after
     book = ap (λ (x : Lent). x .book) (went .is)
 
-    store : now .store ≡ sets (n .store) (spot (e .place) (e .entry .largest) (slotFor w (nextNumber (e .run)))) p
-    unfolding after
-    store = went .stored
-
     end : endOf (now .node) i ≡ turnedTo e (e .state) (sentRun (e .run))
-    unfolding after
     end = went .end ∙ ap (λ (s : State). turnedTo e s (sentRun (e .run))) (sym (went .opened))
-
-    apart : Apart i (n .node) (now .node)
-    unfolding after
-    apart = kept .apart
-
-    within : Within i (n .book) (now .book) l (kept .lists)
-    unfolding after
-    within = kept .within
-
-    next-low : slotFor w (nextNumber (e .run)) < slotsOf (entryOf t i .kind) (entryOf t i .window)
-    next-low = slot-low t (n .node) (n .book) l g i li (nextNumber (e .run))
-
-    stored : Stored t n (now .store) i
-    stored = put (slotFor w (nextNumber (e .run))) p li next-low (went .most) store
 
     -- its numbers: the new one, and those before it
 
     new-payload : payloadFor (now .store) (now .book) i e (e .run .taken) ≡ p
-    unfolding after
-    new-payload =
-        rw (went .filled, went .stored)
-        (read-own (n .store) p (spot (e .place) (e .entry .largest) (slotFor w (nextNumber (e .run))))
-        (omega (arith, slot-room t (n .node) (n .book) l g i li (slotFor w (nextNumber (e .run))) next-low, went .most, room)))
+    new-payload = rw (went .filled, went .stored) (put-read n g room li slot p slot-fits (went .most))
 
     old-payload : (k : ℕ) → k < e .run .taken → payloadFor (now .store) (now .book) i e k ≡ payloadFor (n .store) (n .book) i e k
-    unfolding after
     old-payload k hk =
         rw (went .stored)
-        (payload-apart t n l g i li room (slotFor w (nextNumber (e .run))) p next-low (went .most) (now .book) k
+        (payload-apart t n l g i li room slot p slot-fits (went .most) (now .book) k
         (s-filled t (n .node) (n .book) l g i li (went .sends) k hk)
         (λ c. let z = slot-inj w good k (e .run .taken) (omega (arith, went .room)) (went .room) c in omega arith)
         (went .others k hk))
 
-    abbrev fresh : Number
-    fresh = record { payload = p; retries = 0; handed = false; acked = false; timer = 0 }
-
-    not-acked : held w (e .run .taken) ≡ false
-    not-acked = sides (held w (e .run .taken)) refl
-      where
-        sides : (b : Bool) → held w (e .run .taken) ≡ b → b ≡ false
-        sides true z = absurd (let a = was .sending .acked (e .run .taken) z in let c = was .sending .handed in omega arith)
-        sides false z = refl
-
-    new-number : numberFor (now .store) (now .book) i e (e .run .taken) ≡ fresh
+    new-number : numberFor (now .store) (now .book) i e (e .run .taken) ≡ number p 0 false false 0
     new-number =
         rw (
           new-payload,
-          ap (λ (b : List ℕ). retriesIn b at) book ∙ retries-new (n .book) l (g .lines) at (length p) at-low none-waits,
+          ap (λ (b : List ℕ). retriesIn b at) book ∙ put-s .second,
           le-ltb (e .run .taken) (e .run .handed) (was .sending .handed),
-          not-acked,
+          unheld (was .sending) (e .run .taken) (was .sending .handed),
         )
 
     old-number : (k : ℕ) → k < e .run .taken → numberFor (now .store) (now .book) i e k ≡ numberFor (n .store) (n .book) i e k
     old-number k hk =
         let c = cell i w (past w k) in
         let hc = cell-low i low w good (past w k) in
-        rw (
-          old-payload k hk,
-          ap (λ (b : List ℕ). retriesIn b c) book
-              ∙ retries-old (n .book) l (g .lines) at (length p) at-low none-waits c hc (λ z. let y = cell-inj w good i k (e .run .taken) (omega (arith, went .room)) (went .room) z in omega arith),
-          ap (λ (b : List ℕ). timerIn b c) book ∙ timers-old (n .book) l (g .lines) at (length p) at-low none-waits c hc,
-        )
+        let ha = cell-low i low w good (past w (e .run .taken)) in
+        let apart : c ≢ at = (λ z. let y = cell-inj w good i k (e .run .taken) (omega (arith, went .room)) (went .room) z in omega arith) in
+        numbers-same (n .store) (now .store) (n .book) (now .book) i e k (old-payload k hk)
+        (ap (λ (b : List ℕ). retriesIn b c) book ∙ put-s .others (retriesAt c) (omega arith) (λ z. omega arith) (λ z. apart (omega arith)))
+        (ap (λ (b : List ℕ). timerIn b c) book ∙ put-s .others (timerAt c) (omega arith) (λ z. omega arith) (λ z. omega arith))
 
-    numbers : listed (e .run .taken + 1) (numberFor (now .store) (now .book) i e) ≡ listed (e .run .taken) (numberFor (n .store) (n .book) i e) ++ (fresh ∷ [])
+    numbers : listed (e .run .taken + 1) (numberFor (now .store) (now .book) i e)
+        ≡ listed (e .run .taken) (numberFor (n .store) (n .book) i e) ++ (number p 0 false false 0 ∷ [])
     unfolding listed
     numbers =
-        rw (add-one (e .run .taken), listed-ext (e .run .taken) (numberFor (now .store) (now .book) i e) (numberFor (n .store) (n .book) i e) old-number, new-number)
+        rw (
+          add-one (e .run .taken),
+          listed-ext (e .run .taken) (numberFor (now .store) (now .book) i e) (numberFor (n .store) (n .book) i e) old-number,
+          new-number,
+        )
 
     -- its Urgent lies in another slot
     urgent : urgentPayload (now .store) e ≡ urgentPayload (n .store) e
     urgent =
-        rw store
-        (slots-stay t (n .node) (n .book) l g i i (w .size) (slotFor w (nextNumber (e .run))) (e .run .urgent) (n .store) p li li
-        (urgent-low t (n .node) (n .book) l g i li (went .sends)) next-low (urgent-most t (n .node) (n .book) l g i li (went .sends)) (went .most) room
+        rw (went .stored)
+        (slots-stay t (n .node) (n .book) l g i i (w .size) slot (e .run .urgent) (n .store) p li li
+        (urgent-low t (n .node) (n .book) l g i li (went .sends)) slot-fits (urgent-most g li (went .sends)) (went .most) room
         refl (λ z. let y = slot-lt w (nextNumber (e .run)) good in omega arith))
 
-    places : listed (e .entry .window) (placeFor (now .store) (now .book) i e) ≡ listed (e .entry .window) (placeFor (n .store) (n .book) i e)
-    places = listed-ext (e .entry .window) (placeFor (now .store) (now .book) i e) (placeFor (n .store) (n .book) i e) (λ k hk. rw (went .sends))
-
-    here : endAt now i ≡ taking p (endAt n i)
+    here : endAt now i ≡ taking p E
     unfolding endFor sentRun
-    here = ap (endFor (now .store) (now .book) i) end ∙ rw (numbers, places, urgent)
+    here =
+        ap (endFor (now .store) (now .book) i) end
+        ∙ rw (numbers, no-places (now .store) (now .book) i e (went .sends), no-places (n .store) (n .book) i e (went .sends), urgent)
 
     -- what waits: one more, last of the data
-
-    acks-stay : acksIn (now .node) ≡ acksIn (n .node)
-    unfolding after
-    acks-stay = rw (went .is) (saved-acks (n .node) i (e .state) (sentRun (e .run)) .1)
-
-    lists : (q : ℕ) → q < 4 → kept .lists q ≡ added l layout.datas (slotId at) q
-    unfolding after
-    lists =
-        lists-are (now .book) (sentBook (n .book) at (length p)) (kept .lists) (added l layout.datas (slotId at)) book (kept .good .lines)
-        (sent-lines (n .book) l (g .lines) at (length p) at-low none-waits)
 
     window-stays : endOf (now .node) i .run .window ≡ w
     unfolding sentRun
     window-stays = ap (λ (x : EndPoint). x .run .window) end
 
-    items : (xs : List ℕ) → map (slotItem (now .node)) xs ≡ map (slotItem (n .node)) xs
-    items xs = items-stay (n .node) (now .node) xs (λ x m. windows-other i (n .node) (now .node) apart x (λ o. window-stays))
-
-    new-item : slotItem (n .node) (slotId at) ≡ record { entry = i; number = past w (e .run .taken) }
-    new-item =
-        let s = slot-lt w (past w (e .run .taken)) good in
-        let z = size-le (w .size) (good .sized) in
-        rw (id-owner i low w good (e .run .taken), slot-in i w (past w (e .run .taken)) (omega arith), number-at w good (e .run .taken) (went .room))
-
-    long : length (endAt n i .numbers) ≡ e .run .taken
-    unfolding endFor
-    long = length-listed (e .run .taken) (numberFor (n .store) (n .book) i e)
+    acks-stay : acksIn (now .node) ≡ acksIn (n .node)
+    acks-stay = rw (went .is) (saved-acks (n .node) i (e .state) (sentRun (e .run)) .1)
 
     abbrev next : ℕ
-    next = machine.past (endAt n i) (length (endAt n i .numbers))
+    next = machine.past E (length (E .numbers))
 
-    next-is : past w (e .run .taken) ≡ next
+    new-item : slotItem (now .node) (slotId at) ≡ record { entry = i; number = next }
     unfolding endFor
-    next-is = rw long
+    new-item = item-for (now .node) i low w window-stays good (e .run .taken) (went .room) ∙ rw long
 
-    waiting : (q : Sort) → waitingFor (now .node) (kept .lists) q ≡ waits datas i next M .waiting q
-    unfolding waitingFor
-    waiting acks = ap (map ackItem) acks-stay
-    waiting resets = ap (map plainItem) (lists 0 (omega arith))
-    waiting urgents = ap (map plainItem) (lists 1 (omega arith))
-    waiting resends = ap (map (slotItem (now .node))) (lists 2 (omega arith)) ∙ items (l 2)
-    waiting datas =
-        ap (map (slotItem (now .node))) (lists 3 (omega arith)) ∙ items (l 3 ++ (slotId at ∷ [])) ∙ map-append (slotItem (n .node)) (l 3) (slotId at ∷ [])
-        ∙ ap (λ (x : Item). map (slotItem (n .node)) (l 3) ++ (x ∷ [])) (new-item ∙ ap (λ (s : ℕ). record { entry = i; number = s }) next-is)
+    sent-stands : Stands t now (waits datas i next (turned i (taking p E) M))
+    sent-stands =
+        turned-stands g room li left here
+        (waits-more left (window-steady window-stays) acks-stay datas 3 refl book (slotId at ∷ [])
+        (put-s .lines) (rw new-item))
 
-    sent-stands : standsFor t now (kept .lists) ≡ waits datas i next (turned i (taking p (endAt n i)) M)
-    sent-stands = turned-stands t n now l (kept .lists) g room i li apart within stored (taking p (endAt n i)) (waits datas i next M .waiting) here waiting
-
-    passed : Stands t now (waits datas i next (turned i (taking p (endAt n i)) M))
-    unfolding after
-    passed = record { lists = kept .lists; good = kept .good; room = rw (stored-long t n (now .store) i stored) room; is = sent-stands }
-
-  -- ---- the call
-
-  told : answer n (sends i p) ≡ record { numbers = answerOf (sendAnswer (lent n []) i p); out = [] }
-  unfolding answer
-  told = refl
-
-  refused : (v : Refusal) → sendAnswer (lent n []) i p ≡ Refused v → now ≡ n
-  unfolding after sendAfter
-  refused v h = rw h
-
-  abbrev then : Machine
-  then = waits datas i (machine.past (endAt n i) (length (endAt n i .numbers))) (turned i (taking p (endAt n i)) M)
+  -- ---- send, the call
 
   -- the tests are the same: the window in force, how many numbers are taken, the store that is needed
-  module _ (li : i < countIn (n .node)) where
-    abbrev e₀ : EndPoint
-    e₀ = endOf (n .node) i
+  same : i < countIn (n .node) → verdict (sendTests M E p) ≡ verdict (memory.sendTests e (length p) (length (n .store)) (needIn (n .node)))
+  unfolding endFor
+  same li = rw (long, size-is g li, g .tabled .need)
 
-    size-is : e₀ .run .window .size ≡ e₀ .entry .window
-    size-is = end-size t (n .node) (n .book) l g i li ∙ ap (λ (x : Entry). x .window) (sym (end-entry t (n .node) (n .book) l g i li))
+  abbrev then : Machine
+  then = waits datas i (machine.past E (length (E .numbers))) (turned i (taking p E) M)
 
-    abbrev Tests : ℕ → ℕ → ℕ → Verdict
-    Tests size taken need =
-        verdict (senderTests e₀ (length p) ++ (eqb (e₀ .run .accepted .0) 4294967295, RunFull) ∷ (leb size taken, WindowFull) ∷ (ltb (length (n .store)) need, TooShort) ∷ [])
+  pub send-follows : Follows t n M (sends i p)
+  unfolding answer after step sending sendAnswer sendAfter
+  send-follows =
+      follows g room i (memory.sendTests e (length p) (length (n .store)) (needIn (n .node))) (done then) _ refl
+      (λ li. ap (λ (v : Verdict). judged v [] M (done then)) (same li)) (λ w h. (rw h, rw h)) (λ li h. (rw h, sent-stands li h))
 
-    asked : sendAnswer (lent n []) i p ≡ Tests (e₀ .run .window .size) (e₀ .run .taken) (needIn (n .node))
-    unfolding sendAnswer
-    asked = rw (lt-leb (countIn (n .node)) i li)
+  -- ---- Urgent, where it went through
 
-    judges : verdict (sendTests M (endAt n i) p) ≡ Tests (e₀ .entry .window) (length (endAt n i .numbers)) (storeOf t)
-    unfolding endFor
-    judges = refl
+  module _ (li : i < countIn (n .node)) (h : urgentAnswer (lent n []) i p ≡ Passed) where
+    abbrev now-u : Memory
+    now-u = kept (urgentAfter (lent n []) i p (urgentAnswer (lent n []) i p))
 
-    taken-is : length (endAt n i .numbers) ≡ e₀ .run .taken
-    unfolding endFor
-    taken-is = length-listed (e₀ .run .taken) (numberFor (n .store) (n .book) i e₀)
+    abbrev id : ℕ
+    id = layout.urgentId i
 
-    same : verdict (sendTests M (endAt n i) p) ≡ sendAnswer (lent n []) i p
-    same =
-        judges
-        ∙ ap (λ (x : ℕ). Tests x (length (endAt n i .numbers)) (storeOf t)) (sym size-is)
-        ∙ ap (λ (x : ℕ). Tests (e₀ .run .window .size) x (storeOf t)) taken-is
-        ∙ ap (λ (x : ℕ). Tests (e₀ .run .window .size) (e₀ .run .taken) x) (sym (g .tabled .need))
-        ∙ sym asked
+    went-u : UrgentPassed (lent n []) i p e (urgentAfter (lent n []) i p (urgentAnswer (lent n []) i p))
+    went-u = urgent-passed t (lent n []) l i p g h
 
-    stepped : step M (sends i p) ≡ judged (sendAnswer (lent n []) i p) [] M (done then)
-    unfolding step sending
-    stepped = on-some t n l i _ (let c = g .tabled .count in omega arith) ∙ ap (λ (v : Verdict). judged v [] M (done then)) same
+    last-fits : w .size < slotsOf (entryOf t i .kind) (entryOf t i .window)
+    last-fits = urgent-low t (n .node) (n .book) l g i li (went-u .sends)
 
-  no-entry : countIn (n .node) ≤ i → sendAnswer (lent n []) i p ≡ Refused NoEntry
-  unfolding sendAnswer
-  no-entry h = rw (le-leb (countIn (n .node)) i h)
+    left-u : Leaves t n now-u l i
+    left-u = leaves (urgent-keeps t (lent n []) l i p g li) (now-u .store) (put (w .size) p li last-fits (went-u .most) (went-u .stored))
 
-  unknown : countIn (n .node) ≤ i → step M (sends i p) ≡ judged (sendAnswer (lent n []) i p) [] M (done M)
-  unfolding step sending
-  unknown h = on-none t n l i _ (let c = g .tabled .count in omega arith) ∙ ap (λ (v : Verdict). judged v [] M (done M)) (sym (no-entry h))
+    low-u : i < 16
+    low-u = low-at g li
 
-  send-at : Follows t n M (sends i p)
-  send-at = sides (decLt i (countIn (n .node)))
+    was-u : OpenSender (n .book) l i e
+    was-u = stated-at g li true (went-u .sends) Open (went-u .opened)
+
+    book-u : now-u .book ≡ appended (n .book) layout.urgents id
+    book-u = ap (λ (x : Lent). x .book) (went-u .is)
+
+    end-u : endOf (now-u .node) i ≡ turnedTo e (e .state) (urgentRun (e .run) (length p))
+    end-u = went-u .end ∙ ap (λ (s : State). turnedTo e s (urgentRun (e .run) (length p))) (sym (went-u .opened))
+
+    -- it waited nowhere
+    none-waits-u : (q : ℕ) → q < 4 → List·Memᴰ id (l q) → ⊥
+    unfolding Ranged
+    none-waits-u zero hq m = let k = g .known 0 hq id m .1 in omega arith
+    none-waits-u (suc zero) hq m =
+        List·Memᴰ·not-nil (subst (λ (ys : List ℕ). List·Memᴰ id ys) (was-u .share .urgents ∙ rw (eq-eqb (e .run .urgent) 0 (went-u .waits)))
+        (mine-all i id (l 1) m (urgent-owner i low-u)))
+    none-waits-u (suc (suc q)) hq m = let k = g .known (suc (suc q)) hq id m .1 in omega arith
+
+    cells-u : (k : ℕ) → 4224 ≤ k → getD (now-u .book) k 0 ≡ getD (n .book) k 0
+    cells-u k hk =
+        ap (λ (b : List ℕ). getD b k 0) book-u
+        ∙ append-cells (n .book) l (g .lines) layout.urgents id (omega arith) (omega arith) (omega arith) none-waits-u k hk
+
+    payload-u : (k : ℕ) → k < e .run .taken → payloadFor (now-u .store) (now-u .book) i e k ≡ payloadFor (n .store) (n .book) i e k
+    payload-u k hk =
+        rw (went-u .stored)
+        (payload-apart t n l g i li room (w .size) p last-fits (went-u .most) (now-u .book) k
+        (s-filled t (n .node) (n .book) l g i li (went-u .sends) k hk)
+        (λ z. let y = slot-lt w (past w k) (g .entered i li .window) in omega arith)
+        (cells-u (lengthAt (cell i w (past w k))) (omega arith)))
+
+    numbers-u : (k : ℕ) → k < e .run .taken → numberFor (now-u .store) (now-u .book) i e k ≡ numberFor (n .store) (n .book) i e k
+    numbers-u k hk =
+        let c = cell i w (past w k) in
+        numbers-same (n .store) (now-u .store) (n .book) (now-u .book) i e k (payload-u k hk)
+        (cells-u (retriesAt c) (omega arith)) (cells-u (timerAt c) (omega arith))
+
+    urgent-new : take (length p) (drop (spot (e .place) (e .entry .largest) (w .size)) (now-u .store)) ≡ p
+    urgent-new = rw (went-u .stored) (put-read n g room li (w .size) p last-fits (went-u .most))
+
+    here-u : endAt now-u i ≡ urging (some p) E
+    unfolding endFor urgentRun
+    here-u =
+        ap (endFor (now-u .store) (now-u .book) i) end-u
+        ∙ rw (
+          listed-ext (e .run .taken) (numberFor (now-u .store) (now-u .book) i e) (numberFor (n .store) (n .book) i e) numbers-u,
+          no-places (now-u .store) (now-u .book) i e (went-u .sends),
+          no-places (n .store) (n .book) i e (went-u .sends),
+          ne-eqb (length p) 0 (λ z. omega (arith, went-u .some)),
+          urgent-new,
+        )
+
+    -- what waits: one more, last of the Urgents
+
+    window-stays-u : endOf (now-u .node) i .run .window ≡ w
+    unfolding urgentRun
+    window-stays-u = ap (λ (x : EndPoint). x .run .window) end-u
+
+    acks-stay-u : acksIn (now-u .node) ≡ acksIn (n .node)
+    acks-stay-u = rw (went-u .is) (saved-acks (n .node) i (e .state) (urgentRun (e .run) (length p)) .1)
+
+    urged-stands : Stands t now-u (waits urgents i 0 (turned i (urging (some p) E) M))
+    urged-stands =
+        turned-stands g room li left-u here-u
+        (waits-more left-u (window-steady window-stays-u) acks-stay-u urgents 1 refl book-u (id ∷ [])
+        (append-lines (n .book) l (g .lines) layout.urgents id (omega arith) (omega arith) (omega arith) none-waits-u)
+        (rw (urgent-owner i low-u)))
+
+  -- ---- Urgent, the call
+
+  abbrev asks : End → List (Bool × Refusal)
+  asks e = senderTests e p ++ (isSome (e .urgent), UrgentWaits) ∷ tooShort M ∷ []
+
+  -- the tests are the same: an Urgent waits, and the store that is needed
+  same-u : verdict (asks E) ≡ verdict (memory.urgentTests e (length p) (length (n .store)) (needIn (n .node)))
+  unfolding endFor
+  same-u = rw (waits-is (eqb (e .run .urgent) 0), g .tabled .need)
     where
-      sides : Dec (i < countIn (n .node)) → Follows t n M (sends i p)
-      sides (yes li) = follows t n l g room (sends i p) (sendAnswer (lent n []) i p) then told (stepped li) refused (passed li)
-      sides (no o) =
-          follows t n l g room (sends i p) (sendAnswer (lent n []) i p) M told (unknown (omega arith)) refused
-          (λ h. let z : Refused NoEntry ≡ Passed = sym (no-entry (omega arith)) ∙ h in absurd (let y : _≡_ {A = ℕ} 0 1 = cc in omega arith))
+      waits-is : (b : Bool) → isSome (pick b none (some (urgentPayload (n .store) e))) ≡ not b
+      waits-is true = refl
+      waits-is false = refl
 
-pub send-follows : (t : List ℕ) (n : Memory) (m : Machine) → Stands t n m → (i : ℕ) (p : List ℕ) → Follows t n m (sends i p)
-send-follows t n m s i p = subst (λ (m : Machine). Follows t n m (sends i p)) (s .is) (send-at t n (s .lists) (s .good) (s .room) i p)
+  pub urgent-follows : Follows t n M (urges i p)
+  unfolding answer after step urgentSending urgentAnswer urgentAfter
+  urgent-follows =
+      follows g room i (memory.urgentTests e (length p) (length (n .store)) (needIn (n .node)))
+      (done (waits urgents i 0 (turned i (urging (some p) E) M))) _ refl
+      (λ li. ap (λ (v : Verdict). judged v [] M (done (waits urgents i 0 (turned i (urging (some p) E) M)))) same-u)
+      (λ w h. (rw h, rw h)) (λ li h. (rw h, urged-stands li h))

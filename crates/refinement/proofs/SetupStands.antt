@@ -1,56 +1,34 @@
 -- Setup stands for the machine begun. Assumes nothing.
 use Prim.Native.Nat.{ℕ, _≤_, _<_}
 use mathlib.Core.Path.{_≡_, refl, sym, ap, subst, _∙_, fun-ext}
-use mathlib.Core.Bool.{Bool, true, false, not, _&&_}
-use mathlib.Core.Option.{Option, none, some}
-use mathlib.Core.List.{List, [], _∷_, map}
-use native.Mathlib.Omega.{arith}
-use lib.ListN.{length, replicate}
-use borrow.Author.Tests.{ltb-false}
-use Rattle.units.specs.Refusals.{pick, verdict}
-use Rattle.units.specs.declared.refusals.Refusal.the-variants as refusal
+use mathlib.Core.List.{List, [], map}
+use lib.ListN.{length}
 use Rattle.units.specs.declared.refusals.Verdict.the-variants.{Passed}
-use Rattle.units.proofs.Judging.{clear}
-use Rattle.order.specs.Order.{acksIn}
-use Rattle.window.specs.Windows.{newOf, held}
 use Rattle.window.proofs.Resetting.{new-held}
 use Rattle.table.specs.Layout.{countOf, entryOf}
 use Rattle.table.specs.Areas.{storeOf}
-use Rattle.ends.specs.Ends.{endOf}
-use Rattle.ends.specs.States.{isSends}
-use Rattle.ends.specs.Lent.{Lent}
-use Rattle.ends.specs.declared.EndPoint.{EndPoint}
 use Rattle.opening.specs.Setup.{setupAnswer, setupAfter}
-use Rattle.good.specs.Good.{Lists, Good}
 use Rattle.good.specs.Calls.{Memory, kept, SetUp}
 use Rattle.good.proofs.Entering.{closedAt}
 use Rattle.good.proofs.SetupGood.{setup-good, setup-ends}
 use Rattle.good.proofs.ReachGood.{setup-holds}
-use Rattle.machine.specs.Machine.{End, Item, Sort, acks, resets, urgents, resends, datas, Machine, listed, first, begun}
-use Rattle.refinement.specs.Standing.{payloadFor, placeFor, endFor, endAt, ackItem, waitingFor, standsFor, Stands, SetupAnswers, Begins}
+use Rattle.machine.specs.Machine.{Sort, acks, resets, urgents, resends, datas, listed, first, begun}
+use Rattle.refinement.specs.Standing.{endFor, endAt, ackItem, waitingFor, standsFor, Stands, Begins, SetupAnswers}
 use Rattle.refinement.proofs.Listing.{listed-ext}
-use Rattle.refinement.proofs.Following.{listed-replicate}
-
-closed-place : (t st b : List ℕ) (i k : ℕ) → placeFor st b i (closedAt t i) k ≡ none
-closed-place t st b i k = sides (not (isSends (entryOf t i .kind))) (new-held (entryOf t i .window) k)
-  where
-    p : List ℕ
-    p = payloadFor st b i (closedAt t i) k
-
-    sides : (z : Bool) → held (newOf (entryOf t i .window)) k ≡ false → pick (z && held (newOf (entryOf t i .window)) k) (some p) none ≡ none
-    sides true h = rw h
-    sides false h = refl
+use Rattle.refinement.proofs.Elsewhere.{none-held}
 
 closed-end : (t st b : List ℕ) (i : ℕ) → endFor st b i (closedAt t i) ≡ first (entryOf t i)
 unfolding endFor listed
-closed-end t st b i = rw (listed-replicate (entryOf t i .window) (placeFor st b i (closedAt t i)) none (closed-place t st b i))
+closed-end t st b i = rw (none-held st b i (closedAt t i) (new-held (entryOf t i .window)))
 
 module _ (t : List ℕ) (n : Memory) (s : SetUp t n) where
   abbrev done : Memory
   done = kept (setupAfter (s .before) t Passed)
 
   ends : (i : ℕ) → i < countOf t → endAt done i ≡ first (entryOf t i)
-  ends i h = ap (endFor (done .store) (done .book) i) (setup-ends (s .before) t (s .node) (s .bytes) (s .passed) .0 i h) ∙ closed-end t (done .store) (done .book) i
+  ends i h =
+      ap (endFor (done .store) (done .book) i) (setup-ends (s .before) t (s .node) (s .bytes) (s .passed) .0 i h)
+      ∙ closed-end t (done .store) (done .book) i
 
   none-waits : (q : Sort) → waitingFor (done .node) (λ r. []) q ≡ []
   unfolding waitingFor

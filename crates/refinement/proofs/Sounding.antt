@@ -129,7 +129,7 @@ module _ (t : List ℕ) (n : Memory) (l : Lists) (g : Good t (n .node) (n .book)
       where
         sides : (s : Bool) → isSends (e .entry .kind) ≡ s → (k : ℕ) × (k < e .run .taken) × (x ≡ numberFor (n .store) (n .book) i e k) → Sized (e .entry) (x .payload)
         sides true s (k, h, q) = rw q (filled-sized k (s-filled t (n .node) (n .book) l g i li s k h))
-        sides false s (k, h, q) = absurd (omega (arith, h, none-taken t (n .node) (n .book) l g i li s))
+        sides false s (k, h, q) = absurd (omega (arith, h, none-taken g li s))
 
     held-sized : (p : List ℕ) → List·Memᴰ (some p) (endAt n i .places) → Sized (e .entry) p
     unfolding endFor
@@ -147,18 +147,18 @@ module _ (t : List ℕ) (n : Memory) (l : Lists) (g : Good t (n .node) (n .book)
       where
         sides : (s : Bool) → isSends (e .entry .kind) ≡ s → (eqb (e .run .urgent) 0 ≡ false) × (p ≡ urgentPayload (n .store) e) → Sized (e .entry) p
         sides true s (z, q) =
-            let most = urgent-most t (n .node) (n .book) l g i li s in
+            let most = urgent-most g li s in
             let long : length (urgentPayload (n .store) e) ≡ e .run .urgent =
             length-take-le (e .run .urgent) _ (slot-long (w .size) (e .run .urgent) (urgent-low t (n .node) (n .book) l g i li s) most) in
             let some : 1 ≤ e .run .urgent = let d = eqb-false (e .run .urgent) 0 z in omega (arith, d) in
             rw q (record { some = omega (arith, long, some); most = omega (arith, long, most) })
-        sides false s (z, q) = absurd (eqb-false (e .run .urgent) 0 z (no-urgent t (n .node) (n .book) l g i li s))
+        sides false s (z, q) = absurd (eqb-false (e .run .urgent) 0 z (no-urgent g li s))
 
     receiver-still : isSends (e .entry .kind) ≡ false → Receives (endAt n i)
     unfolding endFor listed
     receiver-still s =
         record {
-          numbers = ap (λ (k : ℕ). listed k (numberFor (n .store) (n .book) i e)) (none-taken t (n .node) (n .book) l g i li s);
+          numbers = ap (λ (k : ℕ). listed k (numberFor (n .store) (n .book) i e)) (none-taken g li s);
           runs = λ k h. stated-as (n .book) l i e (g .entered i li) false s (Failing k) h;
         }
 
@@ -167,7 +167,7 @@ module _ (t : List ℕ) (n : Memory) (l : Lists) (g : Good t (n .node) (n .book)
       where
         sides : (s : Bool) → isSends (e .entry .kind) ≡ s → e .run .taken ≤ entryOf t i .window
         sides true s = let z = s-narrow t (n .node) (n .book) l g i li s in let y = end-size t (n .node) (n .book) l g i li in omega arith
-        sides false s = let z = none-taken t (n .node) (n .book) l g i li s in omega arith
+        sides false s = let z = none-taken g li s in omega arith
 
     bounds : Bounded (entryOf t i) (endAt n i)
     unfolding endFor

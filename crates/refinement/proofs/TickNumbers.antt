@@ -1,5 +1,5 @@
--- A tick over a sender's numbers, in the machine and in the book: as far as it has come, which timers fell, which were tried again, and
--- whether the end is Failing. Assumes nothing.
+-- A tick over a sender's numbers, in the machine and in the book: as far as it has come, which timers fell, which were
+-- tried again, and whether the end is Failing. Assumes nothing.
 use Prim.Native.Nat.{ℕ, zero, suc, _+_, _-_, _≤_, _<_}
 use mathlib.Core.Path.{_≡_, refl, sym, ap, subst, _∙_, fun-ext}
 use mathlib.Core.Logic.{_≢_}
@@ -7,30 +7,32 @@ use mathlib.Core.Bool.{Bool, true, false, not, _&&_, _||_}
 use mathlib.Core.List.{List, [], _∷_, _++_, append-nil, append-assoc, List·Memᴰ}
 use native.Mathlib.Decide.{decLt, ℕ-discrete}
 use native.Mathlib.Omega.{arith}
-use lib.ListN.{length, getD, set, take, drop, length-set}
+use lib.ListN.{length, getD, set}
 use lib.Seq.{getD-set-same, getD-set-other}
 use lib.Dec.{eqb, leb, ltb}
-use borrow.Author.Tests.{eq-eqb, ne-eqb, lt-ltb, le-ltb, le-leb, lt-leb, eqb-true, eqb-false, ltb-true, ltb-false}
+use borrow.Author.Tests.{lt-ltb, le-ltb, le-leb, lt-leb, eqb-true, ltb-true, ltb-false}
 use Rattle.units.specs.Refusals.{pick}
 use Rattle.memory.specs.Layout as layout
 use Rattle.memory.specs.Layout.{timerAt, retriesAt, slotId}
 use Rattle.waiting.specs.Queues.{appended}
-use Rattle.window.specs.Windows.{held, Good as GoodWindow}
+use Rattle.window.specs.Windows.{Good as GoodWindow}
 use Rattle.window.specs.declared.Window.{Window}
+use Rattle.ends.specs.declared.State.{State}
+use Rattle.ends.specs.declared.Run.{Run}
 use Rattle.ends.specs.declared.EndPoint.{EndPoint}
-use Rattle.slots.specs.Slots.{slotFor, cell, spot, past, timerIn, retriesIn, idled}
-use Rattle.ticking.specs.Ticking as memory
-use Rattle.ticking.specs.Ticking.{Ticked, expired, tickCell, tickSlot, tickSlots}
-use Rattle.good.specs.Good.{Lists, Lines, OpenSender, Sending, Good, idAt}
-use Rattle.good.proofs.Lined.{added, append-cells, append-lines, set-lines}
+use Rattle.slots.specs.Slots.{cell, past, timerIn, retriesIn, idled}
+use Rattle.ticking.specs.Ticking.{Ticked, expired, tickSlot, tickSlots}
+use Rattle.good.specs.Good.{Lists, Lines, OpenSender, idAt}
+use Rattle.good.proofs.Turns.{turnedTo}
+use Rattle.good.proofs.Lined.{added, set-lines}
 use Rattle.good.proofs.Offsets.{id-high, cell-inj}
 use Rattle.good.proofs.Framing.{cell-low}
 use Rattle.good.proofs.Idling.{idle}
 use Rattle.good.proofs.TickSlots.{Lives, runs-alone, Slots, slots-first}
 use Rattle.machine.specs.Machine.{Number, listed, isSpent, fallen, tickedAll, anySpent}
 use Rattle.refinement.specs.Standing.{payloadFor, numberFor}
-use Rattle.refinement.proofs.Listing.{listed-ext}
-use Rattle.refinement.proofs.Following.{lists-are}
+use Rattle.refinement.proofs.Listing.{beyond, listed-ext, Put, put-both}
+use Rattle.refinement.proofs.Waiting.{lists-are}
 
 -- ---- the machine's, from the front and from the back
 
@@ -44,14 +46,19 @@ unfolding flag
 flag-snoc M a [] x = refl
 flag-snoc M a (y ∷ ys) x = flag-snoc M (a && not (isSpent M y)) ys x
 
-ticked-snoc : (M : ℕ) (a : Bool) (xs : List Number) (x : Number) → tickedAll M a (xs ++ (x ∷ [])) ≡ tickedAll M a xs ++ (fallen (flag M a xs && not (isSpent M x)) x ∷ [])
+ticked-snoc : (M : ℕ) (a : Bool) (xs : List Number) (x : Number)
+    → tickedAll M a (xs ++ (x ∷ [])) ≡ tickedAll M a xs ++ (fallen (flag M a xs && not (isSpent M x)) x ∷ [])
 unfolding flag tickedAll
 ticked-snoc M a [] x = refl
 ticked-snoc M a (y ∷ ys) x = ap (λ (l : List Number). fallen (a && not (isSpent M y)) y ∷ l) (ticked-snoc M (a && not (isSpent M y)) ys x)
 
-pub and-false : (a : Bool) → (a && false) ≡ false
+and-false : (a : Bool) → (a && false) ≡ false
 and-false true = refl
 and-false false = refl
+
+and-true : (a : Bool) → (a && true) ≡ a
+and-true true = refl
+and-true false = refl
 
 pub flag-spent : (M : ℕ) (a : Bool) (xs : List Number) → flag M a xs ≡ (a && not (anySpent M xs))
 unfolding flag anySpent
@@ -81,7 +88,8 @@ module _ (M : ℕ) (a : Bool) (N : ℕ → Number) where
 
 -- ---- the book's, as far as it has come
 
-module _ (st b : List ℕ) (l : Lists) (L : Lines b l) (i : ℕ) (low : i < 16) (e : EndPoint) (g : GoodWindow (e .run .window)) (f : Bool) (lives : Lives f b l i e) (wide : e .run .handed ≤ e .run .window .size) where
+module _ (st b : List ℕ) (l : Lists) (L : Lines b l) (i : ℕ) (low : i < 16) (e : EndPoint)
+    (g : GoodWindow (e .run .window)) (f : Bool) (lives : Lives f b l i e) (wide : e .run .handed ≤ e .run .window .size) where
   abbrev w : Window
   w = e .run .window
 
@@ -112,18 +120,34 @@ module _ (st b : List ℕ) (l : Lists) (L : Lines b l) (i : ℕ) (low : i < 16) 
     pub failing : t .failing ≡ not (good-to k)
     pub fell : (j : ℕ) → j < k → timerIn (t .book) (at j) ≡ timerIn b (at j) - 1
     pub stands : (j : ℕ) → k ≤ j → j < w .size → timerIn (t .book) (at j) ≡ timerIn b (at j)
-    pub tried : (j : ℕ) → j < k → retriesIn (t .book) (at j) ≡ pick (good-to (suc j) && eqb (timerIn b (at j)) 1) (retriesIn b (at j) + 1) (retriesIn b (at j))
+    pub tried : (j : ℕ) → j < k
+        → retriesIn (t .book) (at j) ≡ pick (good-to (suc j) && eqb (timerIn b (at j)) 1) (retriesIn b (at j) + 1) (retriesIn b (at j))
     pub untried : (j : ℕ) → k ≤ j → j < w .size → retriesIn (t .book) (at j) ≡ retriesIn b (at j)
     pub queued : good-to k ≡ true → Lines (t .book) (λ r. pick (eqb r layout.resends) (l r ++ again k) (l r))
 
   -- ---- one number further
 
-  module _ (k : ℕ) (hk : k < e .run .handed) (t : Ticked) (C : Come k t) where
+  module _ (k : ℕ) (hk : k < e .run .handed) (C : Come k (turns k)) where
+    abbrev t : Ticked
+    t = turns k
+
     abbrev v : ℕ
     v = timerIn b (at k)
 
     abbrev r : ℕ
     r = retriesIn b (at k)
+
+    abbrev Next : Ticked → Type 0
+    Next t′ = Come (suc k) t′
+
+    abbrev come-to : List ℕ → Bool → ℕ → Ticked
+    come-to b′ f′ x = record { book = b′; failing = f′; running = x }
+
+    S : Slots i low e g b l k t
+    S = slots k (omega arith)
+
+    long : length (t .book) ≡ 10368
+    long = S .within .lines .long
 
     inside : k < w .size
     inside = omega arith
@@ -151,7 +175,7 @@ module _ (st b : List ℕ) (l : Lists) (L : Lines b l) (i : ℕ) (low : i < 16) 
       others : (j : ℕ) → j < w .size → j ≢ k → retriesIn b′ (at j) ≡ retriesIn (t .book) (at j)
 
     further : (t′ : Ticked) → t′ .failing ≡ not (good-to (suc k)) → Moved (t′ .book)
-        → (good-to (suc k) ≡ true → Lines (t′ .book) (λ r. pick (eqb r layout.resends) (l r ++ again (suc k)) (l r))) → Come (suc k) t′
+        → (good-to (suc k) ≡ true → Lines (t′ .book) (λ r. pick (eqb r layout.resends) (l r ++ again (suc k)) (l r))) → Next t′
     further t′ fails m q =
         record {
           failing = fails;
@@ -166,7 +190,8 @@ module _ (st b : List ℕ) (l : Lists) (L : Lines b l) (i : ℕ) (low : i < 16) 
         fell j h (yes z) = rw z (m .timer)
         fell j h (no z) = m .timers j (omega arith) z ∙ C .fell j (omega arith)
 
-        tried : (j : ℕ) → j < suc k → Dec (j ≡ k) → retriesIn (t′ .book) (at j) ≡ pick (good-to (suc j) && eqb (timerIn b (at j)) 1) (retriesIn b (at j) + 1) (retriesIn b (at j))
+        tried : (j : ℕ) → j < suc k → Dec (j ≡ k)
+            → retriesIn (t′ .book) (at j) ≡ pick (good-to (suc j) && eqb (timerIn b (at j)) 1) (retriesIn b (at j) + 1) (retriesIn b (at j))
         tried j h (yes z) = rw z (m .retries)
         tried j h (no z) = m .others j (omega arith) z ∙ C .tried j (omega arith)
 
@@ -174,135 +199,105 @@ module _ (st b : List ℕ) (l : Lists) (L : Lines b l) (i : ℕ) (low : i < 16) 
     quiet : eqb v 1 ≡ false → (good-to (suc k) ≡ good-to k) × (again (suc k) ≡ again k) × (pick (good-to (suc k) && eqb v 1) (r + 1) r ≡ r)
     unfolding again
     quiet z = (on-next ∙ rw z (and-true (good-to k)), rw z, rw z (ap (λ (y : Bool). pick y (r + 1) r) (and-false (good-to (suc k)))))
-      where
-        and-true : (a : Bool) → (a && true) ≡ a
-        and-true true = refl
-        and-true false = refl
 
     -- a timer put anew, and nothing else
-    timer-moved : (c : List ℕ) → ((x : ℕ) → 4224 ≤ x → getD c x 0 ≡ getD (t .book) x 0) → length c ≡ 10368 → (y : ℕ) → y ≡ v - 1 → pick (good-to (suc k) && eqb v 1) (r + 1) r ≡ r
-        → Moved (set c (timerAt (at k)) y)
-    timer-moved c same long y is none =
+    timer-moved : (c : List ℕ) → ((x : ℕ) → 4224 ≤ x → getD c x 0 ≡ getD (t .book) x 0) → length c ≡ 10368 → (y : ℕ) → y ≡ v - 1
+        → pick (good-to (suc k) && eqb v 1) (r + 1) r ≡ r → Moved (set c (timerAt (at k)) y)
+    timer-moved c same c-long y is none =
         record {
           timer = getD-set-same c (timerAt (at k)) y 0 (let z = at-small k in omega arith) ∙ is;
-          timers = λ j h d. getD-set-other c (timerAt (at k)) (timerAt (at j)) y 0 (λ z. other j h d (omega arith)) ∙ same (timerAt (at j)) (omega arith);
-          retries = getD-set-other c (timerAt (at k)) (retriesAt (at k)) y 0 (λ z. let u = at-small k in omega arith) ∙ same (retriesAt (at k)) (omega arith) ∙ r-here ∙ sym none;
-          others = λ j h d. getD-set-other c (timerAt (at k)) (retriesAt (at j)) y 0 (λ z. let u = at-small k in omega arith) ∙ same (retriesAt (at j)) (omega arith);
+          timers = λ j h d. getD-set-other c (timerAt (at k)) (timerAt (at j)) y 0 (λ z. other j h d (omega arith))
+              ∙ same (timerAt (at j)) (omega arith);
+          retries = far k ∙ r-here ∙ sym none;
+          others = λ j h d. far j;
         }
-
-  module _ (k : ℕ) (hk : k < e .run .handed) (C : Come k (turns k)) where
-    abbrev t : Ticked
-    t = turns k
-
-    S : Slots i low e g b l k t
-    S = slots k (omega arith)
-
-    long : length (t .book) ≡ 10368
-    long = S .within .lines .long
-
-    abbrev v₁ : ℕ
-    v₁ = timerIn b (at k)
-
-    abbrev r₁ : ℕ
-    r₁ = retriesIn b (at k)
-
-    abbrev Next : Ticked → Type 0
-    Next t′ = Come (suc k) t′
+      where
+        far : (j : ℕ) → retriesIn (set c (timerAt (at k)) y) (at j) ≡ retriesIn (t .book) (at j)
+        far j =
+            getD-set-other c (timerAt (at k)) (retriesAt (at j)) y 0 (λ z. let u = at-small k in omega arith)
+            ∙ same (retriesAt (at j)) (omega arith)
 
     -- it does not run
-    rests : v₁ ≡ 0 → Next t
+    rests : v ≡ 0 → Next t
     rests z =
-        let q = quiet k hk t C (rw z refl) in
-        further k hk t C t (C .failing ∙ ap not (sym (q .0)))
-        (record {
-          timer = here k hk t C ∙ (let u : v₁ ≡ v₁ - 1 = omega arith in u);
-          timers = λ j h d. refl;
-          retries = r-here k hk t C ∙ sym (q .2);
-          others = λ j h d. refl;
-        })
+        let q = quiet (rw z refl) in
+        let y : v ≡ v - 1 = omega arith in
+        further t (C .failing ∙ ap not (sym (q .0)))
+        (record { timer = here ∙ y; timers = λ j h d. refl; retries = r-here ∙ sym (q .2); others = λ j h d. refl })
         (λ y. rw (q .1) (C .queued (sym (q .0) ∙ y)))
 
     -- it runs on
-    runs : eqb v₁ 1 ≡ false → (x : ℕ) → Next (record { book = set (t .book) (timerAt (at k)) (timerIn (t .book) (at k) - 1); failing = t .failing; running = x })
+    runs : eqb v 1 ≡ false → (x : ℕ) → Next (come-to (set (t .book) (timerAt (at k)) (timerIn (t .book) (at k) - 1)) (t .failing) x)
     runs z x =
-        let q = quiet k hk t C z in
-        further k hk t C (record { book = set (t .book) (timerAt (at k)) (timerIn (t .book) (at k) - 1); failing = t .failing; running = x }) (C .failing ∙ ap not (sym (q .0)))
-        (timer-moved k hk t C (t .book) (λ y h. refl) long (timerIn (t .book) (at k) - 1) (ap (λ (y : ℕ). y - 1) (here k hk t C)) (q .2))
-        (λ y. rw (q .1) (set-lines (t .book) _ (C .queued (sym (q .0) ∙ y)) (timerAt (at k)) (timerIn (t .book) (at k) - 1) (omega arith)))
+        let q = quiet z in
+        let y = timerIn (t .book) (at k) - 1 in
+        further (come-to (set (t .book) (timerAt (at k)) y) (t .failing) x) (C .failing ∙ ap not (sym (q .0)))
+        (timer-moved (t .book) (λ y h. refl) long y (ap (λ (y : ℕ). y - 1) here) (q .2))
+        (λ u. rw (q .1) (set-lines (t .book) _ (C .queued (sym (q .0) ∙ u)) (timerAt (at k)) y (omega arith)))
 
-    -- it comes to zero at an end that is Failing: nothing is tried again
-    ends : v₁ ≡ 1 → good-to k ≡ false → (x : ℕ) → Next (record { book = set (t .book) (timerAt (at k)) 0; failing = true; running = x })
-    ends z y x =
-        let o : good-to (suc k) ≡ false = on-next k hk t C ∙ rw y in
-        further k hk t C (record { book = set (t .book) (timerAt (at k)) 0; failing = true; running = x }) (sym (rw o))
-        (timer-moved k hk t C (t .book) (λ u h. refl) long 0 (let u : 0 ≡ v₁ - 1 = omega arith in u) (rw o))
+    -- it comes to zero, and the end is Failing then: nothing is tried again, in a book c that differs in links at most
+    fails : v ≡ 1 → good-to (suc k) ≡ false → (c : List ℕ) → ((x : ℕ) → 4224 ≤ x → getD c x 0 ≡ getD (t .book) x 0)
+        → length c ≡ 10368 → (x : ℕ)
+        → Next (come-to (set c (timerAt (at k)) 0) true x)
+    fails z o c same c-long x =
+        let y : 0 ≡ v - 1 = omega arith in
+        further (come-to (set c (timerAt (at k)) 0) true x) (sym (rw o)) (timer-moved c same c-long 0 y (rw o))
         (λ u. absurd (let p : _≡_ {A = ℕ} 0 1 = cc in omega arith))
 
-    -- at one that is not: tried again
-    o-open : t .failing ≡ false → OpenSender (t .book) (S .lists) i e
-    o-open z = subst (λ (y : Bool). Lives y (t .book) (S .lists) i e) z (S .lives)
+    -- at an end that is not: tried again
+    open-now : good-to k ≡ true → OpenSender (t .book) (S .lists) i e
+    open-now y = let z : t .failing ≡ false = C .failing ∙ rw y in subst (λ (f : Bool). Lives f (t .book) (S .lists) i e) z (S .lives)
 
-    alone : t .failing ≡ false → v₁ ≡ 1 → (q : ℕ) → q < 4 → List·Memᴰ (idAt i w k) (S .lists q) → ⊥
-    alone z y = runs-alone i low e g (t .book) (S .lists) (o-open z) k hk (λ u. let p = here k hk t C in omega arith)
-
-    fails-not : good-to k ≡ true → t .failing ≡ false
-    fails-not y = C .failing ∙ rw y
-
-    spends-not : leb M r₁ ≡ false → good-to k ≡ true → good-to (suc k) ≡ true
-    spends-not z y = on-next k hk t C ∙ rw (y, z) (ap not (and-false (eqb v₁ 1)))
+    abbrev timer-book : List ℕ
+    timer-book = set (t .book) (timerAt (at k)) 0
 
     abbrev tried-book : List ℕ
-    tried-book = set (set (t .book) (timerAt (at k)) 0) (retriesAt (at k)) (retriesIn (t .book) (at k) + 1)
+    tried-book = set timer-book (retriesAt (at k)) (retriesIn (t .book) (at k) + 1)
 
-    tries : v₁ ≡ 1 → good-to k ≡ true → leb M r₁ ≡ false → (x : ℕ) → Next (record { book = appended tried-book layout.resends (slotId (at k)); failing = false; running = x })
+    tries : v ≡ 1 → good-to k ≡ true → leb M r ≡ false → (x : ℕ)
+        → Next (come-to (appended tried-book layout.resends (slotId (at k))) false x)
     unfolding again
     tries z y u x =
-        let o = spends-not u y in
-        further k hk t C (record { book = appended tried-book layout.resends (slotId (at k)); failing = false; running = x }) (sym (rw o))
+        let o : good-to (suc k) ≡ true = on-next ∙ rw (y, u) (ap not (and-false (eqb v 1))) in
+        let q : 0 ≡ v - 1 = omega arith in
+        let s = at-small k in
+        further (come-to (appended tried-book layout.resends (slotId (at k))) false x) (sym (rw o))
         (record {
-          timer = cells (timerAt (at k)) (omega arith) ∙ getD-set-other (set (t .book) (timerAt (at k)) 0) (retriesAt (at k)) (timerAt (at k)) _ 0 (λ p. let a = at-small k hk t C k in omega arith)
-              ∙ getD-set-same (t .book) (timerAt (at k)) 0 0 (let a = at-small k hk t C k in omega (arith, long)) ∙ (let a : 0 ≡ v₁ - 1 = omega arith in a);
-          timers = λ j h d. cells (timerAt (at j)) (omega arith) ∙ getD-set-other (set (t .book) (timerAt (at k)) 0) (retriesAt (at k)) (timerAt (at j)) _ 0 (λ p. let a = at-small k hk t C j in omega arith)
-              ∙ getD-set-other (t .book) (timerAt (at k)) (timerAt (at j)) 0 0 (λ p. other k hk t C j h d (omega arith));
-          retries = cells (retriesAt (at k)) (omega arith) ∙ getD-set-same (set (t .book) (timerAt (at k)) 0) (retriesAt (at k)) _ 0 (let a = at-small k hk t C k in omega (arith, long, length-set (t .book) (timerAt (at k)) 0))
-              ∙ ap (λ (a : ℕ). a + 1) (r-here k hk t C) ∙ sym (rw (o, z));
-          others = λ j h d. cells (retriesAt (at j)) (omega arith) ∙ getD-set-other (set (t .book) (timerAt (at k)) 0) (retriesAt (at k)) (retriesAt (at j)) _ 0 (λ p. other k hk t C j h d (omega arith))
-              ∙ getD-set-other (t .book) (timerAt (at k)) (retriesAt (at j)) 0 0 (λ p. let a = at-small k hk t C k in omega arith);
+          timer = P .first ∙ q;
+          timers = λ j h d. let a = at-small j in P .others (timerAt (at j)) (omega arith)
+              (λ p. other j h d (omega arith)) (λ p. omega arith);
+          retries = P .second ∙ ap (λ (a : ℕ). a + 1) r-here ∙ sym (rw (o, z));
+          others = λ j h d. P .others (retriesAt (at j)) (omega arith) (λ p. omega arith) (λ p. other j h d (omega arith));
         })
-        (λ p. rw z (subst (Lines (appended tried-book layout.resends (slotId (at k)))) (fun-ext joins)
-        (append-lines tried-book mine-lists put-lines layout.resends (slotId (at k)) (omega arith) (omega arith) (id-high i low w g k) none)))
+        (λ p. rw z (subst (Lines (appended tried-book layout.resends (slotId (at k)))) (fun-ext joins) (P .lines)))
       where
-        mine-lists : Lists
-        mine-lists = λ r. pick (eqb r layout.resends) (l r ++ again k) (l r)
+        so-far : Lists
+        so-far = λ r. pick (eqb r layout.resends) (l r ++ again k) (l r)
 
-        old-lines : Lines (t .book) mine-lists
-        old-lines = C .queued y
+        none : (q : ℕ) → q < 4 → List·Memᴰ (slotId (at k)) (so-far q) → ⊥
+        none q h m =
+            runs-alone i low e g (t .book) (S .lists) (open-now y) k hk (λ u. omega (arith, here)) q h
+            (subst (λ (xs : List ℕ). List·Memᴰ (slotId (at k)) xs) (lists-are refl (C .queued y) (S .within .lines) q h) m)
 
-        put-lines : Lines tried-book mine-lists
-        put-lines = set-lines (set (t .book) (timerAt (at k)) 0) mine-lists (set-lines (t .book) mine-lists old-lines (timerAt (at k)) 0 (omega arith)) (retriesAt (at k)) _ (omega arith)
+        r′ : ℕ
+        r′ = retriesIn (t .book) (at k) + 1
 
-        none : (q : ℕ) → q < 4 → List·Memᴰ (slotId (at k)) (mine-lists q) → ⊥
-        none q h m = alone (fails-not y) z q h (subst (λ (xs : List ℕ). List·Memᴰ (slotId (at k)) xs) (lists-are (t .book) (t .book) mine-lists (S .lists) refl old-lines (S .within .lines) q h) m)
+        P : Put (t .book) (appended tried-book layout.resends (slotId (at k))) so-far (timerAt (at k)) 0
+            (retriesAt (at k)) r′ 2 (slotId (at k))
+        P =
+            let s = at-small k in
+            put-both (C .queued y) (timerAt (at k)) 0 (retriesAt (at k)) r′ 2 (slotId (at k)) (omega arith)
+            (omega arith) (omega arith) (omega arith)
+            (omega arith) (id-high i low w g k) none
 
-        cells : (c : ℕ) → 4224 ≤ c → getD (appended tried-book layout.resends (slotId (at k))) c 0 ≡ getD tried-book c 0
-        cells = append-cells tried-book mine-lists put-lines layout.resends (slotId (at k)) (omega arith) (omega arith) (id-high i low w g k) none
-
-        joins : (q : ℕ) → added mine-lists layout.resends (slotId (at k)) q ≡ pick (eqb q layout.resends) (l q ++ (again k ++ (idAt i w k ∷ []))) (l q)
+        joins : (q : ℕ) → added so-far layout.resends (slotId (at k)) q
+            ≡ pick (eqb q layout.resends) (l q ++ (again k ++ (idAt i w k ∷ []))) (l q)
         joins q = sides (eqb q layout.resends)
           where
-            sides : (a : Bool) → pick a (pick a (l q ++ again k) (l q) ++ (slotId (at k) ∷ [])) (pick a (l q ++ again k) (l q)) ≡ pick a (l q ++ (again k ++ (idAt i w k ∷ []))) (l q)
+            sides : (a : Bool) → pick a (pick a (l q ++ again k) (l q) ++ (slotId (at k) ∷ [])) (pick a (l q ++ again k) (l q))
+                ≡ pick a (l q ++ (again k ++ (idAt i w k ∷ []))) (l q)
             sides true = append-assoc (l q) (again k) (slotId (at k) ∷ [])
             sides false = refl
-
-    -- or spent: the end is Failing, and what of it waits goes
-    spends : v₁ ≡ 1 → good-to k ≡ true → leb M r₁ ≡ true → (x : ℕ)
-        → Next (record { book = set (idled i w (e .run .handed) (e .run .taken) (e .run .urgent) (t .book)) (timerAt (at k)) 0; failing = true; running = x })
-    spends z y u x =
-        let o : good-to (suc k) ≡ false = on-next k hk t C ∙ rw (y, u, z) in
-        let I = idle (t .book) (S .lists) i low (S .within .lines) e g (o-open (fails-not y)) in
-        further k hk t C (record { book = set (idled i w (e .run .handed) (e .run .taken) (e .run .urgent) (t .book)) (timerAt (at k)) 0; failing = true; running = x }) (sym (rw o))
-        (timer-moved k hk t C (idled i w (e .run .handed) (e .run .taken) (e .run .urgent) (t .book)) (I .cells) (I .within .lines .long) 0 (let a : 0 ≡ v₁ - 1 = omega arith in a) (rw o))
-        (λ p. absurd (let a : _≡_ {A = ℕ} 0 1 = cc in omega arith))
 
     -- all of them
     not-flips : (a c : Bool) → a ≡ not c → c ≡ not a
@@ -314,24 +309,31 @@ module _ (st b : List ℕ) (l : Lists) (L : Lines b l) (i : ℕ) (low : i < 16) 
     abbrev n₁ : ℕ
     n₁ = timerIn (t .book) (at k)
 
-    v-is : (y : ℕ) → eqb n₁ y ≡ true → v₁ ≡ y
-    v-is y h = sym (here k hk t C) ∙ eqb-true n₁ y h
+    abbrev r₁ : ℕ
+    r₁ = retriesIn (t .book) (at k)
 
-    by-end : v₁ ≡ 1 → (a : Bool) → t .failing ≡ a → (c : Bool) → ltb (retriesIn (t .book) (at k)) M ≡ c
-        → Next (pick a (record { book = set (t .book) (timerAt (at k)) 0; failing = true; running = t .running })
-        (pick c (record { book = appended tried-book layout.resends (slotId (at k)); failing = false; running = t .running })
-        (record { book = set (idled i w (e .run .handed) (e .run .taken) (e .run .urgent) (t .book)) (timerAt (at k)) 0; failing = true; running = t .running })))
-    by-end z true h c q = ends z (not-flips true (good-to k) (sym h ∙ C .failing)) (t .running)
-    by-end z false h true q =
-        tries z (not-flips false (good-to k) (sym h ∙ C .failing)) (lt-leb M r₁ (let y = ltb-true (retriesIn (t .book) (at k)) M q in let u = r-here k hk t C in omega arith)) (t .running)
+    good-is : (a : Bool) → t .failing ≡ a → good-to k ≡ not a
+    good-is a h = not-flips a (good-to k) (sym h ∙ C .failing)
+
+    -- Failing before; tried again; or spent, so that the end is Failing and what of it waits goes
+    by-end : v ≡ 1 → (a : Bool) → t .failing ≡ a → (c : Bool) → ltb r₁ M ≡ c
+        → Next (pick a (come-to timer-book true (t .running))
+        (pick c (come-to (appended tried-book layout.resends (slotId (at k))) false (t .running))
+        (come-to (set (idled i w (e .run .handed) (e .run .taken) (e .run .urgent) (t .book)) (timerAt (at k)) 0) true (t .running))))
+    by-end z true h c q = fails z (on-next ∙ rw (good-is true h)) (t .book) (λ u h. refl) long (t .running)
+    by-end z false h true q = tries z (good-is false h) (lt-leb M r (let y = ltb-true r₁ M q in let u = r-here in omega arith)) (t .running)
     by-end z false h false q =
-        spends z (not-flips false (good-to k) (sym h ∙ C .failing)) (le-leb M r₁ (let y = ltb-false (retriesIn (t .book) (at k)) M q in let u = r-here k hk t C in omega arith)) (t .running)
+        let y = ltb-false r₁ M q in
+        let s : leb M r ≡ true = le-leb M r (omega (arith, r-here)) in
+        let I = idle (t .book) (S .lists) i low (S .within .lines) e g (open-now (good-is false h)) in
+        fails z (on-next ∙ rw (good-is false h, s, z))
+        (idled i w (e .run .handed) (e .run .taken) (e .run .urgent) (t .book)) (I .cells) (I .within .lines .long) (t .running)
 
     by-timer : (a : Bool) → eqb n₁ 0 ≡ a → (c : Bool) → eqb n₁ 1 ≡ c
-        → Next (pick a t (pick c (expired i e (at k) t) (record { book = set (t .book) (timerAt (at k)) (n₁ - 1); failing = t .failing; running = t .running + 1 })))
-    by-timer true h c q = rests (v-is 0 h)
-    by-timer false h true q = by-end (v-is 1 q) (t .failing) refl (ltb (retriesIn (t .book) (at k)) M) refl
-    by-timer false h false q = runs (ap (λ (y : ℕ). eqb y 1) (sym (here k hk t C)) ∙ q) (t .running + 1)
+        → Next (pick a t (pick c (expired i e (at k) t) (come-to (set (t .book) (timerAt (at k)) (n₁ - 1)) (t .failing) (t .running + 1))))
+    by-timer true h c q = rests (sym here ∙ eqb-true n₁ 0 h)
+    by-timer false h true q = by-end (sym here ∙ eqb-true n₁ 1 q) (t .failing) refl (ltb r₁ M) refl
+    by-timer false h false q = runs (ap (λ (y : ℕ). eqb y 1) (sym here) ∙ q) (t .running + 1)
 
     step : Next (tickSlot i e k t)
     unfolding tickSlot
@@ -361,35 +363,38 @@ module _ (st b : List ℕ) (l : Lists) (L : Lines b l) (i : ℕ) (low : i < 16) 
   -- ---- the numbers then
 
   pub on-beyond : (k : ℕ) → e .run .handed ≤ k → good-to k ≡ good-to (e .run .handed)
-  on-beyond zero h = let z : 0 ≡ e .run .handed = omega arith in ap good-to z
-  on-beyond (suc k) h = sides (on-beyond k) (decLt k (e .run .handed))
-    where
-      sides : (e .run .handed ≤ k → good-to k ≡ good-to (e .run .handed)) → Dec (k < e .run .handed) → good-to (suc k) ≡ good-to (e .run .handed)
-      sides below (yes d) = let z : suc k ≡ e .run .handed = omega arith in ap good-to z
-      sides below (no d) = on-more M (not f) N k ∙ rw (le-ltb k (e .run .handed) (omega arith)) (and-one (good-to k)) ∙ below (omega arith)
-        where
-          and-one : (a : Bool) → (a && true) ≡ a
-          and-one true = refl
-          and-one false = refl
+  on-beyond = beyond good-to (e .run .handed) (λ k h. on-more M (not f) N k ∙ rw (le-ltb k (e .run .handed) h) (and-true (good-to k)))
 
-  -- of an end point with the same window and counts, in the book that is left
-  module _ (e′ : EndPoint) (same-place : e′ .place ≡ e .place) (same-entry : e′ .entry ≡ e .entry) (same-window : e′ .run .window ≡ w) (same-handed : e′ .run .handed ≡ e .run .handed) (narrow : e .run .taken ≤ w .size) where
+  -- of the end point in another state and with another run of the same window and as many handed out, in the book then
+  module _ (st′ : State) (r′ : Run) (same-window : r′ .window ≡ w) (same-handed : r′ .handed ≡ e .run .handed)
+      (narrow : e .run .taken ≤ w .size) where
     abbrev b′ : List ℕ
     b′ = turns (e .run .handed) .book
+
+    abbrev e′ : EndPoint
+    e′ = turnedTo e st′ r′
 
     C′ : Come (e .run .handed) (turns (e .run .handed))
     C′ = come (e .run .handed) (omega arith)
 
     payload-stays : (j : ℕ) → payloadFor st b′ i e′ j ≡ payloadFor st b i e j
-    payload-stays j = rw (same-place, same-entry, same-window) (ap (λ (m : ℕ). take m (drop (spot (e .place) (e .entry .largest) (slotFor w (past w j))) st)) (slots (e .run .handed) (omega arith) .lengths (at j) (cell-low i low w g (past w j))))
+    payload-stays j = rw (same-window, slots (e .run .handed) (omega arith) .lengths (at j) (cell-low i low w g (past w j)))
 
     number-falls : (j : ℕ) → j < e .run .taken → Dec (j < e .run .handed) → numberFor st b′ i e′ j ≡ fallen (good-to (suc j)) (N j)
     number-falls j h (yes d) =
         rw (payload-stays j, same-window, same-handed, lt-ltb j (e .run .handed) d, C′ .tried j d, C′ .fell j d)
     number-falls j h (no d) =
-        rw (payload-stays j, same-window, same-handed, le-ltb j (e .run .handed) (omega arith), C′ .untried j (omega arith) (omega arith), and-false (good-to (suc j)))
+        rw (
+          payload-stays j,
+          same-window,
+          same-handed,
+          le-ltb j (e .run .handed) (omega arith),
+          C′ .untried j (omega arith) (omega arith),
+          and-false (good-to (suc j)),
+        )
 
     pub numbers-fall : listed (e .run .taken) (numberFor st b′ i e′) ≡ tickedAll M (not f) (listed (e .run .taken) N)
     numbers-fall =
-        listed-ext (e .run .taken) (numberFor st b′ i e′) (λ j. fallen (good-to (suc j)) (N j)) (λ j h. number-falls j h (decLt j (e .run .handed)))
+        listed-ext (e .run .taken) (numberFor st b′ i e′) (λ j. fallen (good-to (suc j)) (N j))
+        (λ j h. number-falls j h (decLt j (e .run .handed)))
         ∙ sym (ticked-listed M (not f) N (e .run .taken))

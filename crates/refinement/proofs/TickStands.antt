@@ -1,390 +1,431 @@
--- A tick of one entry is the machine's. Assumes nothing.
-use Prim.Native.Nat.{ℕ, zero, suc, _+_, _-_, _≤_, _<_}
-use mathlib.Core.Path.{_≡_, refl, sym, ap, subst, _∙_, fun-ext}
-use mathlib.Core.Logic.{_≢_}
+-- A tick of one entry, in any state, is the machine's. Assumes nothing.
+use Prim.Native.Nat.{ℕ, zero, suc, _+_, _≤_, _<_, _-_}
+use mathlib.Core.Path.{_≡_, refl, sym, ap, _∙_, fun-ext, subst}
 use mathlib.Core.Bool.{Bool, true, false, not, _&&_}
 use mathlib.Core.Option.{none}
-use mathlib.Core.List.{List, [], _∷_, _++_, append-nil, append-assoc, map, map-append, List·Memᴰ}
-use native.Mathlib.Decide.{decLt, ℕ-discrete}
+use mathlib.Core.List.{List, [], _∷_, _++_, append-nil, append-assoc, map, map-append}
 use native.Mathlib.Omega.{arith}
-use lib.ListN.{length, set}
-use lib.Dec.{eqb, ltb}
-use borrow.Author.Tests.{eq-eqb, ne-eqb, lt-ltb, le-ltb, eqb-true, eqb-false}
+use lib.ListN.{length}
+use lib.Dec.{eqb}
+use borrow.Author.Tests.{lt-ltb, le-ltb, eq-eqb}
 use Rattle.units.specs.Refusals.{pick}
 use Rattle.memory.specs.Layout as layout
-use Rattle.order.specs.Order.{acksIn, notOf}
-use Rattle.window.specs.Windows.{held, Good as GoodWindow}
+use Rattle.memory.specs.Layout.{resetId}
+use Rattle.waiting.specs.Queues.{appended}
+use Rattle.order.specs.Order.{acksIn}
+use Rattle.kept.proofs.Kept.{StateFits}
+use Rattle.window.specs.Windows.{Good as GoodWindow}
 use Rattle.window.specs.declared.Window.{Window}
-use Rattle.table.specs.Layout.{countOf}
 use Rattle.table.specs.Areas.{storeOf}
 use Rattle.ends.specs.Ends.{endOf, saved}
 use Rattle.ends.specs.Heads.{countIn}
 use Rattle.ends.specs.States.{isSends}
 use Rattle.ends.specs.Runs.{urgentGone}
 use Rattle.ends.specs.Lent.{Lent}
-use Rattle.ends.specs.declared.State.{State}
-use Rattle.ends.specs.declared.State.the-variants.{Closed, Enabled, Open, Failing}
+use Rattle.ends.specs.declared.State.the-variants.{Open, Failing, Closed, Enabled}
 use Rattle.ends.specs.declared.EndPoint.{EndPoint}
+use Rattle.ends.specs.declared.Run.{Run}
+use Rattle.ends.specs.declared.State.{State}
 use Rattle.slots.specs.Slots.{cell, past, timerIn}
-use Rattle.handing.specs.Handing.{urgentPayload}
 use Rattle.ticking.specs.Ticking as memory
 use Rattle.ticking.specs.Ticking.{Ticked, tickState, tickEntry, tickSlots}
 use Rattle.good.specs.Good as good
-use Rattle.good.specs.Good.{Lists, Lines, OpenSender, FailingSender, Entered, Good, ownerOf, mine, idAt}
+use Rattle.good.specs.Good.{Lists, OpenSender, FailingSender, Good, mine, idAt, Silent}
 use Rattle.good.specs.Calls.{Memory, bare, keptBare}
-use Rattle.ends.specs.declared.Run.{Run}
 use Rattle.good.proofs.Members.{rest-all}
-use Rattle.good.proofs.Known.{stated-as, silent-nil, silent-out}
-use Rattle.good.proofs.Framing.{Apart, entry-low, apart-count}
-use Rattle.good.proofs.Turns.{turnedTo, end-saved, run-fits, state-fits, gone-fits, saved-acks, Kept}
-use Rattle.good.proofs.Senders.{running-le}
+use Rattle.good.proofs.Known.{silent-nil}
+use Rattle.good.proofs.Turns.{turnedTo, end-saved, run-fits, gone-fits, saved-acks, state-fits}
+use Rattle.good.proofs.Senders.{running-le, reset-cells}
 use Rattle.good.proofs.TickSlots.{Lives, Slots, slots-all}
-use Rattle.good.proofs.TickEntry.{EntryTicked, tick-entry-keeps}
+use Rattle.good.proofs.TickEntry.{tick-entry-keeps}
 use Rattle.good.proofs.Payloads.{unaltered}
 use Rattle.machine.specs.Machine as machine
-use Rattle.machine.specs.Machine.{Number, End, Item, Sort, acks, resets, urgents, resends, datas, Machine, listed, stated, numbered, urging, rank, only, waitingAs, turned, waits, silent, running, tickedAll, anySpent, againFrom, failing, ticked, node}
-use Rattle.refinement.specs.Standing.{numberFor, placeFor, endFor, endAt, ackItem, plainItem, slotItem, waitingFor, standsFor, Stands}
-use Rattle.refinement.proofs.Listing.{length-listed, listed-ext, set-listed}
-use Rattle.refinement.proofs.Elsewhere.{turned-stands}
-use Rattle.refinement.proofs.Following.{lists-are, items-stay, windows-other, item-at}
-use Rattle.refinement.proofs.Silencing.{sender-acks, silent-waits}
-use Rattle.refinement.proofs.Timers.{running-is}
-use Rattle.refinement.proofs.TickNumbers.{flag, flag-spent, on-beyond, numbers-fall, come, again}
+use Rattle.machine.specs.Machine.{Number, End, Item, Sort, resends, Machine, listed, stated, numbered, urging, rank}
+use Rattle.machine.specs.Machine.{only, waitingAs, turned, waits, silent, running, tickedAll, anySpent, againFrom}
+use Rattle.machine.specs.Machine.{failing, ticked, node, resets}
+use Rattle.refinement.specs.Standing.{numberFor, endFor, endAt, slotItem, standsFor, Stands}
+use Rattle.refinement.proofs.Listing.{beyond, length-listed}
+use Rattle.refinement.proofs.Elsewhere.{no-places, Leaves, leaves, turned-stands, cells-same, none-taken, still, turned-same}
+use Rattle.refinement.proofs.Waiting.{window-steady, silent-steady, waits-same, waits-more, waits-still}
+use Rattle.refinement.proofs.Waiting.{waits-reset, sender-acks, silent-stands}
+use Rattle.refinement.proofs.Following.{low-at, stated-at, stated-then, item-at}
+use Rattle.refinement.proofs.Numbers.{running-is}
+use Rattle.refinement.proofs.TickNumbers.{Come, flag, flag-spent, on-beyond, numbers-fall, come, again}
 
 -- ---- those tried again, in the machine
-
-abbrev itemOf : ℕ → End → ℕ → Item
-itemOf i e k = record { entry = i; number = machine.past e k }
-
-unfoldable due : ℕ → End → ℕ → List Number → List Item
-due i e k [] = []
-due i e k (x ∷ xs) = pick (eqb (x .timer) 1) (itemOf i e k ∷ due i e (suc k) xs) (due i e (suc k) xs)
 
 abbrev tryAgain : List Item → Machine → Machine
 tryAgain ys = waitingAs (only resends (λ xs. xs ++ ys))
 
-again-is : (i : ℕ) (e : End) (k : ℕ) (xs : List Number) (m : Machine) → againFrom i e k xs m ≡ tryAgain (due i e k xs) m
-unfolding againFrom due
-again-is i e k [] m = ap (λ (f : Sort → List Item). node m (m .ends) f) (fun-ext (λ q. same q (eqb (rank q) 3)))
+again-snoc : (i : ℕ) (e : End) (k : ℕ) (xs : List Number) (x : Number) (m : Machine)
+    → againFrom i e k (xs ++ (x ∷ [])) m
+    ≡ (let m′ = againFrom i e k xs m in pick (eqb (x .timer) 1) (waits resends i (machine.past e (k + length xs)) m′) m′)
+unfolding againFrom
+again-snoc i e k [] x m = let z : k + 0 ≡ k = omega arith in rw z
+again-snoc i e k (y ∷ ys) x m =
+    let z : suc k + length ys ≡ k + suc (length ys) = omega arith in
+    again-snoc i e (suc k) ys x (pick (eqb (y .timer) 1) (waits resends i (machine.past e k) m) m) ∙ rw z
+
+-- none; and one more after ys
+again-none : (m : Machine) → m ≡ tryAgain [] m
+again-none m = ap (λ (f : Sort → List Item). node m (m .ends) f) (fun-ext (λ q. same q (eqb (rank q) 3)))
   where
     same : (q : Sort) (z : Bool) → m .waiting q ≡ pick z (m .waiting q ++ []) (m .waiting q)
     same q true = sym (append-nil (m .waiting q))
     same q false = refl
-again-is i e k (x ∷ xs) m = sides (eqb (x .timer) 1) (again-is i e (suc k) xs (waits resends i (machine.past e k) m)) (again-is i e (suc k) xs m)
+
+again-more : (i s : ℕ) (ys : List Item) (m : Machine)
+    → waits resends i s (tryAgain ys m) ≡ tryAgain (ys ++ (record { entry = i; number = s } ∷ [])) m
+again-more i s ys m = ap (λ (f : Sort → List Item). node m (m .ends) f) (fun-ext (λ q. both (m .waiting q) (eqb (rank q) 3)))
   where
-    both : (q : Sort) (z : Bool) → pick z (pick z (m .waiting q ++ (itemOf i e k ∷ [])) (m .waiting q) ++ due i e (suc k) xs) (pick z (m .waiting q ++ (itemOf i e k ∷ [])) (m .waiting q))
-        ≡ pick z (m .waiting q ++ (itemOf i e k ∷ due i e (suc k) xs)) (m .waiting q)
-    both q true = append-assoc (m .waiting q) (itemOf i e k ∷ []) (due i e (suc k) xs)
-    both q false = refl
+    x : List Item
+    x = record { entry = i; number = s } ∷ []
 
-    sides : (z : Bool) → againFrom i e (suc k) xs (waits resends i (machine.past e k) m) ≡ tryAgain (due i e (suc k) xs) (waits resends i (machine.past e k) m)
-        → againFrom i e (suc k) xs m ≡ tryAgain (due i e (suc k) xs) m
-        → againFrom i e (suc k) xs (pick z (waits resends i (machine.past e k) m) m) ≡ tryAgain (pick z (itemOf i e k ∷ due i e (suc k) xs) (due i e (suc k) xs)) m
-    sides true a b = a ∙ ap (λ (f : Sort → List Item). node m (m .ends) f) (fun-ext (λ q. both q (eqb (rank q) 3)))
-    sides false a b = b
+    both : (xs : List Item) (z : Bool) → pick z (pick z (xs ++ ys) xs ++ x) (pick z (xs ++ ys) xs) ≡ pick z (xs ++ (ys ++ x)) xs
+    both xs true = append-assoc xs ys x
+    both xs false = refl
 
-due-snoc : (i : ℕ) (e : End) (k : ℕ) (xs : List Number) (x : Number) → due i e k (xs ++ (x ∷ [])) ≡ due i e k xs ++ pick (eqb (x .timer) 1) (itemOf i e (k + length xs) ∷ []) []
-unfolding due
-due-snoc i e k [] x = let z : k + 0 ≡ k = omega arith in rw z
-due-snoc i e k (y ∷ ys) x =
-    let z : suc k + length ys ≡ k + suc (length ys) = omega arith in
-    sides (eqb (y .timer) 1) (due-snoc i e (suc k) ys x ∙ ap (λ (j : ℕ). due i e (suc k) ys ++ pick (eqb (x .timer) 1) (itemOf i e j ∷ []) []) z)
-  where
-    sides : (a : Bool) → due i e (suc k) (ys ++ (x ∷ [])) ≡ due i e (suc k) ys ++ pick (eqb (x .timer) 1) (itemOf i e (k + suc (length ys)) ∷ []) []
-        → pick a (itemOf i e k ∷ due i e (suc k) (ys ++ (x ∷ []))) (due i e (suc k) (ys ++ (x ∷ [])))
-        ≡ pick a (itemOf i e k ∷ due i e (suc k) ys) (due i e (suc k) ys) ++ pick (eqb (x .timer) 1) (itemOf i e (k + suc (length ys)) ∷ []) []
-    sides true h = ap (λ (l : List Item). itemOf i e k ∷ l) h
-    sides false h = h
+-- ---- an entry
 
--- ---- a sender that fails, or was Failing
-
-module _ (t : List ℕ) (n : Memory) (l : Lists) (g : Good t (n .node) (n .book) l) (room : storeOf t ≤ length (n .store)) (i : ℕ) (li : i < countIn (n .node))
-    (kind : isSends (endOf (n .node) i .entry .kind) ≡ true) where
+module _ (t : List ℕ) (n : Memory) (l : Lists) (g : Good t (n .node) (n .book) l) (room : storeOf t ≤ length (n .store))
+    (i : ℕ) (li : i < countIn (n .node)) where
   abbrev M : Machine
   M = standsFor t n l
 
   abbrev e : EndPoint
   e = endOf (n .node) i
 
-  abbrev w : Window
-  w = e .run .window
-
-  low : i < 16
-  low = entry-low t (n .node) (n .book) l g i li
-
-  window : GoodWindow w
-  window = g .entered i li .window
-
   abbrev E : End
   E = endAt n i
 
-  abbrev failed : ℕ → EndPoint
-  failed m = turnedTo e (Failing m) (urgentGone (e .run))
+  abbrev R : ℕ
+  R = e .entry .retries
 
-  -- what its end point stands for, once it is Failing
-  fails-as : (b′ : List ℕ) (a : Bool) (m : ℕ) → listed (e .run .taken) (numberFor (n .store) b′ i (failed m)) ≡ tickedAll (e .entry .retries) a (E .numbers)
-      → m ≡ running (tickedAll (e .entry .retries) a (E .numbers)) → endFor (n .store) b′ i (failed m) ≡ failing (tickedAll (e .entry .retries) a (E .numbers)) E
-  unfolding endFor urgentGone
-  fails-as b′ a m ns r =
-      rw (ns, listed-ext (e .entry .window) (placeFor (n .store) b′ i (failed m)) (placeFor (n .store) (n .book) i e) (λ k h. rw kind))
-      (ap (λ (k : ℕ). failing-at k) r)
+  abbrev y : Lent
+  y = tickEntry i (bare n)
+
+  left : Leaves t n (keptBare n y) l i
+  left = leaves (tick-entry-keeps t (bare n) l g i li .kept) (n .store) (unaltered refl)
+
+  stays : (m : Machine) → y ≡ bare n → M ≡ m → Stands t (keptBare n y) m
+  stays m z q = rw (z, ← q) (still g room)
+
+  y-at : (st : State) → e .state ≡ st → y ≡ tickState (bare n) i e st
+  unfolding tickEntry
+  y-at st q = ap (tickState (bare n) i e) q
+
+  -- ---- a sender
+
+  module _ (kind : isSends (e .entry .kind) ≡ true) where
+    abbrev w : Window
+    w = e .run .window
+
+    abbrev N : ℕ → Number
+    N = numberFor (n .store) (n .book) i e
+
+    low : i < 16
+    low = low-at g li
+
+    window : GoodWindow w
+    window = g .entered i li .window
+
+    -- ---- Enabled, the timer running
+
+    module _ (m : ℕ) (sent : Bool) (q : e .state ≡ Enabled m sent) (runs : eqb m 0 ≡ false) where
+      abbrev falls : State
+      falls = Enabled (m - 1) sent
+
+      y-is : y ≡ memory.both (bare n) (saved (n .node) i falls (e .run))
+          (pick (eqb m 1) (appended (n .book) layout.resets (resetId i)) (n .book))
+      unfolding tickState
+      y-is = y-at (Enabled m sent) q ∙ rw runs
+
+      quiet : Silent l i []
+      quiet = rw runs at (stated-at g li true kind (Enabled m sent) q .silent)
+
+      fits : m - 1 < 65536
+      fits = let z : m < 65536 = subst StateFits q (state-fits (n .node) i) in omega arith
+
+      end : endOf (y .node) i ≡ turnedTo e falls (e .run)
+      end = ap (λ (z : Lent). endOf (z .node) i) y-is ∙ end-saved (n .node) i falls (e .run) (g .long) low fits (run-fits (n .node) i) refl
+
+      acks-stay : acksIn (y .node) ≡ acksIn (n .node)
+      acks-stay = ap (λ (z : Lent). acksIn (z .node)) y-is ∙ saved-acks (n .node) i falls (e .run) .1
+
+      book-is : (a : Bool) → eqb m 1 ≡ a → y .book ≡ pick a (appended (n .book) layout.resets (resetId i)) (n .book)
+      book-is a z = ap (λ (x : Lent). x .book) y-is ∙ rw z
+
+      E-is : (a : Bool) → eqb m 1 ≡ a → endAt (keptBare n y) i ≡ stated falls E
+      unfolding endFor
+      E-is a z =
+          ap (endFor (n .store) (y .book) i) end
+          ∙ ap (λ (b : List ℕ). endFor (n .store) b i (turnedTo e falls (e .run))) (book-is a z) ∙ ap (stated falls) (sides a)
+        where
+          sides : (a : Bool) → endFor (n .store) (pick a (appended (n .book) layout.resets (resetId i)) (n .book)) i e ≡ E
+          sides true =
+              cells-same (n .store) (n .book) (appended (n .book) layout.resets (resetId i)) i e
+              (reset-cells (n .book) l (g .lines) i low quiet)
+          sides false = refl
+
+      falls-stands : (a : Bool) → eqb m 1 ≡ a
+          → Stands t (keptBare n y) (pick a (waits resets i 0 (turned i (stated falls E) M)) (turned i (stated falls E) M))
+      falls-stands true z =
+          turned-stands g room li left (E-is true z)
+          (waits-reset left (g .lines) low quiet acks-stay (book-is true z))
+      falls-stands false z =
+          turned-stands g room li left (E-is false z)
+          (waits-still left (silent-steady quiet) acks-stay (book-is false z) (g .lines))
+
+    abbrev failed : ℕ → EndPoint
+    failed m = turnedTo e (Failing m) (urgentGone (e .run))
+
+    -- as far as the timers have come, from an end that is Failing or not
+    module _ (f : Bool) (lives : Lives f (n .book) l i e) (S : good.Sending (n .book) i (e .run) (e .entry .largest)) where
+      abbrev T : Ticked
+      T = memory.ticked i e f (n .book)
+
+      abbrev ns : List Number
+      ns = tickedAll R (not f) (E .numbers)
+
+      wide : e .run .handed ≤ w .size
+      wide = omega (arith, S .handed, S .taken)
+
+      C : Come (n .store) (n .book) l (g .lines) i low e window f lives wide (e .run .handed) T
+      C = come (n .store) (n .book) l (g .lines) i low e window f lives wide (e .run .handed) (omega arith)
+
+      slots : Slots i low e window (n .book) l (e .run .handed) T
+      slots = slots-all i low e window (n .book) l (g .lines) f lives
+
+      goes-on : flag R (not f) (listed (e .run .handed) N) ≡ (not f && not (anySpent R (E .numbers)))
+      unfolding endFor
+      goes-on =
+          sym (on-beyond (n .store) (n .book) l (g .lines) i low e window f lives wide (e .run .taken) (S .handed))
+          ∙ flag-spent R (not f) (E .numbers)
+
+      numbers-at : (s : State) (r : Run) → r .window ≡ w → r .handed ≡ e .run .handed
+          → listed (e .run .taken) (numberFor (n .store) (T .book) i (turnedTo e s r)) ≡ ns
+      unfolding endFor
+      numbers-at s r p q = numbers-fall (n .store) (n .book) l (g .lines) i low e window f lives wide s r p q (S .taken)
+
+      run-at : T .running ≡ running ns
+      run-at =
+          slots .count ∙ sym (running-is (n .store) (T .book) i e (e .run .taken) (S .handed))
+          ∙ ap running (numbers-at (e .state) (e .run) refl refl)
+
+      running-fits : T .running < 65536
+      running-fits =
+          let z = running-le (T .book) i w (e .run .handed) in let c = slots .count in let r = run-fits (n .node) i .handed in omega arith
+
+      -- the entry is Failing then
+      module _ (book-is : y .book ≡ T .book) (end-is : endOf (y .node) i ≡ failed (T .running)) where
+        gone : (q : ℕ) → q < 4 → mine i (left .lists q) ≡ []
+        gone = silent-nil (left .lists) i (stated-then left li true kind (Failing (T .running)) end-is .silent)
+
+        E-failed : endAt (keptBare n y) i ≡ failing ns E
+        unfolding endFor urgentGone
+        E-failed =
+            ap (endFor (n .store) (y .book) i) end-is
+            ∙ ap (λ (b : List ℕ). endFor (n .store) b i (failed (T .running))) book-is
+            ∙ rw (
+              numbers-at (Failing (T .running)) (urgentGone (e .run)) refl refl,
+              no-places (n .store) (T .book) i (failed (T .running)) kind,
+              ← no-places (n .store) (n .book) i e kind,
+            )
+            (ap (λ (k : ℕ). urging none (stated (Failing k) (numbered (E .start) ns E))) run-at)
+
+    -- ---- Failing before
+
+    module _ (m : ℕ) (q : e .state ≡ Failing m) where
+      F : FailingSender (n .book) l i e m
+      F = stated-at g li true kind (Failing m) q
+
+      abbrev T-f : Ticked
+      T-f = memory.ticked i e true (n .book)
+
+      y-f : y ≡ memory.tickFailing (bare n) i e T-f
+      unfolding tickEntry tickState
+      y-f = ap (tickState (bare n) i e) q
+
+      end-f : endOf (y .node) i ≡ failed (T-f .running)
+      unfolding urgentGone
+      end-f =
+          ap (λ (y : Lent). endOf (y .node) i) y-f
+          ∙ end-saved (n .node) i (Failing (T-f .running)) (e .run) (g .long) low
+          (running-fits true (F .sending, F .silent) (F .sending)) (run-fits (n .node) i) refl
+          ∙ ap (λ (u : ℕ). turnedTo e (Failing (T-f .running)) (urged u)) (F .urgent)
+        where
+          urged : ℕ → Run
+          urged u =
+              let r = e .run in
+              record { window = w; taken = r .taken; handed = r .handed; accepted = r .accepted; confirmed = r .confirmed; urgent = u }
+
+      book-f : y .book ≡ T-f .book
+      book-f = ap (λ (y : Lent). y .book) y-f
+
+      -- nothing of it waited, and nothing does
+      lists-f : (r : ℕ) → r < 4 → left .lists r ≡ l r
+      lists-f r h =
+          sym (rest-all i (left .lists r) (gone true (F .sending, F .silent) (F .sending) book-f end-f r h))
+          ∙ left .within .order r h ∙ rest-all i (l r) (silent-nil l i (F .silent) r h)
+
+      failing-stands : Stands t (keptBare n y) (ticked M i E (Failing m))
+      unfolding ticked endFor
+      failing-stands =
+          turned-stands g room li left
+          (E-failed true (F .sending, F .silent) (F .sending) book-f end-f)
+          (waits-same (left .apart) (silent-steady (F .silent))
+          (ap (λ (y : Lent). acksIn (y .node)) y-f ∙ saved-acks (n .node) i (Failing (T-f .running)) (e .run) .1) lists-f)
+
+    -- ---- Open before
+
+    module _ (q : e .state ≡ Open) where
+      O : OpenSender (n .book) l i e
+      O = stated-at g li true kind Open q
+
+      abbrev T-o : Ticked
+      T-o = memory.ticked i e false (n .book)
+
+      abbrev ns-o : List Number
+      ns-o = tickedAll R true (E .numbers)
+
+      y-o : y ≡ memory.tickOpen (bare n) i e T-o
+      unfolding tickEntry tickState
+      y-o = ap (tickState (bare n) i e) q
+
+      book-o : y .book ≡ T-o .book
+      book-o = ap (λ (y : Lent). y .book) y-o
+
+      fails-o : T-o .failing ≡ not (true && not (anySpent R (E .numbers)))
+      fails-o = C false O (O .sending) .failing ∙ ap not (goes-on false O (O .sending))
+
+      node-o : (z : Bool) → T-o .failing ≡ z → y .node ≡ pick z (saved (n .node) i (Failing (T-o .running)) (urgentGone (e .run))) (n .node)
+      node-o z h = ap (λ (y : Lent). y .node) y-o ∙ rw h
+
+      -- one is spent
+      module _ (spent : anySpent R (E .numbers) ≡ true) where
+        saved-o : y .node ≡ saved (n .node) i (Failing (T-o .running)) (urgentGone (e .run))
+        saved-o = node-o true (fails-o ∙ rw spent)
+
+        end-o : endOf (y .node) i ≡ failed (T-o .running)
+        unfolding urgentGone
+        end-o =
+            ap (λ (ws : List ℕ). endOf ws i) saved-o
+            ∙ end-saved (n .node) i (Failing (T-o .running)) (urgentGone (e .run)) (g .long) low
+            (running-fits false O (O .sending)) (gone-fits (e .run) (run-fits (n .node) i)) refl
+
+        failed-stands : Stands t (keptBare n y) (silent i (turned i (failing ns-o E) M))
+        failed-stands =
+            silent-stands g room li left (gone false O (O .sending) book-o end-o)
+            (ap acksIn saved-o ∙ saved-acks (n .node) i (Failing (T-o .running)) (urgentGone (e .run)) .1 ∙ sym (sender-acks g i kind))
+            (E-failed false O (O .sending) book-o end-o)
+
+      -- none is spent: those due wait again
+      module _ (none-spent : anySpent R (E .numbers) ≡ false) where
+        node-n : y .node ≡ n .node
+        node-n = node-o false (fails-o ∙ rw none-spent)
+
+        abbrev tried : ℕ → List ℕ
+        tried k = again (n .store) (n .book) l (g .lines) i low e window false O (wide false O (O .sending)) k
+
+        -- in the machine the same, of those handed out
+        tried-is : (m : Machine) (k : ℕ) → k ≤ e .run .handed
+            → againFrom i E 0 (listed k N) m ≡ tryAgain (map (slotItem (n .node)) (tried k)) m
+        unfolding again listed againFrom endFor
+        tried-is m zero h = again-none m
+        tried-is m (suc k) h =
+            again-snoc i E 0 (listed k N) (N k) m
+            ∙ rw (length-listed k N, lt-ltb k (e .run .handed) (omega arith), tried-is m k (omega arith))
+            (sides (eqb (timerIn (n .book) (cell i w (past w k))) 1))
+          where
+            item : slotItem (n .node) (idAt i w k) ≡ record { entry = i; number = machine.past E (0 + k) }
+            item = let z : 0 + k ≡ k = omega arith in item-at (n .node) i low window k (omega (arith, wide false O (O .sending))) ∙ rw z
+
+            m′ : Machine
+            m′ = tryAgain (map (slotItem (n .node)) (tried k)) m
+
+            sides : (a : Bool) → pick a (waits resends i (machine.past E (0 + k)) m′) m′
+                ≡ tryAgain (map (slotItem (n .node)) (pick a (tried k ++ (idAt i w k ∷ [])) (tried k))) m
+            sides true = again-more i (machine.past E (0 + k)) (map (slotItem (n .node)) (tried k)) m
+                ∙ sym (rw (map-append (slotItem (n .node)) (tried k) (idAt i w k ∷ []), item))
+            sides false = refl
+
+        -- of the others no timer runs
+        again-is : (m : Machine) → againFrom i E 0 (E .numbers) m ≡ tryAgain (map (slotItem (y .node)) (tried (e .run .handed))) m
+        unfolding endFor listed
+        again-is m =
+            beyond (λ k. againFrom i E 0 (listed k N) m) (e .run .handed)
+            (λ k h. again-snoc i E 0 (listed k N) (N k) m ∙ rw (le-ltb k (e .run .handed) h)) (e .run .taken) (O .sending .handed)
+            ∙ rw node-n (tried-is m (e .run .handed) (omega arith))
+
+        E-n : endAt (keptBare n y) i ≡ numbered (E .start) ns-o E
+        unfolding endFor
+        E-n =
+            ap (λ (ws : List ℕ). endFor (n .store) (y .book) i (endOf ws i)) node-n ∙ ap (λ (b : List ℕ). endFor (n .store) b i e) book-o
+            ∙ rw (
+              numbers-at false O (O .sending) (e .state) (e .run) refl refl,
+              no-places (n .store) (T-o .book) i e kind,
+              ← no-places (n .store) (n .book) i e kind,
+            )
+
+        open-stands : Stands t (keptBare n y) (againFrom i E 0 (E .numbers) (turned i (numbered (E .start) ns-o E) M))
+        open-stands =
+            rw (again-is (turned i (numbered (E .start) ns-o E) M))
+            (turned-stands g room li left E-n
+            (waits-more left (window-steady (ap (λ (ws : List ℕ). endOf ws i .run .window) node-n)) (ap acksIn node-n) resends 2 refl book-o
+            (tried (e .run .handed)) (C false O (O .sending) .queued (goes-on false O (O .sending) ∙ rw none-spent)) refl))
+
+  -- ---- a receiver that is Open: it has no numbers
+
+  none-here : isSends (e .entry .kind) ≡ false → E .numbers ≡ []
+  unfolding endFor listed
+  none-here s = ap (λ (k : ℕ). listed k (numberFor (n .store) (n .book) i e)) (none-taken g li s)
+
+  receiver-same : isSends (e .entry .kind) ≡ false → e .state ≡ Open → y ≡ bare n
+  unfolding tickState tickSlots
+  receiver-same s q =
+      y-at Open q
+      ∙ ap (λ (k : ℕ). memory.tickOpen (bare n) i e (tickSlots i e k (record { book = n .book; failing = false; running = 0 })))
+      (stated-at g li false s Open q .receiving .handed)
+
+  abbrev openly : List Number → Machine
+  openly xs =
+      pick (anySpent (R) xs) (silent i (turned i (failing (tickedAll (R) true xs) E) M))
+      (againFrom i E 0 xs (turned i (numbered (E .start) (tickedAll (R) true xs) E) M))
+
+  open-receiver : isSends (e .entry .kind) ≡ false → e .state ≡ Open → Stands t (keptBare n y) (openly (E .numbers))
+  unfolding tickedAll anySpent againFrom
+  open-receiver s q =
+      stays (openly (E .numbers)) (receiver-same s q)
+      (turned-same n g li ∙ ap (λ (xs : List Number). turned i (numbered (E .start) xs E) M) (none-here s) ∙ ap openly (sym (none-here s)))
+
+  open-sender : isSends (e .entry .kind) ≡ true → e .state ≡ Open → Stands t (keptBare n y) (openly (E .numbers))
+  open-sender s q = sides (anySpent (R) (E .numbers)) refl
     where
-      failing-at : ℕ → End
-      failing-at k = urging none (stated (Failing k) (numbered (E .start) (tickedAll (e .entry .retries) a (E .numbers)) E))
+      sides : (a : Bool) → anySpent (R) (E .numbers) ≡ a → Stands t (keptBare n y) (openly (E .numbers))
+      sides true z = rw z (failed-stands s q z)
+      sides false z = rw z (open-stands s q z)
 
-  -- as far as the timers have come, from an end that is Failing or not
-  module _ (f : Bool) (lives : Lives f (n .book) l i e) (S : good.Sending (n .book) i (e .run) (e .entry .largest)) where
-    abbrev T : Ticked
-    T = memory.ticked i e f (n .book)
+  -- ---- all states
 
-    wide : e .run .handed ≤ w .size
-    wide = omega (arith, S .handed, S .taken)
+  ticks-in : (st : State) → e .state ≡ st → (k : Bool) → isSends (e .entry .kind) ≡ k → Stands t (keptBare n y) (ticked M i E st)
+  unfolding ticked tickState endFor
+  ticks-in Closed q k s = stays M (y-at Closed q) refl
+  ticks-in (Enabled m sent) q true s = sides (eqb m 0) refl
+    where
+      sides : (a : Bool) → eqb m 0 ≡ a
+          → Stands t (keptBare n y)
+          (pick a M (pick (eqb m 1) (waits resets i 0 (turned i (stated (Enabled (m - 1) sent) E) M))
+          (turned i (stated (Enabled (m - 1) sent) E) M)))
+      sides true z = stays M (y-at (Enabled m sent) q ∙ rw z) refl
+      sides false z = falls-stands s m sent q z (eqb m 1) refl
+  ticks-in (Enabled m sent) q false s =
+      let z : eqb m 0 ≡ true = eq-eqb m 0 (stated-at g li false s (Enabled m sent) q .1) in
+      rw z (stays M (y-at (Enabled m sent) q ∙ rw z) refl)
+  ticks-in Open q true s = open-sender s q
+  ticks-in Open q false s = open-receiver s q
+  ticks-in (Failing m) q true s = failing-stands s m q
+  ticks-in (Failing m) q false s = absurd (stated-at g li false s (Failing m) q)
 
-    slots : Slots i low e window (n .book) l (e .run .handed) T
-    slots = slots-all i low e window (n .book) l (g .lines) f lives
-
-    numbers-at : (e′ : EndPoint) → e′ .place ≡ e .place → e′ .entry ≡ e .entry → e′ .run .window ≡ w → e′ .run .handed ≡ e .run .handed
-        → listed (e .run .taken) (numberFor (n .store) (T .book) i e′) ≡ tickedAll (e .entry .retries) (not f) (E .numbers)
-    unfolding endFor
-    numbers-at e′ p q r s = numbers-fall (n .store) (n .book) l (g .lines) i low e window f lives wide e′ p q r s (S .taken)
-
-    run-at : T .running ≡ running (tickedAll (e .entry .retries) (not f) (E .numbers))
-    run-at =
-        slots .count ∙ sym (running-is (n .store) (T .book) i e (e .run .taken) (S .handed)) ∙ ap running (numbers-at e refl refl refl refl)
-
-    fails-at : endFor (n .store) (T .book) i (failed (T .running)) ≡ failing (tickedAll (e .entry .retries) (not f) (E .numbers)) E
-    unfolding urgentGone
-    fails-at = fails-as (T .book) (not f) (T .running) (numbers-at (failed (T .running)) refl refl refl refl) run-at
-
-    running-fits : T .running < 65536
-    running-fits = let z = running-le (T .book) i w (e .run .handed) in let c = slots .count in let r = run-fits (n .node) i .handed in omega arith
-
-    -- the entry is Failing then
-    module _ (y : Lent) (K : Kept t (bare n) y l i) (book-is : y .book ≡ T .book) (end-is : endOf (y .node) i ≡ failed (T .running)) where
-      F′ : FailingSender (y .book) (K .lists) i (failed (T .running)) (T .running)
-      F′ =
-          stated-as (y .book) (K .lists) i (failed (T .running))
-          (subst (Entered (y .book) (K .lists) i) end-is (K .good .entered i (rw (apart-count i (n .node) (y .node) (K .apart)) li))) true kind (Failing (T .running)) refl
-
-      gone : (q : ℕ) → q < 4 → mine i (K .lists q) ≡ []
-      gone = silent-nil (K .lists) i (F′ .silent)
-
-      E-then : endAt (keptBare n y) i ≡ failing (tickedAll (e .entry .retries) (not f) (E .numbers)) E
-      E-then = ap (endFor (n .store) (y .book) i) end-is ∙ ap (λ (b : List ℕ). endFor (n .store) b i (failed (T .running))) book-is ∙ fails-at
-
-  -- Failing before
-  module _ (m : ℕ) (q : e .state ≡ Failing m) where
-    F : FailingSender (n .book) l i e m
-    F = stated-as (n .book) l i e (g .entered i li) true kind (Failing m) q
-
-    abbrev T-f : Ticked
-    T-f = memory.ticked i e true (n .book)
-
-    abbrev y-f : Lent
-    y-f = tickEntry i (bare n)
-
-    K-f : Kept t (bare n) y-f l i
-    K-f = tick-entry-keeps t (bare n) l g i li .kept
-
-    y-f-is : y-f ≡ memory.tickFailing (bare n) i e T-f
-    unfolding tickEntry tickState
-    y-f-is = ap (tickState (bare n) i e) q
-
-    no-urgent : urgentGone (e .run) ≡ e .run
-    unfolding urgentGone endOf
-    no-urgent = rw (F .urgent)
-
-    end-f : endOf (y-f .node) i ≡ failed (T-f .running)
-    end-f =
-        ap (λ (y : Lent). endOf (y .node) i) y-f-is
-        ∙ end-saved (n .node) i (Failing (T-f .running)) (e .run) (g .long) low (running-fits true (F .sending, F .silent) (F .sending)) (run-fits (n .node) i) refl
-        ∙ ap (λ (r : Run). turnedTo e (Failing (T-f .running)) r) (sym no-urgent)
-
-    lists-f : (r : ℕ) → r < 4 → K-f .lists r ≡ l r
-    lists-f r h =
-        sym (rest-all i (K-f .lists r) (gone true (F .sending, F .silent) (F .sending) y-f K-f (ap (λ (y : Lent). y .book) y-f-is) end-f r h))
-        ∙ K-f .within .order r h ∙ rest-all i (l r) (silent-nil l i (F .silent) r h)
-
-    items-f : (r : ℕ) → r < 4 → map (slotItem (y-f .node)) (K-f .lists r) ≡ map (slotItem (n .node)) (l r)
-    items-f r h =
-        ap (map (slotItem (y-f .node))) (lists-f r h)
-        ∙ items-stay (n .node) (y-f .node) (l r) (λ z k. windows-other i (n .node) (y-f .node) (K-f .apart) z (λ o. absurd (silent-out l i (F .silent) z o r h k)))
-
-    acks-f : acksIn (y-f .node) ≡ acksIn (n .node)
-    acks-f = ap (λ (y : Lent). acksIn (y .node)) y-f-is ∙ saved-acks (n .node) i (Failing (T-f .running)) (e .run) .1
-
-    waiting-f : (r : Sort) → waitingFor (y-f .node) (K-f .lists) r ≡ M .waiting r
-    unfolding waitingFor
-    waiting-f acks = ap (map ackItem) acks-f
-    waiting-f resets = ap (map plainItem) (lists-f 0 (omega arith))
-    waiting-f urgents = ap (map plainItem) (lists-f 1 (omega arith))
-    waiting-f resends = items-f 2 (omega arith)
-    waiting-f datas = items-f 3 (omega arith)
-
-    pub failing-stands : Stands t (keptBare n y-f) (ticked M i E (Failing m))
-    unfolding ticked endFor
-    failing-stands =
-        record {
-          lists = K-f .lists;
-          good = K-f .good;
-          room = room;
-          is = turned-stands t n (keptBare n y-f) l (K-f .lists) g room i li (K-f .apart) (K-f .within) (unaltered refl) (failing (tickedAll (e .entry .retries) false (E .numbers)) E) (M .waiting)
-              (E-then true (F .sending, F .silent) (F .sending) y-f K-f (ap (λ (y : Lent). y .book) y-f-is) end-f) waiting-f;
-        }
-
-  -- Open before, and one is spent
-  module _ (q : e .state ≡ Open) (spent : anySpent (e .entry .retries) (E .numbers) ≡ true) where
-    O : OpenSender (n .book) l i e
-    O = stated-as (n .book) l i e (g .entered i li) true kind Open q
-
-    abbrev T-o : Ticked
-    T-o = memory.ticked i e false (n .book)
-
-    abbrev y-o : Lent
-    y-o = tickEntry i (bare n)
-
-    K-o : Kept t (bare n) y-o l i
-    K-o = tick-entry-keeps t (bare n) l g i li .kept
-
-    fails-o : T-o .failing ≡ true
-    unfolding endFor
-    fails-o =
-        let z : (true && not (anySpent (e .entry .retries) (E .numbers))) ≡ false = rw spent in
-        come (n .store) (n .book) l (g .lines) i low e window false O (wide false O (O .sending)) (e .run .handed) (omega arith) .failing
-        ∙ ap not (sym (on-beyond (n .store) (n .book) l (g .lines) i low e window false O (wide false O (O .sending)) (e .run .taken) (O .sending .handed)) ∙ flag-spent (e .entry .retries) true (E .numbers) ∙ z)
-
-    y-o-is : y-o ≡ memory.both (bare n) (saved (n .node) i (Failing (T-o .running)) (urgentGone (e .run))) (T-o .book)
-    unfolding tickEntry tickState
-    y-o-is =
-        ap (tickState (bare n) i e) q
-        ∙ ap (λ (z : Bool). memory.both (bare n) (pick z (saved (n .node) i (Failing (T-o .running)) (urgentGone (e .run))) (n .node)) (T-o .book)) fails-o
-
-    end-o : endOf (y-o .node) i ≡ failed (T-o .running)
-    unfolding urgentGone
-    end-o =
-        ap (λ (y : Lent). endOf (y .node) i) y-o-is
-        ∙ end-saved (n .node) i (Failing (T-o .running)) (urgentGone (e .run)) (g .long) low (running-fits false O (O .sending)) (gone-fits (e .run) (run-fits (n .node) i)) refl
-
-    acks-o : acksIn (y-o .node) ≡ notOf i (acksIn (n .node))
-    acks-o = ap (λ (y : Lent). acksIn (y .node)) y-o-is ∙ saved-acks (n .node) i (Failing (T-o .running)) (urgentGone (e .run)) .1 ∙ sym (sender-acks t (n .node) (n .book) l g i kind)
-
-    pub failed-stands : Stands t (keptBare n y-o) (silent i (turned i (failing (tickedAll (e .entry .retries) true (E .numbers)) E) M))
-    failed-stands =
-        record {
-          lists = K-o .lists;
-          good = K-o .good;
-          room = room;
-          is = turned-stands t n (keptBare n y-o) l (K-o .lists) g room i li (K-o .apart) (K-o .within) (unaltered refl) (failing (tickedAll (e .entry .retries) true (E .numbers)) E) (silent i M .waiting)
-              (E-then false O (O .sending) y-o K-o (ap (λ (y : Lent). y .book) y-o-is) end-o)
-              (silent-waits i (n .node) (y-o .node) (n .book) (y-o .book) l (K-o .lists) (K-o .apart) (K-o .within) (gone false O (O .sending) y-o K-o (ap (λ (y : Lent). y .book) y-o-is) end-o) acks-o);
-        }
-
-  -- Open before, and none is spent: those due wait again
-  module _ (q : e .state ≡ Open) (left : anySpent (e .entry .retries) (E .numbers) ≡ false) where
-    O-n : OpenSender (n .book) l i e
-    O-n = stated-as (n .book) l i e (g .entered i li) true kind Open q
-
-    abbrev T-n : Ticked
-    T-n = memory.ticked i e false (n .book)
-
-    abbrev y-n : Lent
-    y-n = tickEntry i (bare n)
-
-    K-n : Kept t (bare n) y-n l i
-    K-n = tick-entry-keeps t (bare n) l g i li .kept
-
-    wide-n : e .run .handed ≤ w .size
-    wide-n = wide false O-n (O-n .sending)
-
-    goes-on : flag (e .entry .retries) true (listed (e .run .handed) (numberFor (n .store) (n .book) i e)) ≡ true
-    unfolding endFor
-    goes-on =
-        let z : (true && not (anySpent (e .entry .retries) (E .numbers))) ≡ true = rw left in
-        sym (on-beyond (n .store) (n .book) l (g .lines) i low e window false O-n wide-n (e .run .taken) (O-n .sending .handed)) ∙ flag-spent (e .entry .retries) true (E .numbers) ∙ z
-
-    holds-n : T-n .failing ≡ false
-    holds-n = come (n .store) (n .book) l (g .lines) i low e window false O-n wide-n (e .run .handed) (omega arith) .failing ∙ ap not goes-on
-
-    y-n-is : y-n ≡ memory.both (bare n) (n .node) (T-n .book)
-    unfolding tickEntry tickState
-    y-n-is =
-        ap (tickState (bare n) i e) q
-        ∙ ap (λ (z : Bool). memory.both (bare n) (pick z (saved (n .node) i (Failing (T-n .running)) (urgentGone (e .run))) (n .node)) (T-n .book)) holds-n
-
-    abbrev tried : ℕ → List ℕ
-    tried k = again (n .store) (n .book) l (g .lines) i low e window false O-n wide-n k
-
-    lists-n : (r : ℕ) → r < 4 → K-n .lists r ≡ pick (eqb r layout.resends) (l r ++ tried (e .run .handed)) (l r)
-    lists-n =
-        lists-are (y-n .book) (T-n .book) (K-n .lists) (λ r. pick (eqb r layout.resends) (l r ++ tried (e .run .handed)) (l r)) (ap (λ (y : Lent). y .book) y-n-is) (K-n .good .lines)
-        (come (n .store) (n .book) l (g .lines) i low e window false O-n wide-n (e .run .handed) (omega arith) .queued goes-on)
-
-    -- in the machine the same, of those handed out; of the others no timer runs
-    abbrev N-n : ℕ → Number
-    N-n = numberFor (n .store) (n .book) i e
-
-    item-n : (k : ℕ) → k < w .size → slotItem (n .node) (idAt i w k) ≡ itemOf i E (0 + k)
-    unfolding endFor
-    item-n k h = let z : 0 + k ≡ k = omega arith in item-at (n .node) i low window k h ∙ rw z
-
-    tried-is : (k : ℕ) → k ≤ e .run .handed → map (slotItem (n .node)) (tried k) ≡ due i E 0 (listed k N-n)
-    unfolding again due listed
-    tried-is zero h = refl
-    tried-is (suc k) h =
-        sides (eqb (timerIn (n .book) (cell i w (past w k))) 1) (tried-is k (omega arith))
-        ∙ sym (due-snoc i E 0 (listed k N-n) (N-n k) ∙ rw (length-listed k N-n, lt-ltb k (e .run .handed) (omega arith)))
-      where
-        sides : (a : Bool) → map (slotItem (n .node)) (tried k) ≡ due i E 0 (listed k N-n)
-            → map (slotItem (n .node)) (pick a (tried k ++ (idAt i w k ∷ [])) (tried k)) ≡ due i E 0 (listed k N-n) ++ pick a (itemOf i E (0 + k) ∷ []) []
-        sides true below = map-append (slotItem (n .node)) (tried k) (idAt i w k ∷ []) ∙ rw (below, item-n k (omega (arith, wide-n)))
-        sides false below = below ∙ sym (append-nil (due i E 0 (listed k N-n)))
-
-    due-beyond : (k : ℕ) → e .run .handed ≤ k → due i E 0 (listed k N-n) ≡ due i E 0 (listed (e .run .handed) N-n)
-    unfolding listed
-    due-beyond zero h = let z : 0 ≡ e .run .handed = omega arith in ap (λ (j : ℕ). due i E 0 (listed j N-n)) z
-    due-beyond (suc k) h = sides (due-beyond k) (decLt k (e .run .handed))
-      where
-        sides : (e .run .handed ≤ k → due i E 0 (listed k N-n) ≡ due i E 0 (listed (e .run .handed) N-n)) → Dec (k < e .run .handed)
-            → due i E 0 (listed k N-n ++ (N-n k ∷ [])) ≡ due i E 0 (listed (e .run .handed) N-n)
-        sides below (yes d) = let z : suc k ≡ e .run .handed = omega arith in ap (λ (j : ℕ). due i E 0 (listed j N-n)) z
-        sides below (no d) =
-            due-snoc i E 0 (listed k N-n) (N-n k) ∙ rw (le-ltb k (e .run .handed) (omega arith)) (append-nil (due i E 0 (listed k N-n))) ∙ below (omega arith)
-
-    due-is : map (slotItem (n .node)) (tried (e .run .handed)) ≡ due i E 0 (E .numbers)
-    unfolding endFor
-    due-is = tried-is (e .run .handed) (omega arith) ∙ sym (due-beyond (e .run .taken) (O-n .sending .handed))
-
-    end-n : endOf (y-n .node) i ≡ e
-    end-n = ap (λ (y : Lent). endOf (y .node) i) y-n-is
-
-    items-n : (xs : List ℕ) → map (slotItem (y-n .node)) xs ≡ map (slotItem (n .node)) xs
-    items-n xs = ap (λ (y : Lent). map (slotItem (y .node)) xs) y-n-is
-
-    waiting-n : (r : Sort) → waitingFor (y-n .node) (K-n .lists) r ≡ tryAgain (due i E 0 (E .numbers)) M .waiting r
-    unfolding waitingFor
-    waiting-n acks = ap (λ (y : Lent). map ackItem (acksIn (y .node))) y-n-is
-    waiting-n resets = ap (map plainItem) (lists-n 0 (omega arith))
-    waiting-n urgents = ap (map plainItem) (lists-n 1 (omega arith))
-    waiting-n resends =
-        items-n (K-n .lists 2) ∙ ap (map (slotItem (n .node))) (lists-n 2 (omega arith)) ∙ map-append (slotItem (n .node)) (l 2) (tried (e .run .handed))
-        ∙ ap (λ (xs : List Item). map (slotItem (n .node)) (l 2) ++ xs) due-is
-    waiting-n datas = items-n (K-n .lists 3) ∙ ap (map (slotItem (n .node))) (lists-n 3 (omega arith))
-
-    abbrev ns : List Number
-    ns = tickedAll (e .entry .retries) true (E .numbers)
-
-    E-n : endAt (keptBare n y-n) i ≡ numbered (E .start) ns E
-    unfolding endFor
-    E-n =
-        ap (λ (y : Lent). endFor (n .store) (y .book) i (endOf (y .node) i)) y-n-is
-        ∙ rw (numbers-at false O-n (O-n .sending) e refl refl refl refl, listed-ext (e .entry .window) (placeFor (n .store) (T-n .book) i e) (placeFor (n .store) (n .book) i e) (λ k h. rw kind))
-
-    pub open-stands : Stands t (keptBare n y-n) (againFrom i E 0 (E .numbers) (turned i (numbered (E .start) ns E) M))
-    open-stands =
-        record {
-          lists = K-n .lists;
-          good = K-n .good;
-          room = room;
-          is = turned-stands t n (keptBare n y-n) l (K-n .lists) g room i li (K-n .apart) (K-n .within) (unaltered refl) (numbered (E .start) ns E) (tryAgain (due i E 0 (E .numbers)) M .waiting) E-n waiting-n
-              ∙ sym (again-is i E 0 (E .numbers) (turned i (numbered (E .start) ns E) M));
-        }
+  pub entry-ticks : Stands t (keptBare n y) (ticked M i E (E .state))
+  unfolding endFor
+  entry-ticks = ticks-in (e .state) refl (isSends (e .entry .kind)) refl

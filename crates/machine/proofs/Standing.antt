@@ -1,0 +1,246 @@
+-- What no call alters, and that nothing is held at the start of a window (specs/Laws.antt). Assumes nothing.
+use Prim.Native.Nat.{ℕ, zero, suc, _<_}
+use mathlib.Core.Path.{_≡_, refl, sym, ap, subst, _∙_}
+use mathlib.Core.Logic.{_⊎_, inl, inr}
+use mathlib.Core.Bool.{Bool, true, false}
+use mathlib.Core.Option.{some}
+use mathlib.Core.List.{List, [], _∷_, List·Memᴰ, List·Memᴰ·append-cases, List·Memᴰ·eq-of-singleton, List·Memᴰ·not-nil}
+use native.Mathlib.Decide.{ℕ-discrete}
+use native.Mathlib.Omega.{arith}
+use lib.ListN.{length, length-set}
+use Rattle.units.specs.Refusals.{pick}
+use Rattle.units.specs.declared.refusals.Refusal.{Refusal}
+use Rattle.table.specs.Layout.{countOf, entryOf}
+use Rattle.frame.specs.Layout.{payloadOf}
+use Rattle.frame.specs.Reading.{headerOf}
+use Rattle.ends.specs.States.{isOver}
+use Rattle.ends.specs.declared.State.{State}
+use Rattle.ends.specs.declared.State.the-variants.{Closed, Enabled, Open, Failing}
+use Rattle.machine.specs.Calls.{Call, opens, closes, counts, sends, urges, arrives, hands-out, ticks}
+use Rattle.machine.specs.Machine.{End, Item, Sort, acks, resets, urgents, resends, datas, Machine, Outcome, node, turned, anew, unless, onEntry, listed, first, begun, tooShort, sendTests, entryFor, opening, closing, counting, sending, urgentSending, reading, arriving, handed, goingOut, inOrder, handing, anySpent, each, recovered, step}
+use Rattle.machine.specs.Laws.{Is, after, Free, AllFree, Standing, TableStays, StartStaysFree}
+use Rattle.machine.specs.LawsTick.{timers, fails, due}
+use Rattle.machine.proofs.Entries.{elem-there, elem-lt, elem-in, elem-set-same, elem-set-other}
+use Rattle.machine.proofs.Passes.{passed, pass-end, pass-count, pass-head}
+use Rattle.machine.proofs.Timers.{fell, timed, due-own, ticked-is}
+use Rattle.machine.proofs.Recovering.{again, overAdds, over-own, recovered-is}
+use Rattle.machine.proofs.Ticking.{tickOne, after-is}
+use Rattle.machine.proofs.Judged.{by-entry, by-verdict}
+use Rattle.machine.proofs.Hosting.{openTests, opened, closeTests, closed, countTests, counts-of, sent, urgentTests, urged}
+use Rattle.machine.proofs.Handing.{roomTests, gone, goes}
+use Rattle.machine.proofs.Touching.{Follows, same-follows, anew-follows, none-held, Touched, as-was, turns, waited, silenced, stopped, enabled-touches, closed-touches, sent-touches, urged-touches, by-read, arrivalTests, by-done}
+
+record Stands (m m′ : Machine) : Type 0 where
+  standing : Standing m m′
+  free : AllFree m → AllFree m′
+
+-- ---- one entry altered
+
+one-end : (m : Machine) (i : ℕ) (e d : End) → Is m i e → Is m i d → e ≡ d
+one-end m i e d h g = let y : some e ≡ some d = sym h ∙ g in cc
+
+as-was-stands : (m : Machine) → Stands m m
+as-was-stands m =
+    record {
+      standing = record { head = refl; count = refl; entry = λ i e d h g. ap (λ (z : End). z .entry) (one-end m i d e g h) };
+      free = λ f. f;
+    }
+
+turned-stands : (m m′ : Machine) → Stands m m′ → (i : ℕ) (c d : End) → Is m i c → Follows c d → Stands m (turned i d m′)
+turned-stands m m′ u i c d here f =
+    record {
+      standing = record { head = u .standing .head; count = length-set (m′ .ends) i d ∙ u .standing .count; entry = λ k e z h g. sides-entry k e z h g (ℕ-discrete k i) };
+      free = λ F k e g. sides-free F k e g (ℕ-discrete k i);
+    }
+  where
+    low : i < length (m′ .ends)
+    low = let n = u .standing .count in let l = elem-lt (m .ends) i here in omega arith
+
+    now : (z : End) → Is (turned i d m′) i z → z ≡ d
+    now z g = one-end (turned i d m′) i z d g (elem-set-same (m′ .ends) i d low)
+
+    sides-entry : (k : ℕ) (e z : End) → Is m k e → Is (turned i d m′) k z → Dec (k ≡ i) → z .entry ≡ e .entry
+    sides-entry k e z h g (yes y) =
+        ap (λ (x : End). x .entry) (now z (subst (λ (j : ℕ). Is (turned i d m′) j z) y g)) ∙ f .entry
+        ∙ ap (λ (x : End). x .entry) (one-end m i c e here (subst (λ (j : ℕ). Is m j e) y h))
+    sides-entry k e z h g (no y) = u .standing .entry k e z h (sym (elem-set-other (m′ .ends) i k d y) ∙ g)
+
+    sides-free : AllFree m → (k : ℕ) (e : End) → Is (turned i d m′) k e → Dec (k ≡ i) → Free e
+    sides-free F k e g (yes y) = subst Free (sym (now e (subst (λ (j : ℕ). Is (turned i d m′) j e) y g))) (f .free (F i c here))
+    sides-free F k e g (no y) = u .free F k e (sym (elem-set-other (m′ .ends) i k d y) ∙ g)
+
+-- whatever waits then
+waiting-stands : (m m′ : Machine) → Stands m m′ → (w : Sort → List Item) → Stands m (node m′ (m′ .ends) w)
+waiting-stands m m′ u w =
+    record { standing = record { head = u .standing .head; count = u .standing .count; entry = u .standing .entry }; free = u .free }
+
+touched-stands : (m : Machine) (i : ℕ) {m′ : Machine} → Touched i m m′ → Stands m m′
+touched-stands m i as-was = as-was-stands m
+touched-stands m i (turns c d {m′} h f t) = turned-stands m m′ (touched-stands m i t) i c d h f
+touched-stands m i (waited q s {m′} t) = waiting-stands m m′ (touched-stands m i t) _
+touched-stands m i (silenced {m′} t) = waiting-stands m m′ (touched-stands m i t) _
+touched-stands m i (stopped s {m′} t) = waiting-stands m m′ (touched-stands m i t) _
+
+-- ---- handing out
+
+handed-follows : (q : Sort) (e : End) (s : ℕ) → Follows e (handed q e s)
+handed-follows acks e s = same-follows e refl refl
+handed-follows resets e s = same-follows e refl refl
+handed-follows urgents e s = same-follows e refl refl
+handed-follows resends e s = same-follows e refl refl
+handed-follows datas e s = same-follows e refl refl
+
+module _ (m : Machine) where
+  abbrev Leaves : Outcome → Type 0
+  Leaves o = Stands m (o .machine)
+
+  going-stands : (out : List ℕ) (q : Sort) (l : List Item) (other : Outcome) → Leaves other → Leaves (goingOut m out q l other)
+  unfolding goingOut
+  going-stands out q [] other k = k
+  going-stands out q (x ∷ xs) other k =
+      by-entry Leaves m (x .entry) other (goes m out q x) k
+      (λ e h. by-verdict Leaves (roomTests m out q x e) out m (gone m out q x e) (λ w. as-was-stands m)
+      (λ v. waiting-stands m (turned (x .entry) (handed q e (x .number)) m)
+      (turned-stands m m (as-was-stands m) (x .entry) e (handed q e (x .number)) h (handed-follows q e (x .number))) _))
+
+  order-stands : (out : List ℕ) (qs : List Sort) → Leaves (inOrder m out qs)
+  unfolding inOrder
+  order-stands out [] = as-was-stands m
+  order-stands out (q ∷ qs) = going-stands out q (m .waiting q) (inOrder m out qs) (order-stands out qs)
+
+-- ---- a tick
+
+both-stand : (a b c : Machine) → Stands a b → Stands b c → Stands a c
+both-stand a b c u v =
+    record {
+      standing = record {
+        head = ap (λ (z : Machine). node z (a .ends) (a .waiting)) (v .standing .head) ∙ u .standing .head;
+        count = v .standing .count ∙ u .standing .count;
+        entry = λ i e d h g.
+            let t = elem-there (b .ends) i (let n = u .standing .count in let l = elem-lt (a .ends) i h in omega arith) in
+            v .standing .entry i (t .0) d (t .1) g ∙ u .standing .entry i e (t .0) h (t .1);
+      };
+      free = λ f. v .free (u .free f);
+    }
+
+module _ (become : End → End) (gone : End → Bool) (adds : Sort → ℕ → End → List Item) (own : (q : Sort) (i : ℕ) (e : End) (x : Item) → List·Memᴰ x (adds q i e) → x .entry ≡ i)
+    (f : ℕ → End → Machine → Machine) (is : (m : Machine) (i : ℕ) (e : End) → Is m i e → f i e m ≡ passed become gone adds own i e m)
+    (follows : (e : End) → Follows e (become e)) (m : Machine) where
+  abbrev whole : Machine
+  whole = each (length (m .ends)) f m
+
+  pass-stands : Stands m whole
+  pass-stands =
+      record {
+        standing = record {
+          head = pass-head become gone adds own f is m;
+          count = pass-count become gone adds own f is m;
+          entry = λ i e d h g. ap (λ (z : End). z .entry) (now i e d h g) ∙ follows e .entry;
+        };
+        free = λ F i d g.
+            let t = elem-there (m .ends) i (let n = pass-count become gone adds own f is m in let l = elem-lt (whole .ends) i g in omega arith) in
+            subst Free (sym (now i (t .0) d (t .1) g)) (follows (t .0) .free (F i (t .0) (t .1)));
+      }
+    where
+      now : (i : ℕ) (e d : End) → Is m i e → Is whole i d → d ≡ become e
+      now i e d h g = one-end whole i d (become e) g (pass-end become gone adds own f is m i e h)
+
+timed-follows : (e : End) → Follows e (timed e)
+timed-follows e = by (e .state)
+  where
+    one-of : (b : Bool) (x y : End) → Follows e x → Follows e y → Follows e (pick b x y)
+    one-of true x y a c = a
+    one-of false x y a c = c
+
+    by : (s : State) → Follows e (fell s e)
+    by Closed = same-follows e refl refl
+    by (Enabled t sent) = same-follows e refl refl
+    by Open = one-of (anySpent (e .entry .retries) (e .numbers)) _ _ (same-follows e refl refl) (same-follows e refl refl)
+    by (Failing n) = same-follows e refl refl
+
+again-follows : (e : End) → Follows e (again e)
+again-follows e = by (isOver (e .state))
+  where
+    by : (b : Bool) → Follows e (pick b (anew (Enabled 0 false) e) e)
+    by true = anew-follows e refl refl
+    by false = same-follows e refl refl
+
+tick-stands : (m : Machine) → Stands m (after m ticks)
+tick-stands m =
+    subst (Stands m) (sym (after-is m))
+    (both-stand m (timers m) _ (pass-stands timed fails due due-own tickOne ticked-is timed-follows m)
+    (pass-stands again (λ e. false) overAdds over-own recovered recovered-is again-follows (timers m)))
+
+-- ---- every call
+
+module _ (m : Machine) where
+  -- by the host, on entry i
+  host-stands : (i : ℕ) (tests : End → List (Bool × Refusal)) (g : End → Outcome) → ((e : End) → Is m i e → Touched i m (g e .machine))
+      → Leaves m (onEntry m i (λ e. unless (tests e) [] m (g e)))
+  host-stands i tests g t = by-done (Leaves m) m i tests g (λ w. as-was-stands m) (λ e h. touched-stands m i (t e h))
+
+  open-stands : (i : ℕ) → Leaves m (opening m i)
+  unfolding opening
+  open-stands i = host-stands i openTests (opened m i) (enabled-touches m i)
+
+  close-stands : (i : ℕ) → Leaves m (closing m i)
+  unfolding closing
+  close-stands i = host-stands i closeTests (closed m i) (closed-touches m i)
+
+  counts-stand : (i : ℕ) → Leaves m (counting m i)
+  unfolding counting
+  counts-stand i = host-stands i countTests (counts-of m) (λ e h. as-was)
+
+  send-stands : (i : ℕ) (p : List ℕ) → Leaves m (sending m i p)
+  unfolding sending
+  send-stands i p = host-stands i (λ e. sendTests m e p) (sent m i p) (λ e. sent-touches m i e p)
+
+  urgent-stands : (i : ℕ) (p : List ℕ) → Leaves m (urgentSending m i p)
+  unfolding urgentSending
+  urgent-stands i p = host-stands i (urgentTests m p) (urged m i p) (λ e. urged-touches m i e p)
+
+  arrive-stands : (block f : List ℕ) → Leaves m (arriving m block f)
+  unfolding arriving
+  arrive-stands block f =
+      by-verdict (Leaves m) (arrivalTests m f) block m (reading m block (headerOf f) (payloadOf f)) (λ w. as-was-stands m)
+      (λ v. by-read (Leaves m) m block (λ w. as-was-stands m) (headerOf f) (payloadOf f) (λ h z m′ t ns out′. touched-stands m (entryFor m h) t))
+
+  hand-stands : (buffer : List ℕ) → Leaves m (handing m buffer)
+  unfolding handing
+  hand-stands buffer =
+      by-verdict (Leaves m) (tooShort m ∷ []) buffer m (inOrder m buffer (acks ∷ resets ∷ urgents ∷ resends ∷ datas ∷ [])) (λ w. as-was-stands m)
+      (λ v. order-stands m buffer (acks ∷ resets ∷ urgents ∷ resends ∷ datas ∷ []))
+
+call-stands : (m : Machine) (c : Call) → Leaves m (step m c)
+unfolding step
+call-stands m (opens i) = open-stands m i
+call-stands m (closes i) = close-stands m i
+call-stands m (counts i) = counts-stand m i
+call-stands m (sends i p) = send-stands m i p
+call-stands m (urges i p) = urgent-stands m i p
+call-stands m (arrives block f) = arrive-stands m block f
+call-stands m (hands-out buffer) = hand-stands m buffer
+call-stands m ticks = tick-stands m
+
+pub table-stays : TableStays
+unfolding TableStays
+table-stays m c = call-stands m c .standing
+
+-- ---- setup
+
+listed-all : (P : End → Type 0) (n : ℕ) (f : ℕ → End) → ((i : ℕ) → P (f i)) → (e : End) → List·Memᴰ e (listed n f) → P e
+unfolding listed
+listed-all P zero f h e z = absurd (List·Memᴰ·not-nil z)
+listed-all P (suc n) f h e z = sides (listed-all P n f h e) (List·Memᴰ·append-cases (listed n f) z)
+  where
+    sides : (List·Memᴰ e (listed n f) → P e) → List·Memᴰ e (listed n f) ⊎ List·Memᴰ e (f n ∷ []) → P e
+    sides below (inl y) = below y
+    sides below (inr y) = subst P (sym (List·Memᴰ·eq-of-singleton y)) (h n)
+
+pub start-stays-free : StartStaysFree
+unfolding begun
+start-stays-free =
+    record {
+      first = λ t room i e h. listed-all Free (countOf t) (λ i. first (entryOf t i)) (λ i. none-held (entryOf t i .window)) e (elem-in _ i h);
+      then = λ m c. call-stands m c .free;
+    }
