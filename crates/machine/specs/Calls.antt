@@ -1,5 +1,5 @@
--- The public calls of a node as one, with what each is given and what comes back. Cited by the machine and by whatever is said of nodes.
--- Assumes nothing.
+-- The public calls of a node as one, with what each is given and what comes back. Cited by the machine and by whatever
+-- is said of nodes. Assumes nothing.
 use Prim.Native.Nat.{ℕ, _<_}
 use mathlib.Core.List.{List}
 use lib.ListN.{getD}

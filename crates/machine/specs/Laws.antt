@@ -15,7 +15,8 @@ use Rattle.frame.specs.Reading.{headerOf}
 use Rattle.frame.specs.declared.Header.{Header}
 use Rattle.frame.specs.declared.Read.the-variants as read
 use Rattle.machine.specs.Calls.{Call, opens, closes, counts, sends, urges, arrives, hands-out, ticks, Answer}
-use Rattle.machine.specs.Machine.{End, Item, Sort, Machine, node, rank, without, past, offset, begun, entryFor, step}
+use Rattle.machine.specs.Machine.{End, Item, Sort, Machine, node, rank, without, past, offset}
+use Rattle.machine.specs.Machine.{begun, entryFor, step}
 use Rattle.machine.specs.Sound.{Sound}
 
 -- ---- words

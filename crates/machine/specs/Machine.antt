@@ -1,7 +1,7 @@
--- THE PAPER AS A MACHINE: a node in lists and records alone; for every call, what it answers and what it leaves. This is
--- what a reader must believe of demand 2. That the nodes of crates/node are this machine is proved in crates/refinement.
--- Frames, blocks, tables and states are those of their own crates. In brackets: the section of paper 01 that a
--- definition follows, and what that section calls it. Assumes nothing.
+-- THE PAPER AS A MACHINE: a node in lists and records alone; for every call, what it answers and what it leaves. This
+-- is what a reader must believe of demand 2. That the nodes of crates/node are this machine is proved in
+-- crates/refinement. Frames, blocks, tables and states are those of their own crates. In brackets: the section of
+-- paper 01 that a definition follows, and what that section calls it. Assumes nothing.
 use Prim.Native.Nat.{ℕ, zero, suc, _+_, _-_, _*_, _^_}
 use mathlib.Core.Path.{_≡_}
 use mathlib.Core.Bool.{Bool, true, false, not, _&&_, _||_}
@@ -44,8 +44,8 @@ use Rattle.machine.specs.Calls.{Answer, Bytes}
 
 -- ---- what a node is made of ("End points")
 
--- a number that a sender has taken: its payload, its retries, whether it was handed out, whether it was acknowledged, and
--- its timer, 0 while it does not run
+-- a number that a sender has taken: its payload, its retries, whether it was handed out, whether it was acknowledged,
+-- and its timer, 0 while it does not run
 pub record Number : Type 0 where
   pub payload : List ℕ
   pub retries : ℕ
@@ -381,8 +381,8 @@ receiving m out i e s p =
     (delivering was.Data (heldRun ps) out (waits acks i s (turned i e′ m)))
     (delivering was.Data [] out (waits acks i s m))
 
--- Open, start 1, held payloads and its waiting acknowledgements dropped, acknowledgement 0 waits; the answer says how many
--- were held
+-- Open, start 1, held payloads and its waiting acknowledgements dropped, acknowledgement 0 waits; the answer says how
+-- many were held
 unfoldable pub resetting : Machine → List ℕ → ℕ → End → Outcome
 resetting m out i e =
     told (was.Reset (heldCount (e .places))) out (waits acks i 0 (silent i (turned i (anew Open e) m)))

@@ -1,6 +1,6 @@
 -- What holds of every machine that setup and calls can give, as far as laws of the machine and the promise lean on it:
--- end points within their entry's bounds, and nothing waits that may not go out. That the machines which nodes stand for
--- are sound is proved in crates/refinement. Assumes nothing.
+-- end points within their entry's bounds, and nothing waits that may not go out. That the machines which nodes stand
+-- for are sound is proved in crates/refinement. Assumes nothing.
 use Prim.Native.Nat.{ℕ, _≤_, _<_}
 use mathlib.Core.Path.{_≡_}
 use mathlib.Core.Bool.{Bool, true, false}

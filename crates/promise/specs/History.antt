@@ -1,5 +1,6 @@
--- The history of a run, as a bystander keeps it who sees only the calls and their answers (01, "End points": a run starts when a
--- sender becomes Enabled). Numbers here are counted without folding. Cited by the promise. Assumes nothing.
+-- The history of a run, as a bystander keeps it who sees only the calls and their answers (01, "End points": a run
+-- starts when a sender becomes Enabled). Numbers here are counted without folding. Cited by the promise. Assumes
+-- nothing.
 use Prim.Native.Nat.{ℕ, _+_, _-_, _≤_}
 use mathlib.Core.Bool.{Bool, false}
 use mathlib.Core.List.{List, [], _∷_, _++_}
@@ -24,7 +25,8 @@ Live (s-enabled asked) = ⊥
 Live s-open = Unit {0}
 Live s-failing = Unit {0}
 
--- the count at which the sender's window starts, by its state and its confirmed count: before Open that count is of an earlier run
+-- the count at which the sender's window starts, by its state and its confirmed count: before Open that count is of an
+-- earlier run
 abbrev pub s-first : SState → ℕ → ℕ
 s-first s-closed confirmed = 1
 s-first (s-enabled asked) confirmed = 1
@@ -42,7 +44,8 @@ pub data Sent : Type 0 where
   reset : Sent
   data! : (n b : ℕ) (p : Pay) → Sent
 
--- what a waiting acknowledgement answers: a frame with the byte b that is not of this run, or this run's frame number n (a Reset's is 0)
+-- what a waiting acknowledgement answers: a frame with the byte b that is not of this run, or this run's frame number
+-- n (a Reset's is 0)
 pub data Tag : Type 0 where
   old : (b : ℕ) → Tag
   new : (n : ℕ) → Tag
@@ -61,7 +64,8 @@ pub record Hist : Type 0 where
 
 -- a run's beginning: nothing accepted, nothing handed out
 abbrev pub blank : List Pay → List Tag → Hist
-blank delivered tags = record { accepted = []; delivered = delivered; sent = []; tags = tags; back = []; dataIn = false }
+blank delivered tags =
+    record { accepted = []; delivered = delivered; sent = []; tags = tags; back = []; dataIn = false }
 
 -- ---- what is seen of a call
 
@@ -79,10 +83,11 @@ pub data RSeen : Type 0 where
   r-quiet : RSeen  -- refused; another entry's; open; Urgent
   r-acks : (b : ℕ) → RSeen  -- an Acknowledge of the entry was handed out
   r-resets : RSeen  -- a Reset for the entry came in and was not refused
-  r-takes : (b : ℕ) (p : Pay) (given : List Pay) → RSeen  -- Data came in and was not refused; the payloads of the block that it wrote
+  r-takes : (b : ℕ) (p : Pay) (given : List Pay) → RSeen  -- Data came in, not refused; the payloads of its block
   r-closes : RSeen  -- the entry was closed or set up anew
 
--- a call of the node's own: it brings no frame in, and does not end the run (the receiver has no such call: a run is the sender's)
+-- a call of the node's own: it brings no frame in, and does not end the run (the receiver has no such call: a run is
+-- the sender's)
 abbrev pub SOwn : SSeen → Type 0
 SOwn s-quiet = Unit {0}
 SOwn (s-accepts p) = Unit {0}
@@ -100,7 +105,8 @@ ROwn r-closes = Unit {0}
 
 -- ---- what the history makes of it
 
--- what was seen at the sender; a frame's number is counted from the window's start on, by the confirmed count before the call
+-- what was seen at the sender; a frame's number is counted from the window's start on, by the confirmed count before
+-- the call
 abbrev pub s-note : ℕ → SSeen → Hist → Hist
 s-note confirmed s-quiet h = h
 s-note confirmed (s-accepts p) h = record {

@@ -1,4 +1,5 @@
--- DEMAND 3 of two machines: the two sides of the promise, and the entries that the channel goes between. Assumes nothing.
+-- DEMAND 3 of two machines: the two sides of the promise, and the entries that the channel goes between. Assumes
+-- nothing.
 use Prim.Native.Nat.{ℕ, _<_}
 use mathlib.Core.Path.{_≡_}
 use mathlib.Core.List.{List, [], _∷_}
@@ -52,7 +53,8 @@ receiver u j =
 
 -- ---- the entries
 
--- entry i of table t sends to entry j of table u: each names the other, on one channel, with one protocol ID and one window in force
+-- entry i of table t sends to entry j of table u: each names the other, on one channel, with one protocol ID and one
+-- window in force
 pub record Paired (t : List ℕ) (i : ℕ) (u : List ℕ) (j : ℕ) : Type 0 where
   pub known : i < countOf t
   pub known′ : j < countOf u

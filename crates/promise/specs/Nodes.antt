@@ -1,5 +1,5 @@
--- DEMAND 3 of two nodes and their public calls: the promise of Link.antt, with what the calls' contracts say in the machine's place.
--- Assumes nothing.
+-- DEMAND 3 of two nodes and their public calls: the promise of Link.antt, with what the calls' contracts say in the
+-- machine's place. Assumes nothing.
 use Prim.Native.Nat.{ℕ, _/_, _%_}
 use mathlib.Core.Path.{_≡_}
 use mathlib.Core.List.{List, [], _∷_}

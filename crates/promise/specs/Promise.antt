@@ -1,12 +1,15 @@
--- DEMAND 3, the statement: two nodes, any tables, any other entries, and one channel from an entry of one to an entry of the other,
--- both with the window W. Whoever believes these definitions and History.antt need not read the proof. Assumes nothing.
+-- DEMAND 3, the statement: two nodes, any tables, any other entries, and one channel from an entry of one to an entry
+-- of the other, both with the window W. Whoever believes these definitions and History.antt need not read the proof.
+-- Assumes nothing.
 use Prim.Native.Nat.{ℕ, _+_, _-_, _≤_, _<_}
 use mathlib.Core.Path.{_≡_}
 use mathlib.Core.Bool.{false, true}
 use mathlib.Core.List.{List, [], map, List·Memᴰ}
 use lib.ListN.{length, take, getD}
 use Rattle.window.specs.Numbers.{byteOf}
-use Rattle.promise.specs.History.{Pay, SState, s-enabled, Live, s-first, NotLate, reset, data!, old, new, ack, Hist, blank, SSeen, s-hears, RSeen, r-resets, r-takes, SOwn, ROwn, s-note, r-note}
+use Rattle.promise.specs.History.{Pay, SState, s-enabled, Live, s-first, NotLate}
+use Rattle.promise.specs.History.{reset, data!, old, new, ack, Hist, blank}
+use Rattle.promise.specs.History.{SSeen, s-hears, RSeen, r-resets, r-takes, SOwn, ROwn, s-note, r-note}
 
 -- ---- the two nodes
 
@@ -46,7 +49,8 @@ pub record Kept (accepted confirmed : ℕ) (h : Hist) : Type 0 where
   pub delivered-le : length (h .delivered) ≤ length (h .accepted)
   -- what is confirmed is delivered
   pub confirmed-le : confirmed ≤ length (h .delivered)
-  -- the history's numbers are honest: Data numbered n has the byte of n and the n-th payload accepted, and so has what answers it
+  -- the history's numbers are honest: Data numbered n has the byte of n and the n-th payload accepted, and so has what
+  -- answers it
   pub numbers : (n b : ℕ) (p : Pay) → List·Memᴰ (data! n b p) (h .sent)
       → (b ≡ byteOf n) × (0 < n) × (n ≤ length (h .accepted)) × (p ≡ getD (h .accepted) (n - 1) [])
   pub answers : (n b : ℕ) → List·Memᴰ (ack n b) (h .back) → (b ≡ byteOf n) × (n ≤ length (h .accepted))
@@ -59,22 +63,30 @@ module _ (A : SSide) (B : RSide) where
     pub receiver : B .Node
     pub hist : Hist
 
+  -- a call at the sender, or at the receiver: what it leaves there, and the history then
+  abbrev pub s-then : Sys → A .Node → Hist → Sys
+  s-then s a h = record { sender = a; receiver = s .receiver; hist = h }
+
+  abbrev pub r-then : Sys → B .Node → Hist → Sys
+  r-then s b h = record { sender = s .sender; receiver = b; hist = h }
+
   -- a run begins: what waits at the receiver answers earlier runs; what it delivered before is of no matter
   abbrev pub begin : A .Node → B .Node → List Pay → Sys
   begin a b delivered = record { sender = a; receiver = b; hist = blank delivered (map old (B .waiting b)) }
 
 module _ (W : ℕ) (A : SSide) (B : RSide) where
   pub data Move : Sys A B → Sys A B → Type 0 where
-    -- any call on the sender's node that brings no frame in for the entry, and neither opens nor closes it: what host and driver please
+    -- any call on the sender's node that brings no frame in for the entry, and neither opens nor closes it: what host
+    -- and driver please
     at-sender : (s : Sys A B) (c : A .Call) (a : A .Node)
         (did : A .Did (s .sender) c a)
         (own : SOwn (A .seen c))
-        → Move s (record { sender = a; receiver = s .receiver; hist = s-note (A .confirmed (s .sender)) (A .seen c) (s .hist) })
+        → Move s (s-then A B s a (s-note (A .confirmed (s .sender)) (A .seen c) (s .hist)))
     -- any call on the receiver's node that brings no frame in for the entry: it may be closed, and opened again
     at-receiver : (s : Sys A B) (c : B .Call) (b : B .Node)
         (did : B .Did (s .receiver) c b)
         (own : ROwn (B .seen c))
-        → Move s (record { sender = s .sender; receiver = b; hist = r-note (old 0) (s .hist .dataIn) (B .seen c) (s .hist) })
+        → Move s (r-then A B s b (r-note (old 0) (s .hist .dataIn) (B .seen c) (s .hist)))
     -- an acknowledgement reaches the sender; it may have been overtaken, and may come again
     ack-comes : (s : Sys A B) (c : A .Call) (a : A .Node) (n x : ℕ)
         (did : A .Did (s .sender) c a)
@@ -83,7 +95,7 @@ module _ (W : ℕ) (A : SSide) (B : RSide) where
         (handed-out : List·Memᴰ (ack n x) (s .hist .back))
         -- the sender's start is not past that number by more than 256 - W
         (not-late : NotLate W (s-first (A .state (s .sender)) (A .confirmed (s .sender))) n)
-        → Move s (record { sender = a; receiver = s .receiver; hist = s .hist })
+        → Move s (s-then A B s a (s .hist))
     -- a Reset reaches the receiver
     reset-comes : (s : Sys A B) (c : B .Call) (b : B .Node)
         (did : B .Did (s .receiver) c b)
@@ -92,7 +104,7 @@ module _ (W : ℕ) (A : SSide) (B : RSide) where
         (handed-out : List·Memᴰ reset (s .hist .sent))
         -- no Data of this run has reached the receiver
         (before-data : s .hist .dataIn ≡ false)
-        → Move s (record { sender = s .sender; receiver = b; hist = r-note (new 0) false r-resets (s .hist) })
+        → Move s (r-then A B s b (r-note (new 0) false r-resets (s .hist)))
     -- Data reaches the receiver
     data-comes : (s : Sys A B) (c : B .Call) (b : B .Node) (n x : ℕ) (p : Pay) (given : List Pay)
         (did : B .Did (s .receiver) c b)
@@ -101,27 +113,27 @@ module _ (W : ℕ) (A : SSide) (B : RSide) where
         (handed-out : List·Memᴰ (data! n x p) (s .hist .sent))
         -- the receiver's start is not past that number by more than 256 - W
         (not-late : NotLate W (1 + length (s .hist .delivered)) n)
-        → Move s (record { sender = s .sender; receiver = b; hist = r-note (new n) true (r-takes x p given) (s .hist) })
+        → Move s (r-then A B s b (r-note (new n) true (r-takes x p given) (s .hist)))
     -- any other frame, of an earlier run or of none, as long as this run's first Reset is not handed out
     old-ack-comes : (s : Sys A B) (c : A .Call) (a : A .Node) (x : ℕ)
         (did : A .Did (s .sender) c a)
         (heard : A .seen c ≡ s-hears x) (before-ours : s .hist .sent ≡ [])
-        → Move s (record { sender = a; receiver = s .receiver; hist = s .hist })
+        → Move s (s-then A B s a (s .hist))
     old-reset-comes : (s : Sys A B) (c : B .Call) (b : B .Node)
         (did : B .Did (s .receiver) c b)
         (took : B .seen c ≡ r-resets) (before-ours : s .hist .sent ≡ [])
-        → Move s (record { sender = s .sender; receiver = b; hist = r-note (old 0) (s .hist .dataIn) r-resets (s .hist) })
+        → Move s (r-then A B s b (r-note (old 0) (s .hist .dataIn) r-resets (s .hist)))
     old-data-comes : (s : Sys A B) (c : B .Call) (b : B .Node) (x : ℕ) (p : Pay) (given : List Pay)
         (did : B .Did (s .receiver) c b)
         (took : B .seen c ≡ r-takes x p given) (before-ours : s .hist .sent ≡ [])
-        → Move s (record { sender = s .sender; receiver = b; hist = r-note (old x) (s .hist .dataIn) (r-takes x p given) (s .hist) })
+        → Move s (r-then A B s b (r-note (old x) (s .hist .dataIn) (r-takes x p given) (s .hist)))
 
   pub data Moves : Sys A B → Sys A B → Type 0 where
     no-move : {s : Sys A B} → Moves s s
     and-then : {s t u : Sys A B} → Moves s t → Move t u → Moves s u
 
-  -- DEMAND 3: from two nodes that setup and calls can give, the sender's entry just Enabled, by any moves: whenever the sender is
-  -- open, what is promised holds.
+  -- DEMAND 3: from two nodes that setup and calls can give, the sender's entry just Enabled, by any moves: whenever
+  -- the sender is open, what is promised holds.
   unfoldable pub Demand3 : Type 0
   Demand3 = (a : A .Node) (b : B .Node) (delivered : List Pay)
       → Reach (A .Node) (A .Call) (A .SetUp) (A .Did) a

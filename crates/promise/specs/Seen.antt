@@ -1,5 +1,5 @@
--- What a bystander sees of a call at the sender's or the receiver's node: nothing is read but the call, the numbers that it answered,
--- and the bytes of frames and blocks. Cited by the promise. Assumes nothing.
+-- What a bystander sees of a call at the sender's or the receiver's node: nothing is read but the call, the numbers
+-- that it answered, and the bytes of frames and blocks. Cited by the promise. Assumes nothing.
 use Prim.Native.Nat.{ℕ, _/_, _%_, _^_}
 use mathlib.Core.Bool.{Bool, false, _&&_}
 use mathlib.Core.List.{List, [], _∷_}
@@ -74,7 +74,8 @@ s-seen e i (counts j) a = s-quiet
 s-seen e i (sends j p) a = pick (isDone (a .numbers) && eqb j i) (s-accepts p) s-quiet
 s-seen e i (urges j p) a = s-quiet
 s-seen e i (arrives block f) a = pick (isDone (a .numbers)) (s-in e (readOf f)) s-quiet
-s-seen e i (hands-out buffer) a = pick (isDone (a .numbers)) (s-out e (readOf (frameIn a)) (payloadOf (frameIn a))) s-quiet
+s-seen e i (hands-out buffer) a =
+    pick (isDone (a .numbers)) (s-out e (readOf (frameIn a)) (payloadOf (frameIn a))) s-quiet
 s-seen e i ticks a = pick (bitOf (getD (a .numbers) 0 0) i) s-ends s-quiet
 
 -- ---- seen at the receiver's node
@@ -105,7 +106,8 @@ r-seen e j (closes i) a = pick (isDone (a .numbers) && eqb i j) r-closes r-quiet
 r-seen e j (counts i) a = r-quiet
 r-seen e j (sends i p) a = r-quiet
 r-seen e j (urges i p) a = r-quiet
-r-seen e j (arrives block f) a = pick (isDone (a .numbers)) (r-in e (readOf f) (payloadOf f) (readBlock (a .out))) r-quiet
+r-seen e j (arrives block f) a =
+    pick (isDone (a .numbers)) (r-in e (readOf f) (payloadOf f) (readBlock (a .out))) r-quiet
 r-seen e j (hands-out buffer) a = pick (isDone (a .numbers)) (r-out e (readOf (frameIn a))) r-quiet
 r-seen e j ticks a = r-quiet
 

@@ -1,5 +1,6 @@
--- Which machine a node's memory stands for, and the whole theorem: setup stands for the machine begun, and each call on what stands for a
--- machine answers as the machine and leaves what stands for the machine afterwards. Assumes nothing.
+-- Which machine a node's memory stands for, and the whole theorem: setup stands for the machine begun, and each call
+-- on what stands for a machine answers as the machine and leaves what stands for the machine afterwards. Assumes
+-- nothing.
 use Prim.Native.Nat.{ℕ, _+_, _/_, _%_, _≤_}
 use mathlib.Core.Path.{_≡_}
 use mathlib.Core.Bool.{not, _&&_}
@@ -26,7 +27,8 @@ use Rattle.good.specs.Calls.{Memory, answer, after, SetUp, Reach}
 use Rattle.good.specs.NewNode.{newNode}
 use Rattle.machine.specs.Calls.{Call, Fed}
 use Rattle.machine.specs.Sound.{Sound}
-use Rattle.machine.specs.Machine.{Number, End, Item, Sort, acks, resets, urgents, resends, datas, Machine, listed, begun, blank, setupTests, step}
+use Rattle.machine.specs.Machine.{Number, End, Item, Sort, acks, resets, urgents, resends, datas}
+use Rattle.machine.specs.Machine.{Machine, listed, begun, blank, setupTests, step}
 
 -- ---- an end point, of a store and a book, as entry i
 
@@ -45,7 +47,8 @@ numberFor st b i e k =
     }
 
 abbrev pub placeFor : List ℕ → List ℕ → ℕ → EndPoint → ℕ → Option (List ℕ)
-placeFor st b i e k = pick (not (isSends (e .entry .kind)) && held (e .run .window) k) (some (payloadFor st b i e k)) none
+placeFor st b i e k =
+    pick (not (isSends (e .entry .kind)) && held (e .run .window) k) (some (payloadFor st b i e k)) none
 
 unfoldable pub endFor : List ℕ → List ℕ → ℕ → EndPoint → End
 endFor st b i e =
