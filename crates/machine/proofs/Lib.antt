@@ -1,4 +1,5 @@
 pub mod Entries
+pub mod Listed
 pub mod Items
 pub mod Passes
 pub mod Timers
@@ -10,6 +11,7 @@ pub mod Blocks
 pub mod Receiving
 pub mod Acking
 pub mod Judged
+pub mod Beginning
 pub mod Hosting
 pub mod Handing
 pub mod Touching

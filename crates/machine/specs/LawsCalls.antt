@@ -1,4 +1,4 @@
--- Laws of the host's calls: open, close, counts, send and Urgent go through under exactly their conditions, and what
+-- Laws of the host's calls: setup, open, close, counts, send and Urgent go through under exactly their conditions, and what
 -- each then does. They rule out a node that refuses all and one that leaves its state alone. Proved in
 -- proofs/Hosting.antt. Assumes nothing.
 use Prim.Native.Nat.{ℕ, _+_, _≤_, _<_}
@@ -7,13 +7,37 @@ use mathlib.Core.Logic.{_≢_, _↔_}
 use mathlib.Core.Bool.{true, false}
 use mathlib.Core.Option.{none, some}
 use mathlib.Core.List.{List, [], _∷_, _++_}
-use lib.ListN.{length}
+use lib.ListN.{length, replicate}
+use Rattle.table.specs.Layout.{countOf, ownOf, protocolOf, entryOf}
+use Rattle.table.specs.Areas.{storeOf}
+use Rattle.table.specs.Rules.{goodTable}
 use Rattle.ends.specs.States.{isSends}
 use Rattle.ends.specs.declared.State.the-variants.{Closed, Enabled, Open}
 use Rattle.machine.specs.Calls.{opens, closes, counts, sends, urges}
 use Rattle.machine.specs.Machine.{End, Sort, resets, urgents, datas, Machine}
-use Rattle.machine.specs.Machine.{number, urging, without, past, mostAccepted}
+use Rattle.machine.specs.Machine.{number, end, urging, without, past, mostAccepted, setting}
 use Rattle.machine.specs.Laws.{Is, answer, after, shareOf, WaitsLast, Anew, SameCounts, ofEntry}
+
+-- ---- setup ("The channel table", "End points")
+
+unfoldable pub SetupGoes : Type 0
+SetupGoes = (m : Machine) (t : List ℕ) (room : ℕ)
+    → (setting m t room .answer .numbers ≡ 0 ∷ []) ↔ ((goodTable t ≡ true) × (storeOf t ≤ room))
+
+-- every entry Closed, window start 1, nothing taken or held, counts 0; no frame waits
+pub record Begins (t : List ℕ) (bytes : ℕ) (m : Machine) : Type 0 where
+  pub own : m .own ≡ ownOf t
+  pub protocol : m .protocol ≡ protocolOf t
+  pub need : m .need ≡ storeOf t
+  pub room : m .room ≡ bytes
+  pub count : length (m .ends) ≡ countOf t
+  pub ends : (i : ℕ) → i < countOf t
+      → Is m i (end (entryOf t i) Closed 0 0 1 [] (replicate (entryOf t i .window) none) none)
+  pub waiting : (q : Sort) → m .waiting q ≡ []
+
+unfoldable pub SetupBegins : Type 0
+SetupBegins = (m : Machine) (t : List ℕ) (room : ℕ) → goodTable t ≡ true → storeOf t ≤ room
+    → Begins t room (setting m t room .machine)
 
 -- ---- open ("Open, by the host")
 

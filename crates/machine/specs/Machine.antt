@@ -10,7 +10,7 @@ use mathlib.Core.List.{List, [], _∷_, _++_}
 use lib.ListN.{length, drop, getD, getElem?, set, replicate}
 use lib.Seq.{sets}
 use lib.Dec.{eqb, leb, ltb}
-use Rattle.units.specs.Refusals.{pick, numberOf, verdict}
+use Rattle.units.specs.Refusals.{pick, verdict}
 use Rattle.units.specs.declared.Address.{Address}
 use Rattle.units.specs.declared.refusals.Refusal.{Refusal}
 use Rattle.units.specs.declared.refusals.Refusal.the-variants as refusal

@@ -4,7 +4,7 @@
 use Prim.Native.Nat.{ℕ, _≤_, _<_}
 use mathlib.Core.Path.{_≡_}
 use mathlib.Core.Bool.{Bool, true, false}
-use mathlib.Core.Option.{Option, some}
+use mathlib.Core.Option.{some}
 use mathlib.Core.List.{List, [], List·Memᴰ}
 use lib.ListN.{length, getElem?}
 use Rattle.table.specs.Layout.{countOf, ownOf, protocolOf, entryOf}
@@ -12,7 +12,6 @@ use Rattle.table.specs.Areas.{storeOf}
 use Rattle.table.specs.Rules.{goodTable}
 use Rattle.table.specs.declared.Entry.{Entry}
 use Rattle.ends.specs.States.{isSends}
-use Rattle.ends.specs.declared.State.{State}
 use Rattle.ends.specs.declared.State.the-variants.{Enabled, Open, Failing}
 use Rattle.machine.specs.Machine.{Number, End, Item, Sort, acks, resets, urgents, resends, datas, Machine}
 use Rattle.machine.specs.Machine.{mostAcks, offset, numberAt}

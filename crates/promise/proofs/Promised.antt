@@ -27,7 +27,7 @@ use Rattle.machine.specs.Calls.{Call, opens, closes, counts, sends, urges, arri
 use Rattle.machine.specs.Machine.{End, Item, acks, Machine, first, begun, setupTests, step, SetUp}
 use Rattle.machine.specs.Sound.{Sound}
 use Rattle.refinement.specs.Standing.{endFor, endAt, ackItem, waitingFor, standsFor, Stands, Follows, SetupAnswers, Begins, Refines, StandsSound}
-use Rattle.refinement.proofs.Listing.{elem-listed}
+use Rattle.machine.proofs.Listed.{elem-listed}
 use Rattle.refinement.proofs.SetupStands.{setup-answers, begins}
 use Rattle.refinement.proofs.Refining.{refines}
 use Rattle.refinement.proofs.Sounding.{stands-sound}

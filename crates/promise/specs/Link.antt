@@ -8,7 +8,7 @@ use Rattle.units.specs.Refusals.{pick}
 use Rattle.table.specs.Layout.{countOf, ownOf, protocolOf, entryOf}
 use Rattle.table.specs.declared.Kind.the-variants.{Sends, Receives}
 use Rattle.machine.specs.Calls.{Fed}
-use Rattle.machine.specs.Machine.{End, Item, acks, Machine, at, step, SetUp}
+use Rattle.machine.specs.Machine.{Item, acks, Machine, at, step, SetUp}
 use Rattle.promise.specs.History.{s-closed}
 use Rattle.promise.specs.Promise.{SSide, RSide, Demand3}
 use Rattle.promise.specs.Seen.{Event, s-seen, r-seen, s-state-of}

@@ -53,7 +53,7 @@ use Rattle.good.proofs.NoCorners.{no-corner}
 use Rattle.machine.specs.Machine as machine
 use Rattle.machine.specs.Machine.{End, acks, Machine, Outcome, answers, judged, found, placeOf, reading, arriving, taken, step}
 use Rattle.refinement.specs.Standing.{endFor, endAt, ackItem, waitingFor, standsFor, Follows}
-use Rattle.refinement.proofs.Listing.{length-listed, getD-listed, elem-listed, elem-none}
+use Rattle.machine.proofs.Listed.{length-listed, getD-listed, elem-listed, elem-none}
 use Rattle.refinement.proofs.Following.{size-is}
 use Rattle.refinement.proofs.AckStands.{Takes, ack-takes}
 use Rattle.refinement.proofs.ReceiveStands.{urgent-takes, reset-takes, data-takes}

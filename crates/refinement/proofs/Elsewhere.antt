@@ -34,7 +34,7 @@ use Rattle.good.proofs.Stores.{urgent-low, areas-stay, read-own, slot-room}
 use Rattle.good.proofs.Payloads.{s-filled, r-filled, Stored, unaltered, put, stored-long, payload-stays}
 use Rattle.machine.specs.Machine.{End, Item, Sort, node, listed, turned}
 use Rattle.refinement.specs.Standing.{payloadFor, numberFor, placeFor, endFor, endAt, waitingFor, standsFor, Stands}
-use Rattle.refinement.proofs.Listing.{listed-ext, listed-replicate, set-listed}
+use Rattle.machine.proofs.Listed.{listed-ext, listed-replicate, set-listed}
 
 -- ---- an end point stands for the same, in another book and store
 

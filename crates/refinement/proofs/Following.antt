@@ -41,7 +41,7 @@ use Rattle.good.proofs.Offsets.{id-owner, number-at}
 use Rattle.good.proofs.Turns.{turnedTo}
 use Rattle.machine.specs.Machine.{End, Machine, Outcome, listed, anew, answers, judged, onEntry, step}
 use Rattle.refinement.specs.Standing.{endFor, endAt, slotItem, standsFor, Stands, Follows}
-use Rattle.refinement.proofs.Listing.{elem-listed, elem-none}
+use Rattle.machine.proofs.Listed.{elem-listed, elem-none}
 use Rattle.refinement.proofs.Elsewhere.{none-held, Leaves, still}
 
 -- ---- a call on entry i that answers a verdict

@@ -61,7 +61,7 @@ use Rattle.machine.specs.Machine.{Number, Item, Sort, acks, resets, urgents, re
 use Rattle.machine.specs.Machine.{urging, numberAt, turned, rank, only, waitingAs, answers, unless, frameOf, goingOut}
 use Rattle.machine.specs.Machine.{inOrder, handing, step}
 use Rattle.refinement.specs.Standing.{endFor, endAt, ackItem, slotItem, waitingFor, standsFor, Follows}
-use Rattle.refinement.proofs.Listing.{elem-listed}
+use Rattle.machine.proofs.Listed.{elem-listed}
 use Rattle.refinement.proofs.Elsewhere.{cells-same, Leaves, still, turned-stands}
 use Rattle.refinement.proofs.Waiting.{itemOf, waiting-is, queue-of, window-steady, waits-only, waits-less, lists-are}
 use Rattle.refinement.proofs.Following.{low-at, stated-at, unheld}

@@ -32,7 +32,8 @@ use Rattle.good.proofs.Senders.{Timed}
 use Rattle.good.proofs.AckRuns.{Passes, Counts, passes, passed-le}
 use Rattle.machine.specs.Machine.{Number, End, listed, numberAt, timed, ackedRun, number, numbered, running}
 use Rattle.refinement.specs.Standing.{payloadFor, numberFor, endFor}
-use Rattle.refinement.proofs.Listing.{length-listed, getD-listed, set-listed, beyond, count-snoc}
+use Rattle.machine.proofs.Listed.{length-listed, getD-listed, set-listed}
+use Rattle.refinement.proofs.Listing.{beyond, count-snoc}
 use Rattle.refinement.proofs.Elsewhere.{no-places}
 use Rattle.refinement.proofs.Passing.{payload-past}
 

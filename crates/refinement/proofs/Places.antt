@@ -29,7 +29,8 @@ use Rattle.good.proofs.AckRuns.{Passes}
 use Rattle.machine.specs.Machine as machine
 use Rattle.machine.specs.Machine.{listed, isSome, heldRun}
 use Rattle.refinement.specs.Standing.{payloadFor, placeFor, endFor}
-use Rattle.refinement.proofs.Listing.{count-snoc, length-listed, getD-listed}
+use Rattle.machine.proofs.Listed.{length-listed, getD-listed}
+use Rattle.refinement.proofs.Listing.{count-snoc}
 use Rattle.refinement.proofs.Passing.{payload-past}
 
 abbrev Place : Type 0

@@ -51,7 +51,7 @@ use Rattle.machine.specs.Machine as machine
 use Rattle.machine.specs.Machine.{End, Sort, acks, Machine, Outcome, listed, anew, turned, waits, silent, heldRun}
 use Rattle.machine.specs.Machine.{delivering, handing-on, receiving, taken}
 use Rattle.refinement.specs.Standing.{payloadFor, endFor, endAt, ackItem, waitingFor, standsFor, Stands}
-use Rattle.refinement.proofs.Listing.{length-listed}
+use Rattle.machine.proofs.Listed.{length-listed}
 use Rattle.refinement.proofs.Elsewhere.{no-urgent, none-taken, put-read, Leaves, leaves, still, turned-same, turned-stands}
 use Rattle.refinement.proofs.Waiting.{silent-steady, waits-only, lists-are, not-map, silent-then}
 use Rattle.refinement.proofs.Following.{low-at, stated-at, begun-end, size-is}

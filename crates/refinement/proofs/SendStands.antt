@@ -50,7 +50,8 @@ use Rattle.machine.specs.Machine.{number, End, datas, Machine, listed, taking, 
 use Rattle.machine.specs.Machine.{sending, step, senderTests, urgents, urging, isSome, tooShort, urgentSending}
 use Rattle.machine.specs.Machine as machine
 use Rattle.refinement.specs.Standing.{payloadFor, numberFor, endFor, endAt, slotItem, standsFor, Stands, Follows}
-use Rattle.refinement.proofs.Listing.{Put, put-both, length-listed, listed-ext}
+use Rattle.machine.proofs.Listed.{length-listed, listed-ext}
+use Rattle.refinement.proofs.Listing.{Put, put-both}
 use Rattle.refinement.proofs.Elsewhere.{numbers-same, no-places, urgent-most, put-read, Leaves, leaves, turned-stands}
 use Rattle.refinement.proofs.Waiting.{waits-more, window-steady}
 use Rattle.refinement.proofs.Following.{follows, low-at, stated-at, unheld, item-for, size-is}

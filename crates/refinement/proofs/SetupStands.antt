@@ -14,7 +14,7 @@ use Rattle.good.proofs.SetupGood.{setup-good, setup-ends}
 use Rattle.good.proofs.ReachGood.{setup-holds}
 use Rattle.machine.specs.Machine.{Sort, acks, resets, urgents, resends, datas, listed, first, begun}
 use Rattle.refinement.specs.Standing.{endFor, endAt, ackItem, waitingFor, standsFor, Stands, Begins, SetupAnswers}
-use Rattle.refinement.proofs.Listing.{listed-ext}
+use Rattle.machine.proofs.Listed.{listed-ext}
 use Rattle.refinement.proofs.Elsewhere.{none-held}
 
 closed-end : (t st b : List ℕ) (i : ℕ) → endFor st b i (closedAt t i) ≡ first (entryOf t i)

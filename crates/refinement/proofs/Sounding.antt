@@ -43,7 +43,7 @@ use Rattle.good.proofs.Payloads.{s-filled, s-narrow, r-filled}
 use Rattle.machine.specs.Machine.{Number, End, Item, Sort, acks, resets, urgents, resends, datas, Machine, listed, offset, numberAt}
 use Rattle.machine.specs.Sound.{Sized, Receives, Bounded, WaitsData, Waits, Owned, Sound}
 use Rattle.refinement.specs.Standing.{payloadFor, numberFor, placeFor, endFor, endAt, ackItem, plainItem, slotItem, waitingFor, standsFor, Stands, StandsSound}
-use Rattle.refinement.proofs.Listing.{length-listed, getD-listed, elem-listed, elem-none}
+use Rattle.machine.proofs.Listed.{length-listed, getD-listed, elem-listed, elem-none}
 use Rattle.refinement.proofs.Elsewhere.{no-urgent, none-taken, urgent-most}
 use Rattle.refinement.proofs.Following.{item-at}
 

@@ -34,7 +34,7 @@ use Rattle.good.proofs.Payloads.{unaltered}
 use Rattle.machine.specs.Machine.{End, resets, Machine, listed, anew, enabled, answers, at, ticked, each, recovered}
 use Rattle.machine.specs.Machine.{bitsFrom, ticking, step}
 use Rattle.refinement.specs.Standing.{endFor, endAt, standsFor, Stands, Follows}
-use Rattle.refinement.proofs.Listing.{length-listed, elem-listed}
+use Rattle.machine.proofs.Listed.{length-listed, elem-listed}
 use Rattle.refinement.proofs.Elsewhere.{Leaves, still, turned-stands}
 use Rattle.refinement.proofs.Waiting.{waits-reset}
 use Rattle.refinement.proofs.Following.{low-at, stated-at, begun-end}

@@ -31,7 +31,8 @@ use Rattle.good.proofs.Idling.{idle}
 use Rattle.good.proofs.TickSlots.{Lives, runs-alone, Slots, slots-first}
 use Rattle.machine.specs.Machine.{Number, listed, isSpent, fallen, tickedAll, anySpent}
 use Rattle.refinement.specs.Standing.{payloadFor, numberFor}
-use Rattle.refinement.proofs.Listing.{beyond, listed-ext, Put, put-both}
+use Rattle.machine.proofs.Listed.{listed-ext}
+use Rattle.refinement.proofs.Listing.{beyond, Put, put-both}
 use Rattle.refinement.proofs.Waiting.{lists-are}
 
 -- ---- the machine's, from the front and from the back

@@ -44,7 +44,8 @@ use Rattle.machine.specs.Machine.{Number, End, Item, Sort, resends, Machine, li
 use Rattle.machine.specs.Machine.{only, waitingAs, turned, waits, silent, running, tickedAll, anySpent, againFrom}
 use Rattle.machine.specs.Machine.{failing, ticked, node, resets}
 use Rattle.refinement.specs.Standing.{numberFor, endFor, endAt, slotItem, standsFor, Stands}
-use Rattle.refinement.proofs.Listing.{beyond, length-listed}
+use Rattle.machine.proofs.Listed.{length-listed}
+use Rattle.refinement.proofs.Listing.{beyond}
 use Rattle.refinement.proofs.Elsewhere.{no-places, Leaves, leaves, turned-stands, cells-same, none-taken, still, turned-same}
 use Rattle.refinement.proofs.Waiting.{window-steady, silent-steady, waits-same, waits-more, waits-still}
 use Rattle.refinement.proofs.Waiting.{waits-reset, sender-acks, silent-stands}

@@ -1,7 +1,7 @@
 -- Which machine a node's memory stands for, and the whole theorem: setup stands for the machine begun, and each call
 -- on what stands for a machine answers as the machine and leaves what stands for the machine afterwards. Assumes
 -- nothing.
-use Prim.Native.Nat.{ℕ, _+_, _/_, _%_, _≤_}
+use Prim.Native.Nat.{ℕ, _/_, _%_, _≤_}
 use mathlib.Core.Path.{_≡_}
 use mathlib.Core.Bool.{not, _&&_}
 use mathlib.Core.Option.{Option, none, some}
