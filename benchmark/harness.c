@@ -1,10 +1,10 @@
 /* The benchmark's harness, compiled once with the product's adapter and once with the peer's (ADAPTER).
  *
- *   harness ROW ROUNDS MODE WINDOW ENTRIES PAYLOAD
+ *   harness ROW ROUNDS MODE WINDOW ENTRIES PAYLOAD TIMERS
  *
  * A round puts the nodes back as they were, then makes a batch of the row's calls: not at all in MODE 0, once in 1, once by the clock in 2.
  * Prints how many calls a batch has and, in MODE 2, the nanoseconds a call of the quickest batch. Instructions are counted from
- * outside: those in MODE 1 less those in MODE 0. */
+ * outside: those in MODE 1 less those in MODE 0. One round more is made in every mode, and what it leaves is looked at. */
 #include <stdio.h>
 #include <stdlib.h>
 #include <string.h>
@@ -12,13 +12,15 @@
 
 #include ADAPTER
 
-enum { STORE = 32768, BLOCK = 33286, FRAME = 32777, MOST = 2048, TIMEOUT = 65535 };
+enum { STORE = 32768, BLOCK = 33286, FRAME = 32777, MOST = 2048 };
 
 static node_t here, there, here_before, there_before;  /* the sender's side, the receiver's */
 static uint8_t here_store[STORE], there_store[STORE], block[BLOCK], payload[STORE];
 static uint8_t frames[MOST][64], frame[FRAME];          /* frames that arrive in a row, short ones */
 static size_t lengths[MOST];
 static unsigned window, entries, size;                   /* of every entry; `size` is P, and every payload's length */
+static unsigned timeout = 65535;                         /* of every sender */
+static unsigned timers;                                  /* how many run, in the rows that say so */
 
 static void must(int holds, const char *what)
 {
@@ -36,9 +38,9 @@ static size_t table(uint8_t *to, uint8_t own, uint8_t other, int receives)
 
 	memcpy(to, (const uint8_t[8]){0, (uint8_t)entries, 0, 8, own, 238, 0, 0}, 8);
 	for (unsigned i = 0; i < entries; i++, at += 12) {
-		const uint8_t timeout = receives ? 0 : TIMEOUT >> 8;
+		const unsigned t = receives ? 0 : timeout;
 		const uint8_t entry[12] = {(uint8_t)receives, other, (uint8_t)i, receives ? 0 : 3, (uint8_t)(window >> 8), (uint8_t)window,
-			(uint8_t)(size >> 8), (uint8_t)size, timeout, timeout, 0, 0};
+			(uint8_t)(size >> 8), (uint8_t)size, (uint8_t)(t >> 8), (uint8_t)t, 0, 0};
 		memcpy(to + at, entry, 12);
 	}
 	return at;
@@ -108,7 +110,27 @@ static void acknowledge(unsigned many)
 	}
 }
 
-/* ---- the rows: what stands before a batch, and a batch's calls */
+/* The timers that are to run, in the first entries as far as they go. */
+static void start_timers(void)
+{
+	for (unsigned k = 0; k < timers; k++)
+		must(send_one(k / window) == 0 && out_of_here() == size + 9, "a timer's start");
+}
+
+/* A timer that is started and stopped by its acknowledgement. */
+static void stop_a_timer(void)
+{
+	must(send_one(0) == 0 && into_there(frame, out_of_here()) == 0, "a timer's start");
+	must(into_here(frame, out_of_there()) == 0 && node_confirmed(&here, 0) == 1, "its stop");
+}
+
+static void pass_ticks(unsigned many)
+{
+	for (unsigned k = 0; k < many; k++)
+		must(node_ticks(&here) == 0, "a tick that recovers none");
+}
+
+/* ---- the rows: what stands before a batch, a batch's calls, and what is to hold after them */
 
 static unsigned batch_length;
 
@@ -227,6 +249,12 @@ static int batch_round_trip(void)
 	return refused;
 }
 
+static void after_round_trip(void)
+{
+	for (unsigned i = 0; i < entries; i++)
+		must(node_confirmed(&here, i) == window, "what was sent is confirmed");
+}
+
 static void before_idle(void)
 {
 	open_both();
@@ -248,21 +276,85 @@ static int batch_tick(void)
 	return enabled != 0;
 }
 
+/* Nothing is due for long. What setup left to be found out by a first tick is found out before. */
+static void before_quiet(void)
+{
+	open_both();
+	start_timers();
+	pass_ticks(1);
+	batch_length = 64;
+}
+
+/* The next tick ends no timer, but could: it is the one at which a timer would have ended that was stopped, and all that run have
+ * started since the tick before. No bound that is left from the Resets' timers comes in between. */
+static void before_through(void)
+{
+	timeout = 2;
+	open_both();
+	pass_ticks(timeout);
+	stop_a_timer();
+	pass_ticks(timeout - 1);
+	start_timers();
+	batch_length = 1;
+}
+
+/* The next tick ends every timer, all with retries left. */
+static void before_ending(void)
+{
+	timeout = 1;
+	open_both();
+	start_timers();
+	batch_length = 1;
+}
+
+static int batch_one_tick(void)
+{
+	return node_ticks(&here) != 0;
+}
+
+static void after_none_ended(void)
+{
+	must(out_of_here() == 0, "no timer has ended");
+}
+
+static void after_all_ended(void)
+{
+	for (unsigned k = 0; k < timers; k++)
+		must(out_of_here() == size + 9, "every timer has ended");
+	after_none_ended();
+}
+
+/* None has ended, all do in the tick that follows. */
+static void after_through(void)
+{
+	after_none_ended();
+	pass_ticks(1);
+	after_all_ended();
+}
+
+static void after_nothing(void)
+{
+}
+
 static const struct row {
 	const char *name;
 	void (*before)(void);
 	int (*batch)(void);
+	void (*after)(void);
 } rows[] = {
-	{"read", before_reads, batch_reads},
-	{"write", before_writes, batch_writes},
-	{"send", before_send, batch_send},
-	{"hand_out", before_hand_out, batch_hand_out},
-	{"data", before_arrive, batch_in_order},
-	{"early_data", before_arrive, batch_out_of_order},
-	{"acknowledgement", before_acknowledge, batch_acknowledge},
-	{"round_trip", before_round_trip, batch_round_trip},
-	{"idle_tick", before_idle, batch_tick},
-	{"busy_tick", before_busy, batch_tick},
+	{"read", before_reads, batch_reads, after_nothing},
+	{"write", before_writes, batch_writes, after_nothing},
+	{"send", before_send, batch_send, after_nothing},
+	{"hand_out", before_hand_out, batch_hand_out, after_nothing},
+	{"data", before_arrive, batch_in_order, after_nothing},
+	{"early_data", before_arrive, batch_out_of_order, after_nothing},
+	{"acknowledgement", before_acknowledge, batch_acknowledge, after_nothing},
+	{"round_trip", before_round_trip, batch_round_trip, after_round_trip},
+	{"idle_tick", before_idle, batch_tick, after_none_ended},
+	{"busy_tick", before_busy, batch_tick, after_none_ended},
+	{"quiet_tick", before_quiet, batch_tick, after_none_ended},
+	{"through_tick", before_through, batch_one_tick, after_through},
+	{"ending_tick", before_ending, batch_one_tick, after_all_ended},
 };
 
 /* ---- rounds */
@@ -304,12 +396,13 @@ int main(int argc, char **argv)
 {
 	double best = 1e18;
 
-	must(argc == 7, "usage: harness ROW ROUNDS MODE WINDOW ENTRIES PAYLOAD");
+	must(argc == 8, "usage: harness ROW ROUNDS MODE WINDOW ENTRIES PAYLOAD TIMERS");
 	const struct row *row = row_called(argv[1]);
 	int rounds = atoi(argv[2]), mode = atoi(argv[3]);
 	window = (unsigned)atoi(argv[4]);
 	entries = (unsigned)atoi(argv[5]);
 	size = (unsigned)atoi(argv[6]);
+	timers = (unsigned)atoi(argv[7]);
 	for (size_t i = 0; i < sizeof payload; i++)
 		payload[i] = (uint8_t)(i * 7);
 	row->before();
@@ -319,9 +412,8 @@ int main(int argc, char **argv)
 		double took = round_of(row, mode);
 		best = took < best ? took : best;
 	}
-	if (row->batch == batch_round_trip && mode != 0)
-		for (unsigned i = 0; i < entries; i++)
-			must(node_confirmed(&here, i) == window, "what was sent is confirmed");
+	round_of(row, 1);
+	row->after();
 	printf("%u %.3f\n", batch_length, best / batch_length);
 	return 0;
 }

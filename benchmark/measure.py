@@ -3,6 +3,7 @@
 measure.py PRODUCT PEER PICTURE [RUN..]: two harnesses, where the picture of the growth goes, and what runs x86-64 programs here. Called by ./bench.
 Instructions come from tools/icount, as the difference of a run with the calls and one without; nanoseconds, on x86-64 alone, from the
 quickest batch of several runs, product and peer in turn."""
+import collections
 import concurrent.futures
 import math
 import os
@@ -12,28 +13,43 @@ import sys
 ICOUNT = os.path.join(os.path.dirname(os.path.abspath(__file__)), "..", "tools", "icount")
 BY_THE_CLOCK = os.uname().machine == "x86_64"
 
-# what is measured: label, the harness's row, window, entries, payload
-FRAMES = [("frame %s, %s bytes" % (row, format(n, ",")), row, 16, 1, n) for row in ("read", "write") for n in (16, 256, 4096)]
+# what is measured: the harness's row with the window, entries and payload of every entry, and how many timers run in the rows that say so
+Case = collections.namedtuple("Case", "label row window entries payload timers", defaults=(0,))
+FRAMES = [Case("frame %s, %s bytes" % (row, format(n, ",")), row, 16, 1, n) for row in ("read", "write") for n in (16, 256, 4096)]
 CALLS = [
-    ("send, 16 bytes", "send", 128, 1, 16),
-    ("hand out Data, 16 bytes", "hand_out", 128, 1, 16),
-    ("Data in order, 16 bytes", "data", 128, 1, 16),
-    ("Data out of order, 16 bytes", "early_data", 128, 1, 16),
-    ("acknowledgement", "acknowledgement", 128, 1, 16),
-    ("round trip, 16 bytes, W 16", "round_trip", 16, 1, 16),
-    ("idle tick, 16 entries", "idle_tick", 128, 16, 15),
-    ("busy tick, 16 x 128 timers", "busy_tick", 128, 16, 15),
+    Case("send, 16 bytes", "send", 128, 1, 16),
+    Case("hand out Data, 16 bytes", "hand_out", 128, 1, 16),
+    Case("Data in order, 16 bytes", "data", 128, 1, 16),
+    Case("Data out of order, 16 bytes", "early_data", 128, 1, 16),
+    Case("acknowledgement", "acknowledgement", 128, 1, 16),
+    Case("round trip, 16 bytes, W 16", "round_trip", 16, 1, 16),
+    Case("idle tick, 16 entries", "idle_tick", 128, 16, 15),
+    Case("busy tick, 16 x 128 timers", "busy_tick", 128, 16, 15),
+    Case("tick, all 2,048 timers end", "ending_tick", 128, 16, 15, 2048),
 ]
-WINDOWS, ENTRIES, PAYLOADS = (1, 2, 4, 8, 16, 32, 64, 128), (1, 2, 4, 8, 16), (16, 64, 256, 1024, 4096)
-GROWTH = [
-    ("window", [("round trip, W %d" % w, "round_trip", w, 1, 16) for w in WINDOWS], WINDOWS),
-    ("entries", [("round trip, entries %d" % e, "round_trip", 16, e, 16) for e in ENTRIES], ENTRIES),
-    ("payload bytes", [("round trip, %s bytes, W 4" % format(n, ","), "round_trip", 4, 1, n) for n in PAYLOADS], PAYLOADS),
+WINDOWS, ENTRIES, PAYLOADS, TIMERS = (1, 2, 4, 8, 16, 32, 64, 128), (1, 2, 4, 8, 16), (16, 64, 256, 1024, 4096), (0, 128, 512, 1024, 2048)
+
+
+def tick_cases(words, row):
+    """A tick of 16 entries with W 128, by how many timers run."""
+    return [Case("%s, %s timers" % (words, format(n, ",")), row, 128, 16, 15, n) for n in TIMERS]
+
+
+Growth = collections.namedtuple("Growth", "title cases xs")
+ROUND_TRIPS = [
+    Growth("window", [Case("round trip, W %d" % w, "round_trip", w, 1, 16) for w in WINDOWS], WINDOWS),
+    Growth("entries", [Case("round trip, entries %d" % e, "round_trip", 16, e, 16) for e in ENTRIES], ENTRIES),
+    Growth("payload bytes", [Case("round trip, %s bytes, W 4" % format(n, ","), "round_trip", 4, 1, n) for n in PAYLOADS], PAYLOADS),
+]
+# none is due for long; none is due, but the tick is one at which a timer could end, so that the product looks at every one
+TICKS = [
+    Growth("timers running", tick_cases("tick, none due", "quiet_tick"), TIMERS),
+    Growth("timers running, all looked at", tick_cases("tick through all", "through_tick"), TIMERS),
 ]
 
 
 def harness(run, program, case, rounds, mode):
-    return [*run, program, case[1], str(rounds), str(mode), *map(str, case[2:])]
+    return [*run, program, case.row, str(rounds), str(mode), *map(str, case[2:])]
 
 
 def instructions(program, case):
@@ -48,7 +64,7 @@ def instructions(program, case):
 
 def nanoseconds(run, program, case):
     """Nanoseconds a call, the least of many batches."""
-    rounds = 100 if case[1] == "busy_tick" or case[4] > 256 else 1000
+    rounds = 100 if case.row == "busy_tick" or case.timers or case.payload > 256 else 1000
     done = subprocess.run(harness(run, program, case, rounds, 2), capture_output=True, text=True, check=True)
     return float(done.stdout.split()[1])
 
@@ -61,7 +77,7 @@ def measure(programs, run, cases):
     results = {}
     for i, case in enumerate(cases):
         times = [[nanoseconds(run, program, case) for program in programs] for _ in range(5)] if BY_THE_CLOCK else []
-        results[case[0]] = counts[2 * i:2 * i + 2], [min(column) for column in zip(*times)]
+        results[case.label] = counts[2 * i:2 * i + 2], [min(column) for column in zip(*times)]
     return results
 
 
@@ -79,62 +95,90 @@ def show(title, cases, results, ratios):
     head = "%-30s %10s %10s %6s" % ("instructions a call", "product", "peer", "ratio")
     print(head + (" %12s %10s %6s" % ("ns: product", "peer", "ratio") if BY_THE_CLOCK else ""))
     for case in cases:
-        text, ratio = line(case[0], results[case[0]])
-        ratios[case[0]] = ratio
+        text, ratio = line(case.label, results[case.label])
+        ratios[case.label] = ratio
         print(text)
 
 
-# ---- the picture: a panel for each of GROWTH, instructions a payload against what grows, both on scales that double
+# ---- the picture: a panel for each of ROUND_TRIPS, instructions a payload against what grows, both on scales that double; and one for a tick
 
 WIDE, HIGH, LEFT, TOP, GAP = 250, 210, 60, 46, 70
+OURS, THEIRS = "#257", "#b55"
 
 
 def scale(values, low, high):
-    """A place between low and high for a value, by its number of doublings."""
-    least, most = min(values), max(values)
-    span = math.log2(most / least) or 1
-    return lambda v: low + (high - low) * math.log2(v / least) / span
+    """A place between low and high for a value, by its number of doublings; 0 stands one before the least other value."""
+    least, most = min(filter(None, values)), max(values)
+    zero = least / 2
+    first = least if all(values) else zero
+    span = math.log2(most / first) or 1
+    return lambda v: low + (high - low) * math.log2((v or zero) / first) / span
 
 
-def panel(number, title, xs, ours, theirs):
+def lines_around(values):
+    """25 doubled so often that the first is not above any value and the last not below any."""
+    least, most = (math.log2(v / 25) for v in (min(values), max(values)))
+    return [25 * 2 ** k for k in range(math.floor(least), math.ceil(most) + 1)]
+
+
+def curve(points, colour, dashes):
+    joined = " ".join("%.1f,%.1f" % point for point in points)
+    out = ['<polyline points="%s" fill="none" stroke="%s" stroke-width="2"%s/>' % (joined, colour, dashes)]
+    return out + ['<circle cx="%.1f" cy="%.1f" r="3" fill="%s"/>' % (*point, colour) for point in points]
+
+
+def panel(number, title, xs, curves):
+    """A curve is its values, colour and dashes."""
     left = LEFT + number * (WIDE + GAP)
     bottom = TOP + HIGH
     x = scale(xs, left, left + WIDE)
-    ticks = [100 * 2 ** k for k in range(20) if min(ours + theirs) / 2 <= 100 * 2 ** k <= max(ours + theirs) * 2]
-    y = scale(ticks, bottom, TOP)
+    levels = lines_around([v for values, _, _ in curves for v in values])
+    y = scale(levels, bottom, TOP)
     out = ['<text x="%d" y="%d" text-anchor="middle">%s</text>' % (left + WIDE / 2, bottom + 36, title)]
-    for v in ticks:
+    for v in levels:
         out.append('<path d="M%d %.1fh%d" stroke="#ddd"/><text x="%d" y="%.1f" text-anchor="end">%s</text>'
                    % (left, y(v), WIDE, left - 6, y(v) + 4, format(v, ",")))
     for v in xs:
-        out.append('<text x="%.1f" y="%d" text-anchor="middle">%d</text>' % (x(v), bottom + 18, v))
-    for values, colour in ((theirs, "#b55"), (ours, "#257")):
-        points = " ".join("%.1f,%.1f" % (x(a), y(b)) for a, b in zip(xs, values))
-        out.append('<polyline points="%s" fill="none" stroke="%s" stroke-width="2"/>' % (points, colour))
-        out += ['<circle cx="%.1f" cy="%.1f" r="3" fill="%s"/>' % (x(a), y(b), colour) for a, b in zip(xs, values)]
+        out.append('<text x="%.1f" y="%d" text-anchor="middle">%s</text>' % (x(v), bottom + 18, format(v, ",")))
+    for values, colour, dashes in curves:
+        out += curve([(x(a), y(b)) for a, b in zip(xs, values)], colour, dashes)
     return out
 
 
+def curves_of(growth, results, dashes=""):
+    """The peer's curve and the product's."""
+    return [([results[case.label][0][which] for case in growth.cases], colour, dashes) for which, colour in ((1, THEIRS), (0, OURS))]
+
+
+def words_over(number, y, size, words):
+    return '<text x="%d" y="%d" font-size="%d">%s</text>' % (LEFT + number * (WIDE + GAP), y, size, words)
+
+
 def picture(results):
-    wide = LEFT + 3 * WIDE + 2 * GAP + 20
+    last = len(ROUND_TRIPS)
+    names = '<tspan fill="%s">product</tspan>, <tspan fill="%s">peer</tspan>' % (OURS, THEIRS)
+    wide = LEFT + (last + 1) * WIDE + last * GAP + 20
     out = ['<svg xmlns="http://www.w3.org/2000/svg" width="%d" height="%d" font-family="sans-serif" font-size="12">' % (wide, TOP + HIGH + 50),
            '<rect width="100%" height="100%" fill="white"/>',
-           '<text x="%d" y="20" font-size="14">Instructions a payload, from send to confirmed: '
-           '<tspan fill="#257">product</tspan>, <tspan fill="#b55">peer</tspan></text>' % LEFT]
-    for number, (title, cases, xs) in enumerate(GROWTH):
-        ours, theirs = ([results[case[0]][0][which] for case in cases] for which in (0, 1))
-        out += panel(number, title, xs, ours, theirs)
+           words_over(0, 18, 14, "Instructions a payload, from send to confirmed: " + names),
+           words_over(last, 18, 14, "Instructions a tick, no timer due"),
+           words_over(last, 34, 12, "dashed: where a stopped one was due")]
+    for number, growth in enumerate(ROUND_TRIPS):
+        out += panel(number, growth.title, growth.xs, curves_of(growth, results))
+    quiet, through = TICKS
+    out += panel(last, quiet.title, quiet.xs, curves_of(through, results, ' stroke-dasharray="5 4"') + curves_of(quiet, results))
     return "\n".join(out + ["</svg>"]) + "\n"
 
 
 def main():
     programs, to, run = sys.argv[1:3], sys.argv[3], sys.argv[4:]
-    grown = [case for _, cases, _ in GROWTH for case in cases]
+    grown = [case for growth in ROUND_TRIPS + TICKS for case in growth.cases]
     results, ratios = measure(programs, run, FRAMES + CALLS + grown), {}
     show("Frames", FRAMES, results, ratios)
     show("Calls", CALLS, results, ratios)
-    for title, cases, _ in GROWTH:
-        show("Growth with %s, a payload" % title, cases, results, ratios)
+    for growths, of_what in ((ROUND_TRIPS, "a payload"), (TICKS, "a tick")):
+        for growth in growths:
+            show("Growth with %s, %s" % (growth.title, of_what), growth.cases, results, ratios)
     with open(to, "w") as file:
         file.write(picture(results))
     print("\n%d rows; above 1.0 of the peer: %d; above 1.5: %d" % (len(ratios), *(sum(r > most for r in ratios.values()) for most in (1.0, 1.5))))

@@ -34,6 +34,12 @@ EVENTS += ["acknowledgement at Enabled ignored, not 0", "acknowledgement at Enab
 EVENTS += ["acknowledgement 0 removes a waiting Reset", "acknowledgement stops a waiting retransmission"]
 EVENTS += ["Reset's timer ends", "data's timer ends at Open", "data's timer ends at Failing"]
 EVENTS += ["failing drops an Urgent", "failing drops data", "failing drops a retransmission"]
+EVENTS += ["a timer of T 1 ends", "a timer of T 65,535 starts", "a timer ends before one that started earlier"]
+EVENTS += ["data's timer ends, an earlier number's runs on", "timers end in one tick in another order than they started"]
+EVENTS += ["several timers of an entry end in one tick", "timers of several entries end in one tick"]
+EVENTS += ["acknowledgement stops the first timer due of several", "a stopped timer's tick ends none of those that run"]
+EVENTS += ["acknowledgement at Failing stops the last timer", "recovery in a tick at which no timer was due, stopped or not"]
+EVENTS += ["failing and recovery in one tick, M 0, one timer", "setup while timers run"]
 
 
 class Totals:

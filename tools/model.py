@@ -180,8 +180,8 @@ class Sender(End):
         self.reset_timer = 0
         self.reset_went_out = False
 
-    def running(self):
-        return any(number.timer for number in self.taken)
+    def running(self, but=None):
+        return any(number.timer for number in self.taken if number is not but)
 
 
 class Receiver(End):
@@ -200,6 +200,64 @@ class Receiver(End):
         return run
 
 
+class Astray(Exception):
+    """Other timers have ended than were due."""
+
+
+class Timers:
+    """A bystander of the running timers, for coverage: what comes of them is counted in `seen`.
+
+    Each is kept as the tick at which it is due, so that taking timers down by one is held against counting ticks."""
+
+    Running = collections.namedtuple("Running", "due place timeout")  # `place`: how many had started before it
+
+    def __init__(self, seen):
+        self.seen, self.now, self.started = seen, 0, 0
+        self.running = {}  # by entry index and Number, or None for the Reset's
+        self.missed = set()  # the ticks at which timers that were stopped would have been due
+
+    def start(self, index, number, timeout):
+        self.running[index, number] = self.Running(self.now + timeout, self.started, timeout)
+        self.started += 1
+        self.seen["a timer of T 65,535 starts"] += timeout == 65535
+
+    def stop(self, index, number):
+        """An acknowledgement stops it, if it runs."""
+        timer = self.running.pop((index, number), None)
+        if timer is None:
+            return
+        self.missed.add(timer.due)
+        first = bool(self.running) and timer.due < min(other.due for other in self.running.values())
+        self.seen["acknowledgement stops the first timer due of several"] += first
+
+    def forget(self, index):
+        """Those of an entry are gone."""
+        for key in [key for key in self.running if key[0] == index]:
+            self.missed.add(self.running.pop(key).due)
+
+    def tick(self, ended, enabled):
+        """A tick in which these timers have ended, in this order, and so many entries became Enabled."""
+        self.now += 1
+        due = {key: self.running.pop(key) for key in [key for key, timer in self.running.items() if timer.due == self.now]}
+        if set(ended) != set(due):
+            raise Astray("tick %d" % self.now)
+        self.count_ended([(index, due[index, number]) for index, number in ended])
+        if not ended:
+            self.seen["a stopped timer's tick ends none of those that run"] += self.now in self.missed and bool(self.running)
+            self.seen["recovery in a tick at which no timer was due, stopped or not"] += enabled * (self.now not in self.missed)
+
+    def count_ended(self, timers):
+        """Of (entry index, timer)."""
+        entries = [index for index, _ in timers]
+        self.seen["several timers of an entry end in one tick"] += len(entries) > len(set(entries))
+        self.seen["timers of several entries end in one tick"] += len(set(entries)) > 1
+        self.seen["timers end in one tick in another order than they started"] += any(
+            a[0] == b[0] and a[1].place > b[1].place for a, b in zip(timers, timers[1:]))
+        for _, timer in timers:
+            self.seen["a timer of T 1 ends"] += timer.timeout == 1
+            self.seen["a timer ends before one that started earlier"] += any(timer.place > other.place for other in self.running.values())
+
+
 # 4. THE NODE
 
 
@@ -211,6 +269,7 @@ class Node:
         self.ends = []
         self.waiting = [[] for _ in SORTS]  # of (entry index, what is needed to write the frame)
         self.seen = collections.Counter()
+        self.timers = Timers(self.seen)
 
     # what waits
 
@@ -254,6 +313,8 @@ class Node:
         self.own, self.protocol, entries = read_table(data)
         self.ends = [Sender(e) if e.kind == SENDS else Receiver(e) for e in entries]
         self.waiting = [[] for _ in SORTS]
+        self.seen["setup while timers run"] += bool(self.timers.running)
+        self.timers = Timers(self.seen)
         return []
 
     def open(self, index):
@@ -268,6 +329,7 @@ class Node:
         self.turn(end, CLOSED)
         end.clear()
         self.drop(index, *SORTS)
+        self.timers.forget(index)
         return []
 
     def counts(self, index):
@@ -351,6 +413,9 @@ class Node:
             return self.ignored(end, "again" if number.acknowledged else "not handed out")
         self.seen["acknowledgement stops a waiting retransmission"] += (index, number) in self.waiting[AGAIN]
         self.waiting[AGAIN] = [item for item in self.waiting[AGAIN] if item != (index, number)]
+        stops_last = number.timer and not end.running(but=number)
+        self.seen["acknowledgement at Failing stops the last timer"] += bool(end.state == FAILING and stops_last)
+        self.timers.stop(index, number)
         number.acknowledged, number.timer = True, 0
         passed = 0
         while end.taken and end.taken[0].acknowledged:
@@ -374,6 +439,7 @@ class Node:
         end.clear()
         end.accepted = end.confirmed = 0
         self.drop(index, RESETS)
+        self.timers.stop(index, None)
         return [OPENED]
 
     def take_reset(self, index, end):
@@ -419,11 +485,13 @@ class Node:
         elif sort == RESETS:
             control = RESET
             end.reset_timer, end.reset_went_out = end.entry.timeout, True
+            self.timers.start(index, None, end.entry.timeout)
         elif sort == URGENTS:
             control, payload = URGENT, what
         else:
             sequence, payload = what.sequence, what.payload
             what.handed_out, what.timer = True, end.entry.timeout
+            self.timers.start(index, what, end.entry.timeout)
         self.seen["handed out: " + ("acknowledgement", "Reset", "Urgent", "retransmission", "data")[sort]] += 1
         return frame(end.entry.remote, self.protocol, self.own, control, end.entry.channel, sequence, payload)
 
@@ -431,39 +499,51 @@ class Node:
 
     def tick(self):
         senders = [(index, end) for index, end in enumerate(self.ends) if isinstance(end, Sender)]
+        failing = {index for index, end in senders if end.state == FAILING}
+        ended, enabled = [], []  # timers as (entry index, Number or None for the Reset's); entries
         for index, end in senders:
             if end.state == ENABLED:
-                self.tick_reset(index, end)
+                ended += self.tick_reset(index, end)
             for number in list(end.taken):
-                self.tick_number(index, end, number)
-        bits = 0
+                ended += self.tick_number(index, end, number)
+        failed = {index for index, end in senders if end.state == FAILING} - failing
         for index, end in senders:
             if end.state == FAILING and not end.running():
                 self.enable(index, end)
-                bits |= 1 << index
-        return [bits]
+                enabled.append(index)
+                alone = index in failed and end.entry.retries == 0 and [i for i, _ in ended].count(index) == 1
+                self.seen["failing and recovery in one tick, M 0, one timer"] += alone
+        self.timers.tick(ended, len(enabled))
+        return [sum(1 << index for index in enabled)]
 
     def tick_reset(self, index, end):
+        """The Reset's timer, if it ends."""
+        if not end.reset_timer:
+            return []
+        end.reset_timer -= 1
         if end.reset_timer:
-            end.reset_timer -= 1
-            if end.reset_timer == 0:
-                self.seen["Reset's timer ends"] += 1
-                self.wait(RESETS, index)
+            return []
+        self.seen["Reset's timer ends"] += 1
+        self.wait(RESETS, index)
+        return [(index, None)]
 
     def tick_number(self, index, end, number):
+        """A number's timer, if it ends."""
         if not number.timer:
-            return
+            return []
         number.timer -= 1
         if number.timer:
-            return
+            return []
         self.seen["data's timer ends at " + end.state] += 1
+        self.seen["data's timer ends, an earlier number's runs on"] += any(n.timer for n in end.taken[:end.taken.index(number)])
         if end.state == FAILING:
-            return
-        if number.retries < end.entry.retries:
+            pass
+        elif number.retries < end.entry.retries:
             number.retries += 1
             self.wait(AGAIN, index, number)
         else:
             self.fail(index, end)
+        return [(index, number)]
 
 
 # 5. THE DESK

@@ -13,7 +13,9 @@ def build_peer(extra="", out=PEER):
 
 
 def build_sanitized():
-    """Builds the C peer with sanitizers, which end it at their first finding; gives where."""
+    """Builds the C peer with sanitizers, which end it at their first finding; gives where. It allocates nothing, so leaks are not looked
+    for: on some machines that takes seconds a run."""
+    os.environ.setdefault("ASAN_OPTIONS", "detect_leaks=0")
     return build_peer("-g -fsanitize=address,undefined -fno-sanitize-recover=all", PEER + "_sanitized")
 
 

@@ -7,7 +7,7 @@ import random
 
 import history
 import model
-from model import ACKNOWLEDGE, CLOSED, DATA, ENABLED, OPEN, RECEIVES, RESET, SENDS, URGENT, Entry, Receiver, Sender
+from model import ACKNOWLEDGE, CLOSED, DATA, ENABLED, FAILING, OPEN, RECEIVES, RESET, SENDS, URGENT, Entry, Receiver, Sender
 
 WINDOWS = (0, 1, 2, 4, 8, 16, 32, 64, 128)
 
@@ -95,7 +95,7 @@ def random_entry(rng, remotes, channels, room):
     largest = rng.choice((1, 2, 3, 8, 40, 256, most, rng.randint(1, most)))
     retries, timeout = 0, 0
     if kind == SENDS:
-        retries, timeout = rng.choice((0, 0, 1, 1, 2, 3, 255)), rng.choice((1, 1, 2, 3, 5, 5, 400, 65535))
+        retries, timeout = rng.choice((0, 0, 1, 1, 2, 3, 255)), rng.choice((1, 1, 2, 3, 5, 5, 12, 40, 400, 65535))
     return Entry(kind, rng.choice(remotes), rng.choice(channels), retries, window, min(largest, most), timeout)
 
 
@@ -171,8 +171,11 @@ class Player:
         return self.focus % len(ends)
 
     def end(self):
-        """An end point, None on a node without any."""
+        """An end point, None on a node without any; often one at Failing, since that is soon over."""
         index, ends = self.index(), self.trace.node.ends
+        failing = [end for end in ends if end.state == FAILING]
+        if failing and self.rng.random() < 0.4:
+            return self.rng.choice(failing)
         return ends[index] if index < len(ends) else None
 
     def payload(self, largest):
@@ -284,8 +287,8 @@ class Player:
 
     def move(self):
         rng, trace = self.rng, self.trace
-        what = rng.choices(("arrive", "hand out", "send", "urgent", "tick", "counts", "open", "close", "focus", "flood", "table"),
-                           (40, 34, 20, 3, 7, 2, 2, 0.4, 3, 0.3, 0.15))[0]
+        what = rng.choices(("arrive", "hand out", "send", "urgent", "tick", "wait", "counts", "open", "close", "focus", "flood", "table"),
+                           (40, 34, 20, 3, 7, 0.6, 2, 2, 0.4, 3, 0.3, 0.15))[0]
         if what == "arrive":
             self.arrive()
         elif what == "hand out":
@@ -296,6 +299,9 @@ class Player:
             self.give(trace.urgent)
         elif what == "tick":
             trace.tick()
+        elif what == "wait":
+            for _ in range(rng.choice((2, 5, 10, 40))):
+                trace.tick()
         elif what == "counts":
             trace.counts(self.index())
         elif what == "open":
