@@ -1,15 +1,15 @@
 -- An acknowledgement taken in by a sender keeps a good node good; what becomes of its end point, and that no payload's length
 -- alters. Assumes nothing.
-use Prim.Native.Nat.{ℕ, _-_, _≤_, _<_}
+use Prim.Native.Nat.{ℕ, _-_, _<_}
 use mathlib.Core.Path.{_≡_, refl, sym, ap, subst, _∙_}
 use mathlib.Core.Bool.{Bool, true, false, _&&_, true≢false}
 use mathlib.Core.List.{List, [], _∷_, List·Memᴰ, List·Memᴰ·not-nil}
 use native.Mathlib.Omega.{arith}
-use lib.ListN.{getD, set}
+use lib.ListN.{set}
 use lib.Dec.{eqb}
 use borrow.Author.Tests.{eqb-true, ltb-true}
 use Rattle.units.specs.Refusals.{pick}
-use Rattle.memory.specs.Layout.{resets, urgents, resends, datas, resetId, lengthAt, timerAt}
+use Rattle.memory.specs.Layout.{resets, urgents, resends, datas, resetId, timerAt}
 use Rattle.waiting.specs.Queues.{unlinked}
 use Rattle.window.specs.Windows.{offsetOf}
 use Rattle.window.proofs.Resetting.{reset-held, reset-good}
@@ -22,10 +22,10 @@ use Rattle.ends.specs.Lent.{Lent}
 use Rattle.ends.specs.declared.State.{State}
 use Rattle.ends.specs.declared.State.the-variants.{Closed, Enabled, Open, Failing}
 use Rattle.ends.specs.declared.answers.Arrived.the-variants as arrived
-use Rattle.slots.specs.Slots.{cell, past, lengthIn, timerIn}
+use Rattle.slots.specs.Slots.{cell, past, timerIn}
 use Rattle.acking.specs.Acking.{counts, passing, ackedRun, openedRun, ackAnswer, resetGone, stopped, fewer, ackNode, ackBook, ackAfter}
 use Rattle.good.specs.Good.{Lists, mine, ids, Silent, Sending, OpenSender, FailingSender, Good}
-use Rattle.good.proofs.Lined.{less, unlink-cells}
+use Rattle.good.proofs.Lined.{less}
 use Rattle.good.proofs.Framing.{Within, within-same, within-unlink, Apart, apart-same, apart-saved, entry-low}
 use Rattle.good.proofs.Offsets.{reset-owner}
 use Rattle.good.proofs.Turns.{run-fits, state-fits, turnedTo, end-saved, sender-turn, Kept}
@@ -49,7 +49,6 @@ record Outcome (t ws b : List ℕ) (l : Lists) (ws′ b′ : List ℕ) (i s : �
   apart : Apart i ws ws′
   within : Within i b b′ l lists
   ends : Acked ws b ws′ b′ i s
-  lengths : (c : ℕ) → c < 2048 → lengthIn b′ c ≡ lengthIn b c
 
 -- ---- the states
 
@@ -114,7 +113,6 @@ module _ (t ws b : List ℕ) (l : Lists) (G : Good t ws b l) (i s : ℕ) (li : i
             apart = apart-saved i ws Open r;
             within = z .within;
             ends = counted q c (end-saved ws i Open r (G .long) (entry-low t ws b l G i li) tt open-fits (pass .size));
-            lengths = z .timed .lengths;
           }
 
     -- Failing
@@ -177,7 +175,6 @@ module _ (t ws b : List ℕ) (l : Lists) (G : Good t ws b l) (i s : ℕ) (li : i
             apart = apart-saved i ws (Failing m) r;
             within = failing-within;
             ends = failed n q c (end-saved ws i (Failing m) r (G .long) (entry-low t ws b l G i li) fewer-fits failing-fits (pass .size));
-            lengths = failing-timed .lengths;
           }
 
   -- Enabled, opened by number 0
@@ -213,10 +210,10 @@ module _ (t ws b : List ℕ) (l : Lists) (G : Good t ws b l) (i s : ℕ) (li : i
   fresh-fits =
       record { start = omega arith; taken = omega arith; handed = omega arith; accepted = omega arith; confirmed = omega arith; urgent = omega arith }
 
-  opened-outcome : (t₀ : ℕ) → endOf ws i .state ≡ Enabled t₀ true → s ≡ 0 → (b′ : List ℕ) (l′ : Lists) → Within i b b′ l l′ → ((c : ℕ) → 4224 ≤ c → getD b′ c 0 ≡ getD b c 0) → Silent l′ i []
+  opened-outcome : (t₀ : ℕ) → endOf ws i .state ≡ Enabled t₀ true → s ≡ 0 → (b′ : List ℕ) (l′ : Lists) → Within i b b′ l l′ → Silent l′ i []
       → Outcome t ws b l (saved ws i Open (openedRun (endOf ws i .run))) b′ i s
   unfolding openedRun
-  opened-outcome t₀ q z b′ l′ v same h =
+  opened-outcome t₀ q z b′ l′ v h =
       let r = openedRun (endOf ws i .run) in
       record {
         lists = l′;
@@ -225,7 +222,6 @@ module _ (t ws b : List ℕ) (l : Lists) (G : Good t ws b l) (i s : ℕ) (li : i
         apart = apart-saved i ws Open r;
         within = v;
         ends = opened t₀ q z (end-saved ws i Open r (G .long) (entry-low t ws b l G i li) tt fresh-fits refl);
-        lengths = λ c l. same (lengthAt c) (omega arith);
       }
 
   -- its Reset waited, or not
@@ -234,8 +230,8 @@ module _ (t ws b : List ℕ) (l : Lists) (G : Good t ws b l) (i s : ℕ) (li : i
   opened-kept t₀ q e true a =
       opened-outcome t₀ q e (unlinked b (resetId i)) (less l (resetId i))
       (within-unlink i b l (G .lines) resets (resetId i) (omega arith) (reset-waited b l (G .lines) i a) (reset-owner i (entry-low t ws b l G i li)))
-      (unlink-cells b l (G .lines) resets (resetId i) (omega arith) (reset-waited b l (G .lines) i a)) (reset-gone b l (G .lines) i a)
-  opened-kept t₀ q e false a = opened-outcome t₀ q e b l (within-same i b l (G .lines)) (λ c h. refl) a
+      (reset-gone b l (G .lines) i a)
+  opened-kept t₀ q e false a = opened-outcome t₀ q e b l (within-same i b l (G .lines)) a
 
   -- nothing
   nothing : ackAnswer (endOf ws i) (endOf ws i .state) s ≡ arrived.Ignored → Outcome t ws b l ws b i s
@@ -246,7 +242,6 @@ module _ (t ws b : List ℕ) (l : Lists) (G : Good t ws b l) (i s : ℕ) (li : i
         apart = apart-same i ws;
         within = within-same i b l (G .lines);
         ends = ignored refl refl h;
-        lengths = λ c g. refl;
       }
 
   -- ---- all of them
@@ -290,7 +285,3 @@ module _ (t : List ℕ) (x : Lent) (l : Lists) (i s : ℕ) (g : Good t (x .node)
   pub ack-ends : Acked (x .node) (x .book) (ackAfter x i (endOf (x .node) i) (endOf (x .node) i .state) s .node)
       (ackAfter x i (endOf (x .node) i) (endOf (x .node) i .state) s .book) i s
   ack-ends = whole .ends
-
-  -- the payloads' lengths are as they were
-  pub ack-lengths : (c : ℕ) → c < 2048 → lengthIn (ackAfter x i (endOf (x .node) i) (endOf (x .node) i .state) s .book) c ≡ lengthIn (x .book) c
-  ack-lengths = whole .lengths

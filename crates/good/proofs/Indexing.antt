@@ -1,7 +1,7 @@
 -- The index that setup makes says of each entry what the table does. Assumes that the table's elements are bytes.
 use Prim.Native.Nat.{ℕ, zero, suc, _≤_, _<_}
 use mathlib.Core.Path.{_≡_, refl, sym, ap, _∙_}
-use mathlib.Core.Bool.{Bool, true, false, _&&_, _||_, and-true, and-false, or-false, and-assoc}
+use mathlib.Core.Bool.{Bool, true, _&&_, _||_, and-true, and-false, or-false, and-assoc}
 use mathlib.Core.List.{List}
 use native.Mathlib.Decide.{ℕ-discrete, decLt}
 use native.Mathlib.Omega.{arith}

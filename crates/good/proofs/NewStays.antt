@@ -1,27 +1,23 @@
 -- A new node stays as it is until it is set up. Assumes nothing.
 use Prim.Native.Nat.{ℕ, _≤_}
-use mathlib.Core.Path.{_≡_, refl, sym, ap, _∙_}
+use mathlib.Core.Path.{_≡_, refl, ap}
 use mathlib.Core.Logic.{_⊎_, inl, inr}
-use mathlib.Core.Bool.{Bool, true, false}
 use mathlib.Core.List.{List, []}
 use native.Mathlib.Omega.{arith}
-use lib.ListN.{length, replicate, getD, getD-replicate}
-use lib.Dec.{leb, ltb}
+use lib.ListN.{getD-replicate}
 use borrow.Author.Tests.{le-ltb}
-use Rattle.units.specs.Refusals.{pick}
 use Rattle.memory.specs.Layout.{rowAt, nodeWords}
 use Rattle.window.proofs.Bits.{bit-of-zero}
 use Rattle.ends.specs.Heads.{countIn}
-use Rattle.ends.specs.Lent.{Lent}
 use Rattle.ends.specs.declared.answers.HandedOut.{HandedOut}
 use Rattle.ends.specs.declared.answers.HandedOut.the-variants.{Length, Refused as HandRefused}
 use Rattle.lookup.specs.Lookup.{rowIn, channelDigit, remoteDigit, Indexed}
 use Rattle.lookup.proofs.Rows.{row-zero}
 use Rattle.ticking.specs.Ticking.{tickAfter, tickBoth, recoverAll, tickEntries}
-use Rattle.handing.specs.Handing.{handAnswer, handAfter, nextOut, handedOut, outNode, outBook}
+use Rattle.handing.specs.Handing.{handAnswer, handAfter, nextOut, outNode, outBook}
 use Rattle.handing.specs.declared.Next.the-variants as next
-use Rattle.good.specs.Calls.{Memory, lent, bare, kept, keptBare, after}
-use Rattle.machine.specs.Calls.{Call, opens, closes, counts, sends, urges, arrives, hands-out, ticks}
+use Rattle.good.specs.Calls.{lent, bare, kept, keptBare, after}
+use Rattle.machine.specs.Calls.{opens, closes, counts, sends, urges, arrives, hands-out, ticks}
 use Rattle.good.specs.NewNode.{newNode, NewStays}
 use Rattle.good.proofs.OpenKeeps.{open-refused}
 use Rattle.good.proofs.CloseKeeps.{close-refused}

@@ -1,7 +1,7 @@
 -- The numbers of a window as cells and as what waits: whose they are, that no two are the same, and how they move with the start.
 -- Assumes nothing.
 use Prim.Native.Nat.{ℕ, zero, suc, _+_, _-_, _%_, _^_, _≤_, _<_}
-use mathlib.Core.Path.{_≡_, refl, sym, ap, subst, _∙_}
+use mathlib.Core.Path.{_≡_, sym, ap, subst, _∙_}
 use mathlib.Core.Logic.{_⊎_, inl, inr}
 use mathlib.Core.List.{List, [], _∷_, _++_, List·Memᴰ, List·Memᴰ·head, List·Memᴰ·tail, List·Memᴰ·cases-cons, List·Memᴰ·not-nil}
 use native.Mathlib.Decide.{decLt}
@@ -9,7 +9,7 @@ use native.Mathlib.Nat.{add-zero, add-suc, suc-add}
 use native.Mathlib.Omega.{arith}
 use borrow.Author.Tests.{ne-eqb, lt-ltb, le-ltb}
 use Rattle.units.specs.declared.Seq.{Seq}
-use Rattle.memory.specs.Layout.{resetId, urgentId, slotId}
+use Rattle.memory.specs.Layout.{resetId, urgentId}
 use Rattle.window.specs.Windows.{movedOf, acceptOf, passOf, runOf, Good as GoodWindow}
 use Rattle.window.specs.declared.Window.{Window}
 use Rattle.window.proofs.Accepting.{accept-start, accept-size}
@@ -127,12 +127,6 @@ module _ (w : Window) (g : GoodWindow w) where
 
 -- ---- when the start moves
 
-pub past-moved : (w : Window) (n k : ℕ) → past (movedOf w n) k ≡ past w (n + k)
-past-moved w n k = omega arith
-
-pub cell-moved : (i : ℕ) (w : Window) (n k : ℕ) → cell i (movedOf w n) (past (movedOf w n) k) ≡ cell i w (past w (n + k))
-cell-moved i w n k = ap (cell i w) (past-moved w n k)
-
 -- where the numbers of a window that took a number in and passed what it could lay before
 pub cell-pass : (i : ℕ) (w : Window) (s k : ℕ)
     → cell i (passOf (acceptOf w s .window) .window) (past (passOf (acceptOf w s .window) .window) k) ≡ cell i w (past w (runOf (acceptOf w s .window) + k))
@@ -141,9 +135,6 @@ cell-pass i w s k =
     let e : acceptOf w s .window .start .0 ≡ w .start .0 = ap (λ (q : Seq). q .0) (accept-start w s) in
     let p : past (movedOf (acceptOf w s .window) (runOf (acceptOf w s .window))) k ≡ past w (runOf (acceptOf w s .window) + k) = rw e (omega arith) in
     rw (p, accept-size w s)
-
-pub id-moved : (i : ℕ) (w : Window) (n k : ℕ) → idAt i (movedOf w n) k ≡ idAt i w (n + k)
-id-moved i w n k = ap slotId (cell-moved i w n k)
 
 -- ---- several of them
 
@@ -175,10 +166,3 @@ ids-all i w k (suc n) j l h = ids-either (λ m. ids-all i w (suc k) n j m (omega
     ids-either : (k < j → List·Memᴰ (idAt i w j) (ids i w (suc k) n)) → Dec (k < j) → List·Memᴰ (idAt i w j) (idAt i w k ∷ ids i w (suc k) n)
     ids-either below (yes p) = List·Memᴰ·tail (below p)
     ids-either below (no p) = List·Memᴰ·head (let e : j ≡ k = omega arith in ap (idAt i w) e)
-
-pub ids-moved : (i : ℕ) (w : Window) (m k n : ℕ) → ids i (movedOf w m) k n ≡ ids i w (m + k) n
-unfolding ids
-ids-moved i w m k zero = refl
-ids-moved i w m k (suc n) =
-    rw (id-moved i w m k, ids-moved i w m (suc k) n)
-    (ap (λ (j : ℕ). idAt i w (m + k) ∷ ids i w j n) (add-suc m k))

@@ -26,7 +26,7 @@ use Rattle.blocks.specs.Payloads.{payloadAt}
 use Rattle.good.specs.Good.{Lists, Fresh, Filled, Stated, Good}
 use Rattle.good.specs.Calls.{Memory}
 use Rattle.good.proofs.Known.{stated-as}
-use Rattle.good.proofs.Framing.{Within, Apart, apart-count, entry-low, length-owner}
+use Rattle.good.proofs.Framing.{Within, Apart, entry-low, length-owner}
 use Rattle.good.proofs.Stores.{slot-low, areas-stay, slots-stay}
 
 -- the payload of the number k past the start, of end point e of entry i, and of that entry of a node
@@ -98,12 +98,6 @@ module _ (t : List ℕ) (n m : Memory) (l l′ : Lists) (g : Good t (n .node) (n
     (a : Apart j (n .node) (m .node)) (v : Within j (n .book) (m .book) l l′) (st : Stored t n (m .store) j) where
   pub end-stays : endOf (m .node) i ≡ endOf (n .node) i
   end-stays = a .others i d
-
-  pub count-stays : countIn (m .node) ≡ countIn (n .node)
-  count-stays = apart-count j (n .node) (m .node) a
-
-  pub room-stays : storeOf t ≤ length (m .store)
-  room-stays = rw (stored-long t n (m .store) j st) room
 
   -- the payload of a number whose cell is filled stays
   pub payload-stays : (k : ℕ) → Filled (n .book) i (endOf (n .node) i .run .window) (endOf (n .node) i .entry .largest) k → payloadOf m i k ≡ payloadOf n i k

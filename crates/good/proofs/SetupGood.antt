@@ -27,7 +27,6 @@ use Rattle.table.proofs.Good.{good-head, good-entry}
 use Rattle.ends.specs.Ends.{loadEntry, placeIn, endOf}
 use Rattle.ends.specs.Heads.{countIn}
 use Rattle.ends.specs.Lent.{Lent}
-use Rattle.ends.specs.declared.State.the-variants.{Closed}
 use Rattle.ends.specs.declared.EndPoint.{EndPoint}
 use Rattle.lookup.specs.Lookup.{rowIn, Indexed}
 use Rattle.lookup.proofs.Rows.{row-zero}

@@ -41,48 +41,6 @@ pub data Ticks (e e′ : EndPoint) : Type 0 where
   failed : (m : ℕ) → e .state ≡ Open → e′ ≡ turnedTo e (Failing m) (urgentGone (e .run)) → Ticks e e′
   failing : (n m : ℕ) → e .state ≡ Failing n → e′ ≡ turnedTo e (Failing m) (e .run) → Ticks e e′
 
--- all but the state and the Urgent stays
-pub record Alike (e e′ : EndPoint) : Type 0 where
-  pub entry : e′ .entry ≡ e .entry
-  pub place : e′ .place ≡ e .place
-  pub window : e′ .run .window ≡ e .run .window
-  pub taken : e′ .run .taken ≡ e .run .taken
-  pub handed : e′ .run .handed ≡ e .run .handed
-  pub accepted : e′ .run .accepted ≡ e .run .accepted
-  pub confirmed : e′ .run .confirmed ≡ e .run .confirmed
-
-alike-run : (e e′ : EndPoint) (s : State) → e′ ≡ turnedTo e s (e .run) → Alike e e′
-alike-run e e′ s h =
-    record {
-      entry = ap (λ (x : EndPoint). x .entry) h;
-      place = ap (λ (x : EndPoint). x .place) h;
-      window = ap (λ (x : EndPoint). x .run .window) h;
-      taken = ap (λ (x : EndPoint). x .run .taken) h;
-      handed = ap (λ (x : EndPoint). x .run .handed) h;
-      accepted = ap (λ (x : EndPoint). x .run .accepted) h;
-      confirmed = ap (λ (x : EndPoint). x .run .confirmed) h;
-    }
-
-alike-gone : (e e′ : EndPoint) (s : State) → e′ ≡ turnedTo e s (urgentGone (e .run)) → Alike e e′
-unfolding urgentGone
-alike-gone e e′ s h =
-    record {
-      entry = ap (λ (x : EndPoint). x .entry) h;
-      place = ap (λ (x : EndPoint). x .place) h;
-      window = ap (λ (x : EndPoint). x .run .window) h;
-      taken = ap (λ (x : EndPoint). x .run .taken) h;
-      handed = ap (λ (x : EndPoint). x .run .handed) h;
-      accepted = ap (λ (x : EndPoint). x .run .accepted) h;
-      confirmed = ap (λ (x : EndPoint). x .run .confirmed) h;
-    }
-
-pub ticks-alike : {e e′ : EndPoint} → Ticks e e′ → Alike e e′
-ticks-alike {e} {e′} (closed s h) = alike-run e e′ (e .state) h
-ticks-alike {e} {e′} (enabled n m sent s h) = alike-run e e′ (Enabled m sent) h
-ticks-alike {e} {e′} (opened s h) = alike-run e e′ (e .state) h
-ticks-alike {e} {e′} (failed m s h) = alike-gone e e′ (Failing m) h
-ticks-alike {e} {e′} (failing n m s h) = alike-run e e′ (Failing m) h
-
 -- ---- an entry's turn
 
 -- a good node stays good, only entry i's business altered; what became of its end point; every payload's length stays

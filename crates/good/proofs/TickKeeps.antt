@@ -16,7 +16,6 @@ use Rattle.memory.specs.Layout.{resets, resetId, lengthAt}
 use Rattle.waiting.specs.Queues.{appended}
 use Rattle.order.specs.Order.{acksIn}
 use Rattle.kept.proofs.Kept.{RunFits}
-use Rattle.table.specs.declared.Entry.{Entry}
 use Rattle.ends.specs.Ends.{endOf}
 use Rattle.ends.specs.Heads.{countIn}
 use Rattle.ends.specs.States.{isSends}
@@ -30,13 +29,13 @@ use Rattle.slots.specs.Slots.{lengthIn}
 use Rattle.ticking.specs.Ticking.{tickEntry, tickEntries, Recovered, again, recover, recoverAll, entries, tickBoth, tickAfter, tickAnswer}
 use Rattle.ends.specs.States.{isOver}
 use Rattle.ticking.proofs.Apart.{after-head}
-use Rattle.good.specs.Good.{Lists, Silent, Stated, Entered, Good}
+use Rattle.good.specs.Good.{Lists, Silent, Stated, Good}
 use Rattle.good.proofs.Lined.{added}
 use Rattle.good.proofs.Known.{stated-as}
 use Rattle.good.proofs.Framing.{apart-saved, apart-count, count-low, entry-low}
 use Rattle.good.proofs.Turns.{run-fits, turnedTo, end-saved, anew-fits, anew-size, acks-ext, sender-turn, Kept, kept-same}
 use Rattle.good.proofs.Senders.{reset-within, reset-cells, reset-silent, enabled-sender}
-use Rattle.good.proofs.TickEntry.{Ticks, closed, enabled, opened, failed, failing, ticks-alike, EntryTicked, tick-entry-keeps}
+use Rattle.good.proofs.TickEntry.{Ticks, closed, enabled, opened, failed, failing, EntryTicked, tick-entry-keeps}
 
 -- ---- every entry's timers
 
@@ -305,19 +304,3 @@ tick-keeps t x l g =
       store = q .store ∙ p .store;
       out = q .out ∙ p .out;
     }
-
--- a receiver ticks and never recovers: only a sender fails
-receiver-stays : (b : List ℕ) (l : Lists) (j bit : ℕ) (e m e′ : EndPoint) → isSends (e .entry .kind) ≡ false → Entered b l j m → Ticks e m → Recovers bit m e′ → Ticks e e′
-receiver-stays b l j bit e m e′ k n h (stays z o q) = subst (Ticks e) (sym q) h
-receiver-stays b l j bit e m e′ k n h (recovers z s q) =
-    absurd (false≢true (sym k ∙ ap (λ (y : Entry). isSends (y .kind)) (sym (ticks-alike h .entry)) ∙ failing-sends b l j m (isSends (m .entry .kind)) 0 (stated-as b l j m n (isSends (m .entry .kind)) refl (Failing 0) s) .0))
-
-pub tick-receiver : (t : List ℕ) (x : Lent) (l : Lists) → Good t (x .node) (x .book) l → (j : ℕ) → j < countIn (x .node) → isSends (endOf (x .node) j .entry .kind) ≡ false
-    → Ticks (endOf (x .node) j) (endOf (tickAfter x .node) j)
-unfolding tickAfter tickBoth
-tick-receiver t x l g j h k =
-    let n : entries x ≡ countIn (x .node) = min-eq-left (count-low t (x .node) (x .book) l g) in
-    let y : Recovered = record { lent = tickEntries (entries x) x; bits = 0 } in
-    let p = passed t x l g (entries x) (omega arith) in
-    let q = rounds t y (p .lists) (p .good) refl (entries x) (omega (arith, p .count)) in
-    receiver-stays (y .lent .book) (p .lists) j _ _ _ _ k (p .good .entered j (omega (arith, p .count))) (p .ticks j (omega arith)) (q .fate j (omega arith))

@@ -102,7 +102,7 @@ module _ (m : Machine) (q : Sort) (x : Item) (xs : List Item) (n : Next m q x xs
       rw (h, ne-eqb (x .entry) j d)
   rest-leaves r false z = refl
 
-  gone-leaves : (buffer : List ℕ) (e : End) → Untouched m (gone m buffer q x e .machine) j
+  pub gone-leaves : (buffer : List ℕ) (e : End) → Untouched m (gone m buffer q x e .machine) j
   gone-leaves buffer e =
       record {
         end = elem-set-other (m .ends) (x .entry) j (handed q e (x .number)) (λ z. d (sym z));

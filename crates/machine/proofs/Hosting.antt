@@ -174,7 +174,7 @@ send-clear m i e p y = (
   ),
 )
 
-clear-send : (m : Machine) (i : ℕ) (e : End) (p : List ℕ) → Is m i e → Clear (sendTests m e p) → MaySend m i e p
+pub clear-send : (m : Machine) (i : ℕ) (e : End) (p : List ℕ) → Is m i e → Clear (sendTests m e p) → MaySend m i e p
 clear-send m i e p h c =
     record {
       there = h;

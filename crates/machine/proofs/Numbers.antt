@@ -2,7 +2,7 @@
 -- again. Assumes nothing.
 use Prim.Native.Nat.{ℕ, zero, suc, _+_, _-_, _≤_, _<_}
 use mathlib.Core.Path.{_≡_, refl, sym, ap, subst, _∙_}
-use mathlib.Core.Bool.{Bool, true, false, not, _&&_, _||_}
+use mathlib.Core.Bool.{Bool, true, false, not, _&&_, _||_, or-true}
 use mathlib.Core.Option.{some}
 use mathlib.Core.List.{List, [], _∷_, List·Memᴰ, List·Memᴰ·head, List·Memᴰ·tail}
 use native.Mathlib.Omega.{arith}
@@ -14,11 +14,10 @@ use Rattle.machine.specs.Machine.{Number, End, past, isSpent, fallen, ti
 use Rattle.machine.specs.Laws.{item}
 use Rattle.machine.specs.LawsTick.{dueFrom, Falls, AllFall, Retried}
 use Rattle.machine.proofs.Entries.{not-none}
-use Rattle.machine.proofs.Items.{or-true}
 
 -- ---- timers
 
-count-fallen : (M : ℕ) (again : Bool) (xs : List Number) → length (tickedAll M again xs) ≡ length xs
+pub count-fallen : (M : ℕ) (again : Bool) (xs : List Number) → length (tickedAll M again xs) ≡ length xs
 unfolding tickedAll
 count-fallen M again [] = refl
 count-fallen M again (x ∷ xs) = ap suc (count-fallen M (again && not (isSpent M x)) xs)

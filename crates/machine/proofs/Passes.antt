@@ -3,7 +3,7 @@
 use Prim.Native.Nat.{ℕ, zero, suc, _≤_, _<_}
 use mathlib.Core.Path.{_≡_, refl, sym, ap, _∙_}
 use mathlib.Core.Logic.{_⊎_, inl, inr}
-use mathlib.Core.Bool.{Bool, true, false, _&&_, _||_}
+use mathlib.Core.Bool.{Bool, true, false, _&&_, _||_, and-true, and-false, or-false}
 use mathlib.Core.Option.{Option, none, some}
 use mathlib.Core.List.{List, [], _++_, append-nil, append-assoc, List·Memᴰ, List·Memᴰ·append-cases, List·Memᴰ·not-nil}
 use native.Mathlib.Decide.{decLt, ℕ-discrete}
@@ -16,7 +16,7 @@ use Rattle.machine.specs.Machine.{End, Item, Sort, Machine, node, at, fo
 use Rattle.machine.specs.Laws.{Is, shareOf}
 use Rattle.machine.specs.LawsTick.{inTurn, inTable}
 use Rattle.machine.proofs.Entries.{elem-there, elem-lt, elem-past, elem-set-same, elem-set-other}
-use Rattle.machine.proofs.Items.{or-false, without-append, without-ext, without-none, without-twice, share-kept, share-gone, share-own, share-other}
+use Rattle.machine.proofs.Items.{without-append, without-ext, without-none, without-twice, share-kept, share-gone, share-own, share-other}
 
 -- what an entry becomes, whether its waiting frames go, and what of it begins to wait
 module _ (become : End → End) (gone : End → Bool) (adds : Sort → ℕ → End → List Item)
@@ -61,14 +61,6 @@ module _ (become : End → End) (gone : End → Bool) (adds : Sort → ℕ → E
   goes-more : (m : Machine) (k : ℕ) (e : End) → Is m k e → (x : Item) → goes m (suc k) x ≡ (goes m k x || (gone e && eqb (x .entry) k))
   goes-more m k e h x = sides (ℕ-discrete (x .entry) k) (decLt (x .entry) k)
     where
-      and-false : (a : Bool) → (a && false) ≡ false
-      and-false true = refl
-      and-false false = refl
-
-      and-true : (a : Bool) → (a && true) ≡ a
-      and-true true = refl
-      and-true false = refl
-
       sides : Dec (x .entry ≡ k) → Dec (x .entry < k) → goes m (suc k) x ≡ (goes m k x || (gone e && eqb (x .entry) k))
       sides (yes y) l = rw (y, lt-ltb k (suc k) (omega arith), le-ltb k k (omega arith), h, eq-eqb k k refl) (sym (and-true (gone e)))
       sides (no y) (yes l) =

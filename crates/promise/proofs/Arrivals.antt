@@ -1,4 +1,5 @@
--- An arrival at a machine: refused, and all is as it was; or taken in by one entry, and so not on any other. Assumes nothing.
+-- An arrival at a machine: refused, and all is as it was; or taken in by one entry, and so not on any other. By that a
+-- bystander sees a step of the entry that he watches. Assumes nothing.
 use Prim.Native.Nat.{ℕ}
 use mathlib.Core.Path.{_≡_, refl, sym, ap, subst, _∙_}
 use mathlib.Core.Logic.{_≢_, _⊎_, inl, inr}
@@ -7,6 +8,7 @@ use mathlib.Core.Option.{Option, none, some}
 use mathlib.Core.List.{List, [], _∷_}
 use lib.ListN.{length, getElem?}
 use lib.Dec.{eqb}
+use native.Mathlib.Decide.{ℕ-discrete}
 use borrow.Author.Tests.{not-false}
 use Rattle.units.specs.Refusals.{pick, verdict}
 use Rattle.units.specs.declared.refusals.Refusal.{Refusal}
@@ -14,6 +16,7 @@ use Rattle.units.specs.declared.refusals.Refusal.the-variants as refusal
 use Rattle.units.specs.declared.refusals.Verdict.{Verdict}
 use Rattle.units.specs.declared.refusals.Verdict.the-variants as verdicts
 use Rattle.units.proofs.Judging.{Clear, clear}
+use Rattle.table.specs.Layout.{entryOf}
 use Rattle.frame.specs.Layout.{payloadOf}
 use Rattle.frame.specs.Reading.{soundOf, headerOf, readOf}
 use Rattle.frame.specs.Types.{forSender}
@@ -22,21 +25,24 @@ use Rattle.frame.specs.declared.Read.{Read}
 use Rattle.frame.specs.declared.Read.the-variants as read
 use Rattle.frame.specs.declared.FrameType.{FrameType}
 use Rattle.frame.specs.declared.FrameType.the-variants as type
+use Rattle.ends.specs.States.{isSends}
 use Rattle.ends.specs.declared.State.{State}
 use Rattle.ends.specs.declared.State.the-variants.{Closed, Enabled, Open, Failing}
 use Rattle.ends.specs.declared.answers.Arrived.the-variants as was
 use Rattle.lookup.proofs.Found.{Fitting}
-use Rattle.machine.specs.Machine.{End, Machine, Outcome, found, judged, told, isOurs, entryTests, entryFor, isNew, numberAt, acking, receiving, resetting, taken, reading, arriving}
+use Rattle.machine.specs.Machine.{End, Machine, Outcome, found, judged, told, isOurs, entryTests, entryFor, isNew, numberAt, acking, receiving, resetting, taken, reading, arriving, step}
 use Rattle.machine.specs.Calls.{arrives}
+use Rattle.machine.specs.Sound.{Sound}
 use Rattle.machine.specs.Laws.{On}
-use Rattle.promise.specs.Seen.{isDone}
-use Rattle.promise.proofs.Entries.{found-fits}
+use Rattle.promise.specs.Seen.{isDone, names}
+use Rattle.promise.proofs.Entries.{some-same, found-fits, names-own, names-other}
+use Rattle.promise.proofs.Watched.{Watch, Follows, Step, seen-as, still, refused-done, elsewhere}
 
 -- ---- refused, or taken in
 
-pub record Refused (m : Machine) (block f : List ℕ) : Type 0 where
-  pub why : Refusal
-  pub is : arriving m block f ≡ told (was.Refused why) block m
+record Refused (m : Machine) (block f : List ℕ) : Type 0 where
+  why : Refusal
+  is : arriving m block f ≡ told (was.Refused why) block m
 
 pub record Taken (m : Machine) (block f : List ℕ) : Type 0 where
   pub header : Header
@@ -59,12 +65,17 @@ module _ (m : Machine) (block f : List ℕ) where
   abbrev tests : Header → End → List (Bool × Refusal)
   tests h e = entryTests m e (h .kind) (h .length) (length block)
 
+  -- what is made of the entry that a header is for
+  abbrev entered : Header → Option End → Outcome
+  entered h z =
+      found z (told (was.Refused refusal.NoEndPoint) block m)
+      (λ e. judged (verdict (tests h e)) block m (taken m block (entryFor m h) e (h .kind) (h .seq .0) (payloadOf f)))
+
   by-header : arriving m block f ≡ judged (verdict frameTests) block m (reading m block (headerOf f) (payloadOf f))
   unfolding arriving
   by-header = refl
 
-  by-entry : (h : Header) → reading m block (read.Frame h) (payloadOf f)
-      ≡ found (getElem? (m .ends) (entryFor m h)) (told (was.Refused refusal.NoEndPoint) block m) (λ e. judged (verdict (tests h e)) block m (taken m block (entryFor m h) e (h .kind) (h .seq .0) (payloadOf f)))
+  by-entry : (h : Header) → reading m block (read.Frame h) (payloadOf f) ≡ entered h (getElem? (m .ends) (entryFor m h))
   unfolding reading
   by-entry h = refl
 
@@ -77,11 +88,11 @@ module _ (m : Machine) (block f : List ℕ) where
     read-as r q = by-header ∙ rw (p, q)
 
     module _ (h : Header) (q : headerOf f ≡ read.Frame h) where
-      found-as : (z : Option End) → getElem? (m .ends) (entryFor m h) ≡ z
-          → arriving m block f ≡ found z (told (was.Refused refusal.NoEndPoint) block m) (λ e. judged (verdict (tests h e)) block m (taken m block (entryFor m h) e (h .kind) (h .seq .0) (payloadOf f)))
+      found-as : (z : Option End) → getElem? (m .ends) (entryFor m h) ≡ z → arriving m block f ≡ entered h z
       found-as z g = read-as (read.Frame h) q ∙ by-entry h ∙ rw g
 
-      at-entry : (e : End) → getElem? (m .ends) (entryFor m h) ≡ some e → (v : Verdict) → verdict (tests h e) ≡ v → Refused m block f ⊎ Taken m block f
+      at-entry : (e : End) → getElem? (m .ends) (entryFor m h) ≡ some e → (v : Verdict) → verdict (tests h e) ≡ v
+          → Refused m block f ⊎ Taken m block f
       at-entry e g verdicts.Passed z =
           inr (record {
             header = h;
@@ -107,11 +118,12 @@ module _ (m : Machine) (block f : List ℕ) where
   at-frame verdicts.Passed p = at-read p (headerOf f) refl
   at-frame (verdicts.Refused w) p = inl (record { why = w; is = by-header ∙ rw p })
 
-  pub arrival : Refused m block f ⊎ Taken m block f
+  arrival : Refused m block f ⊎ Taken m block f
   arrival = at-frame (verdict frameTests) refl
 
 -- what another entry takes in is not on entry i
-pub not-on : (m : Machine) (block f : List ℕ) (a : Taken m block f) (i : ℕ) → i ≢ entryFor m (a .header) → On m (arrives block f) i → ⊥
+not-on : (m : Machine) (block f : List ℕ) (a : Taken m block f) (i : ℕ) → i ≢ entryFor m (a .header)
+    → On m (arrives block f) i → ⊥
 not-on m block f a i d (h, q, z) = d (sym z ∙ ap (entryFor m) (same (sym q ∙ a .head)))
   where
     same : read.Frame h ≡ read.Frame (a .header) → h ≡ a .header
@@ -135,9 +147,98 @@ module _ (m : Machine) (out : List ℕ) (k : ℕ) (x : End) (s : ℕ) (p : List 
   ack-done Open = either (numberAt x s .handed && not (numberAt x s .acked)) _ _ refl refl
   ack-done (Failing n) = either (numberAt x s .handed && not (numberAt x s .acked)) _ _ refl refl
 
-  pub taken-done : (q : FrameType) → Done (taken m out k x q s p)
+  taken-done : (q : FrameType) → Done (taken m out k x q s p)
   unfolding taken receiving resetting
   taken-done type.Data = either (isNew x s) _ _ refl refl
   taken-done type.Acknowledge = ack-done (x .state)
   taken-done type.Reset = refl
   taken-done type.Urgent = refl
+
+-- ---- as a step of entry i
+
+module _ (K : Watch) (t : List ℕ) (m : Machine) (S : Sound t m) (i : ℕ) (e : End)
+    (there : getElem? (m .ends) i ≡ some e) (block f : List ℕ) where
+  abbrev Comes : Outcome → Type 0
+  Comes = Step K i m e (arrives block f)
+
+  refused : Refused m block f → Comes (step m (arrives block f))
+  unfolding step
+  refused r =
+      subst Comes (sym (r .is)) (still K i m e _ _ e there refl (K .comes block f _ ∙ rw (refused-done (r .why))))
+
+  -- taken in by entry k, which is x, as a frame of type q
+  module _ (a : Taken m block f) (q : FrameType) (kind : a .header .kind ≡ q) where
+    abbrev k : ℕ
+    k = entryFor m (a .header)
+
+    abbrev s : ℕ
+    s = a .header .seq .0
+
+    abbrev pub o : Outcome
+    o = taken m block k (a .end) q s (payloadOf f)
+
+    -- what is seen of it
+    abbrev came : K .Seen
+    came = K .inward (read.Frame (a .header)) (payloadOf f) (o .answer .out)
+
+    arrives-is : step m (arrives block f) ≡ o
+    unfolding step
+    arrives-is = a .is ∙ ap (λ (z : FrameType). taken m block k (a .end) z s (payloadOf f)) kind
+
+    pub seen : K .seen (arrives block f) (o .answer) ≡ came
+    seen = K .comes block f (o .answer) ∙ rw (taken-done m block k (a .end) s (payloadOf f) q, a .read)
+
+    same : i ≡ k → a .end ≡ e
+    same c = some-same (sym (a .there) ∙ sym (ap (λ (j : ℕ). getElem? (m .ends) j) c) ∙ there)
+
+    kinds : isSends (a .end .entry .kind) ≡ forSender q
+    kinds = a .fit .kind ∙ ap forSender kind
+
+    -- it is for another entry, and unseen
+    apart : i ≢ k → came ≡ K .quiet → Comes o
+    apart d z =
+        subst Comes arrives-is
+        (elsewhere K t m S i e there (arrives block f) (not-on m block f a i d)
+        (ap (λ (v : Outcome). K .seen (arrives block f) (v .answer)) arrives-is ∙ seen ∙ z))
+
+    -- so it is where it is for the other kind
+    pub other-kind : isSends (e .entry .kind) ≢ forSender q → came ≡ K .quiet → Comes o
+    other-kind d = apart (λ c. d (ap (λ (x : End). isSends (x .entry .kind)) (sym (same c)) ∙ kinds))
+
+    -- it is for entry i, or for another that it names
+    pub named : (own : Outcome → K .Seen) → isSends (e .entry .kind) ≡ forSender q
+        → came ≡ pick (names (entryOf t i) (a .header .source .0) (a .header .channel .0)) (own o) (K .quiet)
+        → (Clear (entryTests m e q (a .header .length) (length block))
+        → Follows K i m e (own (taken m block i e q s (payloadOf f))) (taken m block i e q s (payloadOf f)))
+        → Comes o
+    named own b z here = sides (ℕ-discrete i k)
+      where
+        fit : names (entryOf t i) (a .header .source .0) (a .header .channel .0)
+            ≡ names (entryOf t i) (a .end .entry .remote .0) (a .end .entry .channel .0)
+        fit = rw (a .fit .source, a .fit .channel)
+
+        by-name : (b : Bool) → names (entryOf t i) (a .end .entry .remote .0) (a .end .entry .channel .0) ≡ b
+            → came ≡ pick b (own o) (K .quiet)
+        by-name b h = z ∙ ap (λ (v : Bool). pick v (own o) (K .quiet)) (fit ∙ h)
+
+        tests : i ≡ k → Clear (entryTests m e q (a .header .length) (length block))
+        tests c = rw (kind, same c) at (a .clear)
+
+        is : i ≡ k → taken m block i e q s (payloadOf f) ≡ o
+        is c =
+            ap (λ (j : ℕ). taken m block j e q s (payloadOf f)) c
+            ∙ ap (λ (x : End). taken m block k x q s (payloadOf f)) (sym (same c))
+
+        sides : Dec (i ≡ k) → Comes o
+        sides (yes c) =
+            seen-as K i m e (seen ∙ by-name true (rw (same c) (names-own t m S i e there)))
+            (subst (λ (v : Outcome). Follows K i m e (own v) v) (is c) (here (tests c)))
+        sides (no d) = apart d (by-name false (names-other t m S i e there k (a .end) (a .there) (b ∙ sym kinds) d))
+
+  pub by-kind : ((a : Taken m block f) (q : FrameType) (kind : a .header .kind ≡ q) → Comes (o a q kind))
+      → Comes (step m (arrives block f))
+  by-kind h = sides (arrival m block f)
+    where
+      sides : Refused m block f ⊎ Taken m block f → Comes (step m (arrives block f))
+      sides (inl r) = refused r
+      sides (inr a) = subst Comes (sym (arrives-is a (a .header .kind) refl)) (h a (a .header .kind) refl)

@@ -11,6 +11,9 @@ pub mod Lifting
 pub mod Worked
 pub mod TurnTooFar
 pub mod Entries
+pub mod Offsets
+pub mod Owing
+pub mod Watched
 pub mod SenderView
 pub mod SenderCalls
 pub mod Arrivals

@@ -1,14 +1,13 @@
--- Demand 3 for one channel: a run's beginning gives the invariant, each step keeps it, and the promise follows. Assumes nothing.
+-- One channel: a run's beginning gives the invariant, and each step keeps it. Assumes nothing.
 use Prim.Native.Nat.{ℕ}
 use mathlib.Core.Path.{_≡_, refl, ap, sym, subst, _∙_}
 use mathlib.Core.Logic.{_⊎_, inl, inr}
 use mathlib.Core.Bool.{true}
 use mathlib.Core.List.{List, [], _∷_, map, List·Memᴰ, List·Memᴰ·cases-cons, List·Memᴰ·not-nil}
 use Rattle.units.specs.Sizes.{isSize}
-use Rattle.promise.specs.History.{SState, s-open, Live, Tag, old, new, Back, ack}
-use Rattle.promise.specs.Promise.{Kept}
-use Rattle.promise.proofs.Channel.{s-ack-at, Channel, tag-byte, with-sender, Step, nothing, send, reset-out, data-out, fail, close-receiver, open-receiver, ack-out, reset-in, data-in, ack-in, old-reset-in, old-data-in, old-ack-in, Steps, done, then, Start}
-use Rattle.promise.proofs.Invariant.{Answered, Shelf, Running, Inv, fresh, running, at-open, at-fresh, kept}
+use Rattle.promise.specs.History.{SState, s-open, Tag, old, new, Back, ack}
+use Rattle.promise.proofs.Channel.{s-ack-at, Channel, tag-byte, with-sender, Step, nothing, send, reset-out, data-out, fail, close-receiver, open-receiver, ack-out, reset-in, data-in, ack-in, old-reset-in, old-data-in, old-ack-in, Start}
+use Rattle.promise.proofs.Invariant.{Answered, Shelf, Running, Inv, fresh, running, at-open, at-fresh}
 use Rattle.promise.proofs.Keeping.{not-new-old, send-keeps, data-out-keeps, reset-out-keeps, fail-keeps, open-keeps, close-keeps, ack-out-keeps, reset-in-keeps, old-reset-keeps}
 use Rattle.promise.proofs.KeepingData.{old-data-keeps, data-in-keeps}
 use Rattle.promise.proofs.KeepingAcks.{ack-in-keeps}
@@ -66,12 +65,3 @@ step-keeps W w g h (old-reset-in _ e u) i = fresh (old-reset-keeps W g (at-fresh
 step-keeps W w g h (old-data-in _ b p e o) i = fresh (old-data-keeps W g b p (at-fresh W g i e))
 step-keeps W w g h (old-ack-in _ b e) i =
     subst (λ (t : SState). Inv W (with-sender (s-ack-at t W (g .sender) b) g)) (sym (at-fresh W g i e .enabled)) i
-
-pub steps-keep : (W : ℕ) → isSize W ≡ true → (g h : Channel) → Steps W g h → Inv W g → Inv W h
-steps-keep W w g h done i = i
-steps-keep W w g h (then {h = m} ss s) i = step-keeps W w m h s (steps-keep W w g m ss i)
-
--- DEMAND 3 for one channel
-pub demand-3 : (W : ℕ) → isSize W ≡ true → (g h : Channel) → Start g → Steps W g h → Live (h .sender .state)
-    → Kept (h .sender .accepted) (h .sender .confirmed) (h .hist)
-demand-3 W w g h s ss l = kept W h (steps-keep W w g h ss (starts W g s)) l

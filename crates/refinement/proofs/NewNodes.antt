@@ -1,8 +1,8 @@
 -- A new node, all zeros, is the blank machine: no entry, nothing waits, and every call but setup leaves both as they were. Assumes nothing.
 use Prim.Native.Nat.{ℕ}
-use mathlib.Core.Path.{_≡_, refl, sym, ap, _∙_}
-use mathlib.Core.Bool.{Bool, true, false, not, _&&_}
-use mathlib.Core.List.{List, [], _∷_}
+use mathlib.Core.Path.{_≡_, refl}
+use mathlib.Core.Bool.{true}
+use mathlib.Core.List.{List}
 use lib.ListN.{length}
 use native.Mathlib.Omega.{arith}
 use lib.Dec.{leb}
@@ -11,23 +11,23 @@ use Rattle.units.specs.Refusals.{verdict}
 use Rattle.units.specs.declared.refusals.Verdict.{Verdict}
 use Rattle.units.specs.declared.refusals.Verdict.the-variants.{Passed, Refused}
 use Rattle.frame.specs.Layout.{payloadOf}
-use Rattle.frame.specs.Reading.{soundOf, headerOf}
+use Rattle.frame.specs.Reading.{headerOf}
 use Rattle.frame.specs.declared.Read.{Read}
 use Rattle.frame.specs.declared.Read.the-variants as read
 use Rattle.ends.specs.Heads.{countIn}
 use Rattle.ends.specs.Lent.{Lent}
-use Rattle.ends.specs.Answers.{arrivedOf, handedOf}
+use Rattle.ends.specs.Answers.{arrivedOf}
 use Rattle.opening.specs.Opening.{openAnswer, closeAnswer, countsAnswer}
 use Rattle.sending.specs.Sending.{sendAnswer, urgentAnswer}
 use Rattle.arriving.specs.Arriving as memory
 use Rattle.handing.specs.Handing.{nextOut, frameOut, handAnswer, handAfter, outNode, outBook}
 use Rattle.ticking.specs.Ticking.{tickAnswer, tickBoth, recoverAll, tickEntries}
-use Rattle.good.specs.Calls.{Memory, lent, answer, after}
+use Rattle.good.specs.Calls.{lent, answer}
 use Rattle.good.specs.NewNode.{newNode, NewStays}
 use Rattle.good.proofs.NewStays.{new-stays}
 use Rattle.machine.specs.Calls.{Call, opens, closes, counts, sends, urges, arrives, hands-out, ticks, Answer}
 use Rattle.machine.specs.Machine.{Machine, Outcome, blank, opening, closing, counting, sending, urgentSending, reading, arriving, goingOut, inOrder, handing, each, bitsFrom, ticking, judged, step}
-use Rattle.refinement.specs.Standing.{Blank, NewIsBlank}
+use Rattle.refinement.specs.Standing.{NewIsBlank}
 
 module _ (store : List ℕ) where
   abbrev M : Machine

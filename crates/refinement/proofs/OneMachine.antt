@@ -4,15 +4,13 @@ use Prim.Native.Nat.{ℕ, _<_}
 use mathlib.Core.Path.{_≡_, refl, sym, ap, _∙_, fun-ext}
 use mathlib.Core.List.{List, map}
 use native.Mathlib.Omega.{arith}
-use lib.ListN.{length}
 use Rattle.memory.specs.Layout as layout
-use Rattle.units.specs.declared.Address.{Address}
 use Rattle.table.specs.Layout.{countOf, ownOf, protocolOf}
 use Rattle.table.specs.Areas.{storeOf}
 use Rattle.good.specs.Good.{Lists, Good}
 use Rattle.good.specs.Calls.{Memory}
-use Rattle.machine.specs.Machine.{Sort, acks, resets, urgents, resends, datas, Machine, listed}
-use Rattle.refinement.specs.Standing.{endAt, plainItem, slotItem, waitingFor, standsFor, OneMachine}
+use Rattle.machine.specs.Machine.{Sort, acks, resets, urgents, resends, datas}
+use Rattle.refinement.specs.Standing.{plainItem, slotItem, waitingFor, standsFor, OneMachine}
 use Rattle.refinement.proofs.Waiting.{lists-are}
 
 module _ (t u : List ℕ) (n : Memory) (l k : Lists) (g : Good t (n .node) (n .book) l) (h : Good u (n .node) (n .book) k) where

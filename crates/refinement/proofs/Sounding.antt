@@ -1,8 +1,8 @@
 -- The machines that nodes stand for are sound: end points within their entry's bounds, and nothing waits that may not go out. Assumes
 -- nothing.
-use Prim.Native.Nat.{ℕ, zero, suc, _+_, _-_, _/_, _%_, _≤_, _<_}
+use Prim.Native.Nat.{ℕ, zero, suc, _-_, _/_, _%_, _≤_, _<_}
 use mathlib.Core.Path.{_≡_, refl, sym, ap, subst, _∙_}
-use mathlib.Core.Logic.{_⊎_, inl, inr, _≢_}
+use mathlib.Core.Logic.{_⊎_, inl, inr}
 use mathlib.Core.Bool.{Bool, true, false, not, _&&_}
 use mathlib.Core.Option.{Option, none, some}
 use mathlib.Core.List.{List, [], _∷_, map, List·Memᴰ, List·Memᴰ·not-nil, List·Memᴰ·append-cases, List·Memᴰ·eq-of-singleton, Memᴰ·of-map}
@@ -10,15 +10,15 @@ use native.Mathlib.Decide.{decLt}
 use native.Mathlib.Omega.{arith}
 use lib.ListN.{length, drop, getElem?, length-drop, length-map}
 use lib.Seq.{length-take-le}
-use lib.Dec.{eqb, ltb}
-use borrow.Author.Tests.{eqb-false, le-ltb}
+use lib.Dec.{eqb}
+use borrow.Author.Tests.{eqb-false}
 use Rattle.units.specs.Refusals.{pick}
 use Rattle.memory.specs.Layout as layout
 use Rattle.waiting.specs.Acks.{placeOf, waitingOf}
 use Rattle.order.specs.Order.{acksIn}
 use Rattle.order.proofs.Ringed.{from-length}
 use Rattle.window.specs.Numbers.{distanceOf}
-use Rattle.window.specs.Windows.{held, Good as GoodWindow}
+use Rattle.window.specs.Windows.{held}
 use Rattle.window.proofs.Sizes.{size-le}
 use Rattle.window.specs.declared.Window.{Window}
 use Rattle.table.specs.Layout.{countOf, entryOf}
@@ -40,9 +40,9 @@ use Rattle.good.proofs.Offsets.{ids-in}
 use Rattle.good.proofs.Framing.{entry-low}
 use Rattle.good.proofs.Stores.{end-entry, end-size, slot-low, slot-room, urgent-low}
 use Rattle.good.proofs.Payloads.{s-filled, s-narrow, r-filled}
-use Rattle.machine.specs.Machine.{Number, End, Item, Sort, acks, resets, urgents, resends, datas, Machine, listed, offset, numberAt}
+use Rattle.machine.specs.Machine.{Number, Item, Sort, acks, resets, urgents, resends, datas, Machine, listed}
 use Rattle.machine.specs.Sound.{Sized, Receives, Bounded, WaitsData, Waits, Owned, Sound}
-use Rattle.refinement.specs.Standing.{payloadFor, numberFor, placeFor, endFor, endAt, ackItem, plainItem, slotItem, waitingFor, standsFor, Stands, StandsSound}
+use Rattle.refinement.specs.Standing.{payloadFor, numberFor, placeFor, endFor, endAt, ackItem, plainItem, slotItem, waitingFor, standsFor, StandsSound}
 use Rattle.machine.proofs.Listed.{length-listed, getD-listed, elem-listed, elem-none}
 use Rattle.refinement.proofs.Elsewhere.{no-urgent, none-taken, urgent-most}
 use Rattle.refinement.proofs.Following.{item-at}

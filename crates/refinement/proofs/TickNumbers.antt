@@ -3,7 +3,7 @@
 use Prim.Native.Nat.{ℕ, zero, suc, _+_, _-_, _≤_, _<_}
 use mathlib.Core.Path.{_≡_, refl, sym, ap, subst, _∙_, fun-ext}
 use mathlib.Core.Logic.{_≢_}
-use mathlib.Core.Bool.{Bool, true, false, not, _&&_, _||_}
+use mathlib.Core.Bool.{Bool, true, false, not, _&&_, _||_, and-true, and-false}
 use mathlib.Core.List.{List, [], _∷_, _++_, append-nil, append-assoc, List·Memᴰ}
 use native.Mathlib.Decide.{decLt, ℕ-discrete}
 use native.Mathlib.Omega.{arith}
@@ -52,14 +52,6 @@ ticked-snoc : (M : ℕ) (a : Bool) (xs : List Number) (x : Number)
 unfolding flag tickedAll
 ticked-snoc M a [] x = refl
 ticked-snoc M a (y ∷ ys) x = ap (λ (l : List Number). fallen (a && not (isSpent M y)) y ∷ l) (ticked-snoc M (a && not (isSpent M y)) ys x)
-
-and-false : (a : Bool) → (a && false) ≡ false
-and-false true = refl
-and-false false = refl
-
-and-true : (a : Bool) → (a && true) ≡ a
-and-true true = refl
-and-true false = refl
 
 pub flag-spent : (M : ℕ) (a : Bool) (xs : List Number) → flag M a xs ≡ (a && not (anySpent M xs))
 unfolding flag anySpent
