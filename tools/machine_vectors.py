@@ -29,7 +29,7 @@ def scene(play):
     return play
 
 
-# 1. THE TRACE: one node, two senders and two receivers
+# 1. THE TRACE: one node, three senders and two receivers
 
 FIRST, SECOND = 65, 66  # the remotes
 ENTRIES = [
@@ -37,6 +37,7 @@ ENTRIES = [
     rx(remote=FIRST, channel=7, window=4, largest=3),
     tx(remote=SECOND, channel=7, retries=0, window=2, largest=4, timeout=2),
     rx(remote=SECOND, channel=9, window=0, largest=4),  # 0 is 16
+    tx(remote=SECOND, channel=8, retries=3, window=2, largest=1, timeout=3),
 ]
 
 
@@ -48,7 +49,7 @@ def of(*numbers):
 @scene
 def senders_open(t):
     """senders open: a Reset goes out, and again when its timer ends; acknowledgement 0 opens"""
-    t.no(2, t.open, 4)  # entries are 0 to 3
+    t.no(2, t.open, 5)  # entries are 0 to 4
     for index in (3, 1, 2, 0):
         t.ok(t.open, index)
     t.no(4, t.open, 0)  # not Closed
@@ -186,6 +187,62 @@ def closed(t):
     t.out(0, URGENT, 0, of(205))
     t.out(0, DATA, 1, of(2))
     t.ok(t.counts, 0, gives=[1, 0])
+    t.passes(0, 1, 1)
+    t.opens(2)
+
+
+@scene
+def started_in_another_order(t):
+    """timers of one sender end each at its own tick, in whatever order they started"""
+    t.up(4)
+    t.send_out(4, 1)
+    t.ticks(2)
+    t.send_out(4, 2)
+    t.ticks(1)  # T 3: number 1 waits again
+    t.out(4, DATA, 1, b"1")
+    t.ticks(2)  # number 2 waits again, and 1's timer runs on
+    t.ticks(1)  # number 1 waits again
+    t.out(4, DATA, 2, b"2")
+    t.out(4, DATA, 1, b"1")
+    t.ticks(3)  # both wait again, in the order of the window
+    t.out(4, DATA, 1, b"1")
+    t.out(4, DATA, 2, b"2")
+    t.passes(4, 1, 1)
+    t.passes(4, 2, 1)
+
+
+@scene
+def stopped(t):
+    """a timer that is stopped ends nothing when its tick comes; the next ends at its own"""
+    t.send_out(4, 3)
+    t.ticks(1)
+    t.send_out(4, 4)
+    t.passes(4, 3, 1)
+    t.ticks(2)  # number 3's tick
+    t.nothing()
+    t.ticks(1)  # number 4's
+    t.out(4, DATA, 4, b"4")
+    t.passes(4, 4, 1)
+
+
+@scene
+def failing_for_how_long(t):
+    """Failing lasts no tick when no other timer runs, and until the next when the last is stopped"""
+    t.send_out(2, 1)
+    t.ticks(2, last=0b100)  # M 0, T 2
+    t.out(2, RESET, 0)
+    t.opens(2)
+    t.send_out(4, 5)
+    for _ in range(3):  # M 3
+        t.ticks(3)
+        t.out(4, DATA, 5, b"5")
+    t.ticks(2)
+    t.send_out(4, 6)
+    t.ticks(1)  # number 5 fails; 6 has 2 ticks left
+    t.passes(4, 6, 0)
+    t.no(4, t.send, 4, b"7")
+    t.ticks(1, last=0b10000)
+    t.out(4, RESET, 0)
 
 
 def trace():
@@ -403,8 +460,10 @@ TYPES = {DATA, ACKNOWLEDGE, RESET, URGENT}
 LEFT_OUT = {
     "receiver's start folds", "sender's start folds",  # would take 255 numbers
     "sender Enabled to Closed", "sender Failing to Closed", "receiver Enabled to Closed",
-    "acknowledgement at Failing passes 0", "acknowledgement at Failing passes more", "acknowledgement at Failing ignored, outside",
+    "acknowledgement at Failing passes more", "acknowledgement at Failing ignored, outside",
     "acknowledgement at Failing ignored, again", "acknowledgement at Failing ignored, not handed out",
+    "a timer of T 65,535 starts",  # would take 65,535 ticks to show more than that
+    "setup while timers run",  # setup is no call of the machine
 }
 EVENTS = set(comparison.TRANSITIONS + comparison.EVENTS) - LEFT_OUT
 

@@ -25,15 +25,16 @@ use Rattle.machine.specs.Machine.{Machine, begun, step}
 
 pub table : List ℕ
 table =
-    0 ∷ 4 ∷ 0 ∷ 8 ∷ 64 ∷ 238 ∷ 0 ∷ 0
+    0 ∷ 5 ∷ 0 ∷ 8 ∷ 64 ∷ 238 ∷ 0 ∷ 0
     ∷ 0 ∷ 65 ∷ 7 ∷ 1 ∷ 0 ∷ 4 ∷ 0 ∷ 3 ∷ 0 ∷ 1 ∷ 0 ∷ 0  -- 0 sends to 65 over 7: W 4, P 3, M 1, T 1
     ∷ 1 ∷ 65 ∷ 7 ∷ 0 ∷ 0 ∷ 4 ∷ 0 ∷ 3 ∷ 0 ∷ 0 ∷ 0 ∷ 0  -- 1 receives from 65 over 7: W 4, P 3
     ∷ 0 ∷ 66 ∷ 7 ∷ 0 ∷ 0 ∷ 2 ∷ 0 ∷ 4 ∷ 0 ∷ 2 ∷ 0 ∷ 0  -- 2 sends to 66 over 7: W 2, P 4, M 0, T 2
     ∷ 1 ∷ 66 ∷ 9 ∷ 0 ∷ 0 ∷ 0 ∷ 0 ∷ 4 ∷ 0 ∷ 0 ∷ 0 ∷ 0  -- 3 receives from 66 over 9: W 0 for 16, P 4
+    ∷ 0 ∷ 66 ∷ 8 ∷ 3 ∷ 0 ∷ 2 ∷ 0 ∷ 1 ∷ 0 ∷ 3 ∷ 0 ∷ 0  -- 4 sends to 66 over 8: W 2, P 1, M 3, T 3
     ∷ []
 
 pub room : ℕ
-room = 103
+room = 106
 
 -- ---- the vectors
 
@@ -49,7 +50,7 @@ lent n = replicate n 0
 pub vectors : List Vector
 vectors =
     -- senders open: a Reset goes out, and again when its timer ends; acknowledgement 0 opens
-    (opens 4, 2 ∷ [])
+    (opens 5, 2 ∷ [])
     ∷ (opens 3, 0 ∷ [])
     ∷ (opens 1, 0 ∷ [])
     ∷ (opens 2, 0 ∷ [])
@@ -167,6 +168,65 @@ vectors =
     ∷ (hands-out (lent 13), 0 ∷ 10 ∷ 65 ∷ 238 ∷ 64 ∷ 3 ∷ 0 ∷ 1 ∷ 7 ∷ 0 ∷ 205 ∷ 192 ∷ [])
     ∷ (hands-out (lent 10), 0 ∷ 10 ∷ 65 ∷ 238 ∷ 64 ∷ 0 ∷ 0 ∷ 1 ∷ 7 ∷ 1 ∷ 2 ∷ 205 ∷ [])
     ∷ (counts 0, 0 ∷ 1 ∷ 0 ∷ [])
+    ∷ (arrives (lent 0) (64 ∷ 238 ∷ 65 ∷ 1 ∷ 0 ∷ 0 ∷ 7 ∷ 1 ∷ 30 ∷ []), 0 ∷ 1 ∷ 1 ∷ [])
+    ∷ (arrives (lent 0) (64 ∷ 238 ∷ 66 ∷ 1 ∷ 0 ∷ 0 ∷ 7 ∷ 0 ∷ 98 ∷ []), 0 ∷ 2 ∷ [])
+    -- timers of one sender end each at its own tick, in whatever order they started
+    ∷ (opens 4, 0 ∷ [])
+    ∷ (hands-out (lent 9), 0 ∷ 9 ∷ 66 ∷ 238 ∷ 64 ∷ 2 ∷ 0 ∷ 0 ∷ 8 ∷ 0 ∷ 115 ∷ [])
+    ∷ (arrives (lent 0) (64 ∷ 238 ∷ 66 ∷ 1 ∷ 0 ∷ 0 ∷ 8 ∷ 0 ∷ 161 ∷ []), 0 ∷ 2 ∷ [])
+    ∷ (sends 4 (49 ∷ []), 0 ∷ [])
+    ∷ (hands-out (lent 10), 0 ∷ 10 ∷ 66 ∷ 238 ∷ 64 ∷ 0 ∷ 0 ∷ 1 ∷ 8 ∷ 1 ∷ 49 ∷ 152 ∷ [])
+    ∷ (ticks, 0 ∷ 0 ∷ [])
+    ∷ (ticks, 0 ∷ 0 ∷ [])
+    ∷ (sends 4 (50 ∷ []), 0 ∷ [])
+    ∷ (hands-out (lent 10), 0 ∷ 10 ∷ 66 ∷ 238 ∷ 64 ∷ 0 ∷ 0 ∷ 1 ∷ 8 ∷ 2 ∷ 50 ∷ 174 ∷ [])
+    ∷ (ticks, 0 ∷ 0 ∷ [])
+    ∷ (hands-out (lent 10), 0 ∷ 10 ∷ 66 ∷ 238 ∷ 64 ∷ 0 ∷ 0 ∷ 1 ∷ 8 ∷ 1 ∷ 49 ∷ 152 ∷ [])
+    ∷ replicate 3 (ticks, 0 ∷ 0 ∷ [])
+    ++ (hands-out (lent 10), 0 ∷ 10 ∷ 66 ∷ 238 ∷ 64 ∷ 0 ∷ 0 ∷ 1 ∷ 8 ∷ 2 ∷ 50 ∷ 174 ∷ [])
+    ∷ (hands-out (lent 10), 0 ∷ 10 ∷ 66 ∷ 238 ∷ 64 ∷ 0 ∷ 0 ∷ 1 ∷ 8 ∷ 1 ∷ 49 ∷ 152 ∷ [])
+    ∷ replicate 3 (ticks, 0 ∷ 0 ∷ [])
+    ++ (hands-out (lent 10), 0 ∷ 10 ∷ 66 ∷ 238 ∷ 64 ∷ 0 ∷ 0 ∷ 1 ∷ 8 ∷ 1 ∷ 49 ∷ 152 ∷ [])
+    ∷ (hands-out (lent 10), 0 ∷ 10 ∷ 66 ∷ 238 ∷ 64 ∷ 0 ∷ 0 ∷ 1 ∷ 8 ∷ 2 ∷ 50 ∷ 174 ∷ [])
+    ∷ (arrives (lent 0) (64 ∷ 238 ∷ 66 ∷ 1 ∷ 0 ∷ 0 ∷ 8 ∷ 1 ∷ 166 ∷ []), 0 ∷ 1 ∷ 1 ∷ [])
+    ∷ (arrives (lent 0) (64 ∷ 238 ∷ 66 ∷ 1 ∷ 0 ∷ 0 ∷ 8 ∷ 2 ∷ 175 ∷ []), 0 ∷ 1 ∷ 1 ∷ [])
+    -- a timer that is stopped ends nothing when its tick comes; the next ends at its own
+    ∷ (sends 4 (51 ∷ []), 0 ∷ [])
+    ∷ (hands-out (lent 10), 0 ∷ 10 ∷ 66 ∷ 238 ∷ 64 ∷ 0 ∷ 0 ∷ 1 ∷ 8 ∷ 3 ∷ 51 ∷ 188 ∷ [])
+    ∷ (ticks, 0 ∷ 0 ∷ [])
+    ∷ (sends 4 (52 ∷ []), 0 ∷ [])
+    ∷ (hands-out (lent 10), 0 ∷ 10 ∷ 66 ∷ 238 ∷ 64 ∷ 0 ∷ 0 ∷ 1 ∷ 8 ∷ 4 ∷ 52 ∷ 194 ∷ [])
+    ∷ (arrives (lent 0) (64 ∷ 238 ∷ 66 ∷ 1 ∷ 0 ∷ 0 ∷ 8 ∷ 3 ∷ 168 ∷ []), 0 ∷ 1 ∷ 1 ∷ [])
+    ∷ (ticks, 0 ∷ 0 ∷ [])
+    ∷ (ticks, 0 ∷ 0 ∷ [])
+    ∷ (hands-out (lent 3), 0 ∷ 0 ∷ [])
+    ∷ (ticks, 0 ∷ 0 ∷ [])
+    ∷ (hands-out (lent 10), 0 ∷ 10 ∷ 66 ∷ 238 ∷ 64 ∷ 0 ∷ 0 ∷ 1 ∷ 8 ∷ 4 ∷ 52 ∷ 194 ∷ [])
+    ∷ (arrives (lent 0) (64 ∷ 238 ∷ 66 ∷ 1 ∷ 0 ∷ 0 ∷ 8 ∷ 4 ∷ 189 ∷ []), 0 ∷ 1 ∷ 1 ∷ [])
+    -- Failing lasts no tick when no other timer runs, and until the next when the last is stopped
+    ∷ (sends 2 (49 ∷ []), 0 ∷ [])
+    ∷ (hands-out (lent 10), 0 ∷ 10 ∷ 66 ∷ 238 ∷ 64 ∷ 0 ∷ 0 ∷ 1 ∷ 7 ∷ 1 ∷ 49 ∷ 223 ∷ [])
+    ∷ (ticks, 0 ∷ 0 ∷ [])
+    ∷ (ticks, 0 ∷ 4 ∷ [])
+    ∷ (hands-out (lent 9), 0 ∷ 9 ∷ 66 ∷ 238 ∷ 64 ∷ 2 ∷ 0 ∷ 0 ∷ 7 ∷ 0 ∷ 176 ∷ [])
+    ∷ (arrives (lent 0) (64 ∷ 238 ∷ 66 ∷ 1 ∷ 0 ∷ 0 ∷ 7 ∷ 0 ∷ 98 ∷ []), 0 ∷ 2 ∷ [])
+    ∷ (sends 4 (53 ∷ []), 0 ∷ [])
+    ∷ (hands-out (lent 10), 0 ∷ 10 ∷ 66 ∷ 238 ∷ 64 ∷ 0 ∷ 0 ∷ 1 ∷ 8 ∷ 5 ∷ 53 ∷ 208 ∷ [])
+    ∷ replicate 3 (ticks, 0 ∷ 0 ∷ [])
+    ++ (hands-out (lent 10), 0 ∷ 10 ∷ 66 ∷ 238 ∷ 64 ∷ 0 ∷ 0 ∷ 1 ∷ 8 ∷ 5 ∷ 53 ∷ 208 ∷ [])
+    ∷ replicate 3 (ticks, 0 ∷ 0 ∷ [])
+    ++ (hands-out (lent 10), 0 ∷ 10 ∷ 66 ∷ 238 ∷ 64 ∷ 0 ∷ 0 ∷ 1 ∷ 8 ∷ 5 ∷ 53 ∷ 208 ∷ [])
+    ∷ replicate 3 (ticks, 0 ∷ 0 ∷ [])
+    ++ (hands-out (lent 10), 0 ∷ 10 ∷ 66 ∷ 238 ∷ 64 ∷ 0 ∷ 0 ∷ 1 ∷ 8 ∷ 5 ∷ 53 ∷ 208 ∷ [])
+    ∷ (ticks, 0 ∷ 0 ∷ [])
+    ∷ (ticks, 0 ∷ 0 ∷ [])
+    ∷ (sends 4 (54 ∷ []), 0 ∷ [])
+    ∷ (hands-out (lent 10), 0 ∷ 10 ∷ 66 ∷ 238 ∷ 64 ∷ 0 ∷ 0 ∷ 1 ∷ 8 ∷ 6 ∷ 54 ∷ 230 ∷ [])
+    ∷ (ticks, 0 ∷ 0 ∷ [])
+    ∷ (arrives (lent 0) (64 ∷ 238 ∷ 66 ∷ 1 ∷ 0 ∷ 0 ∷ 8 ∷ 6 ∷ 179 ∷ []), 0 ∷ 1 ∷ 0 ∷ [])
+    ∷ (sends 4 (55 ∷ []), 4 ∷ [])
+    ∷ (ticks, 0 ∷ 16 ∷ [])
+    ∷ (hands-out (lent 9), 0 ∷ 9 ∷ 66 ∷ 238 ∷ 64 ∷ 2 ∷ 0 ∷ 0 ∷ 8 ∷ 0 ∷ 115 ∷ [])
     ∷ []
 
 -- ---- the desk's line on a call, from what the machine answers
