@@ -8,6 +8,7 @@ use lib.Dec.{eqb, ltb}
 use Rattle.units.specs.Refusals.{pick}
 use Rattle.memory.specs.Layout.{resetId, slotId, timerAt}
 use Rattle.waiting.specs.Queues.{unlinked}
+use Rattle.timing.specs.Timing.{roused}
 use Rattle.window.specs.Windows.{offsetOf, acceptOf, passOf, resetOf}
 use Rattle.window.specs.declared.Passed.{Passed}
 use Rattle.ends.specs.Ends.{saved}
@@ -85,13 +86,15 @@ stopped b g = set (pick (eqb (timerIn b g) 0) (unlinked b (slotId g)) b) (timerA
 abbrev pub fewer : ℕ → ℕ → ℕ
 fewer t n = pick (eqb t 0) n (n - 1)
 
--- the node: the end point put back, Open where it was opened, with its run as it then is
+-- the node: the end point put back, Open where it was opened, with its run as it then is; at Failing the next tick goes
+-- through the entries, since none may be left running
 unfoldable pub ackNode : List ℕ → List ℕ → ℕ → EndPoint → State → ℕ → List ℕ
 ackNode ws b i e Closed s = ws
 ackNode ws b i e (Enabled t sent) s = pick (sent && eqb s 0) (saved ws i Open (openedRun (e .run))) ws
 ackNode ws b i e Open s = pick (counts (e .run) s) (saved ws i Open (ackedRun (e .run) s)) ws
 ackNode ws b i e (Failing n) s =
-    pick (counts (e .run) s) (saved ws i (Failing (fewer (timerIn b (cell i (e .run .window) s)) n)) (ackedRun (e .run) s)) ws
+    pick (counts (e .run) s)
+    (roused (saved ws i (Failing (fewer (timerIn b (cell i (e .run .window) s)) n)) (ackedRun (e .run) s))) ws
 
 -- the book: what waited of the number, or of the Reset, goes, and its timer stops
 unfoldable pub ackBook : List ℕ → ℕ → EndPoint → State → ℕ → List ℕ

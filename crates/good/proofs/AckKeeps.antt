@@ -1,15 +1,15 @@
 -- An acknowledgement taken in by a sender keeps a good node good; what becomes of its end point, and that no payload's length
 -- alters. Assumes nothing.
-use Prim.Native.Nat.{ℕ, _-_, _<_}
+use Prim.Native.Nat.{ℕ, _-_, _≤_, _<_}
 use mathlib.Core.Path.{_≡_, refl, sym, ap, subst, _∙_}
 use mathlib.Core.Bool.{Bool, true, false, _&&_, true≢false}
 use mathlib.Core.List.{List, [], _∷_, List·Memᴰ, List·Memᴰ·not-nil}
 use native.Mathlib.Omega.{arith}
-use lib.ListN.{set}
+use lib.ListN.{getD, set}
 use lib.Dec.{eqb}
 use borrow.Author.Tests.{eqb-true, ltb-true}
 use Rattle.units.specs.Refusals.{pick}
-use Rattle.memory.specs.Layout.{resets, urgents, resends, datas, resetId, timerAt}
+use Rattle.memory.specs.Layout.{resets, urgents, resends, datas, resetId, lengthAt, timerAt, quietAt}
 use Rattle.waiting.specs.Queues.{unlinked}
 use Rattle.window.specs.Windows.{offsetOf}
 use Rattle.window.proofs.Resetting.{reset-held, reset-good}
@@ -22,15 +22,17 @@ use Rattle.ends.specs.Lent.{Lent}
 use Rattle.ends.specs.declared.State.{State}
 use Rattle.ends.specs.declared.State.the-variants.{Closed, Enabled, Open, Failing}
 use Rattle.ends.specs.declared.answers.Arrived.the-variants as arrived
-use Rattle.slots.specs.Slots.{cell, past, timerIn}
+use Rattle.slots.specs.Slots.{cell, past, lengthIn, timerIn}
 use Rattle.acking.specs.Acking.{counts, passing, ackedRun, openedRun, ackAnswer, resetGone, stopped, fewer, ackNode, ackBook, ackAfter}
-use Rattle.good.specs.Good.{Lists, mine, ids, Silent, Sending, OpenSender, FailingSender, Good}
-use Rattle.good.proofs.Lined.{less}
-use Rattle.good.proofs.Framing.{Within, within-same, within-unlink, Apart, apart-same, apart-saved, entry-low}
+use Rattle.good.specs.Good.{Lists, mine, ids, Silent, Sending, OpenSender, FailingSender, Outlasts, Timely, Good}
+use Rattle.good.proofs.Lined.{less, unlink-cells}
+use Rattle.good.proofs.Framing.{Within, within-same, within-unlink, Apart, apart-same, apart-then, apart-saved, outlasts-fewer, entry-low}
 use Rattle.good.proofs.Offsets.{reset-owner}
-use Rattle.good.proofs.Turns.{run-fits, state-fits, turnedTo, end-saved, sender-turn, Kept}
+use Rattle.good.proofs.Turns.{run-fits, state-fits, turnedTo, end-saved, saved-acks, sender-put, sender-turn, Kept}
 use Rattle.good.proofs.Senders.{Timed, timed-set, within-timed, reset-waited, reset-gone, entry-window, sender-stated, sender-entered}
-use Rattle.good.proofs.AckRuns.{Passes, Counts, counts-says, passes, moved-sending, moved-fits, moved-timers, moved-resends, moved-datas, Gone, open-book}
+use Rattle.timing.specs.Timing.{clockIn, quietIn, roused}
+use Rattle.good.proofs.Clocked.{Clocked, clocked-set, clocked-end, clocked-waiting, clocked-acks, roused-apart, roused-quiet}
+use Rattle.good.proofs.AckRuns.{Passes, Counts, counts-says, passes, moved-sending, moved-fits, moved-outlasts, moved-timers, moved-resends, moved-datas, Gone, open-book}
 
 -- ---- what a call comes to
 
@@ -49,6 +51,7 @@ record Outcome (t ws b : List ℕ) (l : Lists) (ws′ b′ : List ℕ) (i s : �
   apart : Apart i ws ws′
   within : Within i b b′ l lists
   ends : Acked ws b ws′ b′ i s
+  lengths : (c : ℕ) → c < 2048 → lengthIn b′ c ≡ lengthIn b c
 
 -- ---- the states
 
@@ -100,6 +103,14 @@ module _ (t ws b : List ℕ) (l : Lists) (G : Good t ws b l) (i s : ℕ) (li : i
           moved-fits b (stopped b (cell i (r .window) s)) i (entry-low t ws b l G i li) r (entry-window t ws b l G i li) (run-fits ws i) (endOf ws i .entry .largest) (o .sending) (offsetOf (r .window) s) (says .handed) (passing r s) pass
           (open-gone .timed)
 
+      open-timely : endOf ws i .state ≡ Open
+          → Timely (clockIn ws) (quietIn ws) (stopped b (cell i (endOf ws i .run .window) s)) i (turnedTo (endOf ws i) Open (ackedRun (endOf ws i .run) s)) Open
+      unfolding ackedRun
+      open-timely q =
+          let r = endOf ws i .run in
+          moved-outlasts b (stopped b (cell i (r .window) s)) i (entry-low t ws b l G i li) r (entry-window t ws b l G i li) (run-fits ws i) (endOf ws i .entry .largest) (o .sending) (offsetOf (r .window) s) (says .handed) (passing r s) pass
+          (open-gone .timed) (clockIn ws) (quietIn ws) (subst (Timely (clockIn ws) (quietIn ws) b i (endOf ws i)) q (G .timely i li))
+
       open-outcome : endOf ws i .state ≡ Open
           → Outcome t ws b l (saved ws i Open (ackedRun (endOf ws i .run) s)) (stopped b (cell i (endOf ws i .run .window) s)) i s
       unfolding ackedRun
@@ -109,10 +120,11 @@ module _ (t ws b : List ℕ) (l : Lists) (G : Good t ws b l) (i s : ℕ) (li : i
           record {
             lists = z .lists;
             good = sender-turn t ws b l G i li kind Open r tt open-fits (pass .size) (stopped b (cell i (endOf ws i .run .window) s)) (z .lists) (z .within)
-                (sender-entered t ws b l G i li kind (stopped b (cell i (endOf ws i .run .window) s)) (z .lists) Open r (pass .good) open-sender);
+                (sender-entered t ws b l G i li kind (stopped b (cell i (endOf ws i .run .window) s)) (z .lists) Open r (pass .good) open-sender) (open-timely q);
             apart = apart-saved i ws Open r;
             within = z .within;
             ends = counted q c (end-saved ws i Open r (G .long) (entry-low t ws b l G i li) tt open-fits (pass .size));
+            lengths = z .timed .lengths;
           }
 
     -- Failing
@@ -160,21 +172,38 @@ module _ (t ws b : List ℕ) (l : Lists) (G : Good t ws b l) (i s : ℕ) (li : i
           sides true h = h
           sides false h = omega arith
 
+      failing-timely : (q′ : ℕ) → q′ ≤ quietIn ws → (j : ℕ) → j < ackedRun (endOf ws i .run) s .handed
+          → Outlasts (clockIn ws) q′ (timerIn (set b (timerAt (cell i (endOf ws i .run .window) s)) 0) (cell i (ackedRun (endOf ws i .run) s .window) (past (ackedRun (endOf ws i .run) s .window) j)))
+      unfolding ackedRun
+      failing-timely q′ f =
+          let r = endOf ws i .run in
+          let was = subst (Timely (clockIn ws) (quietIn ws) b i (endOf ws i)) q (G .timely i li) in
+          moved-outlasts b (set b (timerAt (cell i (r .window) s)) 0) i (entry-low t ws b l G i li) r (entry-window t ws b l G i li) (run-fits ws i) (endOf ws i .entry .largest) (o .sending) (offsetOf (r .window) s) (says .handed) (passing r s) pass
+          failing-timed (clockIn ws) q′ (λ j h. outlasts-fewer (clockIn ws) (quietIn ws) q′ _ f (was .0 j h))
+
       failing-outcome :
-          Outcome t ws b l (saved ws i (Failing (fewer (timerIn b (cell i (endOf ws i .run .window) s)) n)) (ackedRun (endOf ws i .run) s))
+          Outcome t ws b l (roused (saved ws i (Failing (fewer (timerIn b (cell i (endOf ws i .run .window) s)) n)) (ackedRun (endOf ws i .run) s)))
           (set b (timerAt (cell i (endOf ws i .run .window) s)) 0) i s
       unfolding ackedRun
       failing-outcome =
           let r = ackedRun (endOf ws i .run) s in
           let b′ = set b (timerAt (cell i (endOf ws i .run .window) s)) 0 in
           let m = fewer (timerIn b (cell i (endOf ws i .run .window) s)) n in
+          let ws′ = saved ws i (Failing m) r in
+          let c′ : Clocked ws′ (roused ws′) = clocked-set ws′ quietAt 0 (omega arith) (omega arith) in
+          let saves = apart-saved i ws (Failing m) r in
+          let apart = apart-then i ws ws′ (roused ws′) saves (roused-apart ws′ (saves .long ∙ G .long) i) in
+          let end = clocked-end ws′ (roused ws′) c′ i ∙ end-saved ws i (Failing m) r (G .long) (entry-low t ws b l G i li) fewer-fits failing-fits (pass .size) in
+          let acks = saved-acks ws i (Failing m) r in
           record {
             lists = l;
-            good = sender-turn t ws b l G i li kind (Failing m) r fewer-fits failing-fits (pass .size) b′ l failing-within
-                (sender-entered t ws b l G i li kind b′ l (Failing m) r (pass .good) failing-sender);
-            apart = apart-saved i ws (Failing m) r;
+            good = sender-put t ws b l G i li kind (roused ws′) apart (clocked-waiting ws′ (roused ws′) c′ ∙ acks .0) (clocked-acks ws′ (roused ws′) c′ ∙ acks .1) b′ l failing-within
+                (turnedTo (endOf ws i) (Failing m) r) end (sender-entered t ws b l G i li kind b′ l (Failing m) r (pass .good) failing-sender)
+                (failing-timely (quietIn (roused ws′)) (apart .quiet), λ z. roused-quiet ws′ (saves .long ∙ G .long));
+            apart = apart;
             within = failing-within;
-            ends = failed n q c (end-saved ws i (Failing m) r (G .long) (entry-low t ws b l G i li) fewer-fits failing-fits (pass .size));
+            ends = failed n q c end;
+            lengths = failing-timed .lengths;
           }
 
   -- Enabled, opened by number 0
@@ -210,18 +239,19 @@ module _ (t ws b : List ℕ) (l : Lists) (G : Good t ws b l) (i s : ℕ) (li : i
   fresh-fits =
       record { start = omega arith; taken = omega arith; handed = omega arith; accepted = omega arith; confirmed = omega arith; urgent = omega arith }
 
-  opened-outcome : (t₀ : ℕ) → endOf ws i .state ≡ Enabled t₀ true → s ≡ 0 → (b′ : List ℕ) (l′ : Lists) → Within i b b′ l l′ → Silent l′ i []
+  opened-outcome : (t₀ : ℕ) → endOf ws i .state ≡ Enabled t₀ true → s ≡ 0 → (b′ : List ℕ) (l′ : Lists) → Within i b b′ l l′ → ((c : ℕ) → 4224 ≤ c → getD b′ c 0 ≡ getD b c 0) → Silent l′ i []
       → Outcome t ws b l (saved ws i Open (openedRun (endOf ws i .run))) b′ i s
   unfolding openedRun
-  opened-outcome t₀ q z b′ l′ v h =
+  opened-outcome t₀ q z b′ l′ v same h =
       let r = openedRun (endOf ws i .run) in
       record {
         lists = l′;
         good = sender-turn t ws b l G i li kind Open r tt fresh-fits refl b′ l′ v
-            (sender-entered t ws b l G i li kind b′ l′ Open r (reset-good (endOf ws i .run .window) (entry-window t ws b l G i li)) (fresh-sender b′ l′ h));
+            (sender-entered t ws b l G i li kind b′ l′ Open r (reset-good (endOf ws i .run .window) (entry-window t ws b l G i li)) (fresh-sender b′ l′ h)) (λ k n. absurd (omega arith));
         apart = apart-saved i ws Open r;
         within = v;
         ends = opened t₀ q z (end-saved ws i Open r (G .long) (entry-low t ws b l G i li) tt fresh-fits refl);
+        lengths = λ c l. same (lengthAt c) (omega arith);
       }
 
   -- its Reset waited, or not
@@ -230,8 +260,8 @@ module _ (t ws b : List ℕ) (l : Lists) (G : Good t ws b l) (i s : ℕ) (li : i
   opened-kept t₀ q e true a =
       opened-outcome t₀ q e (unlinked b (resetId i)) (less l (resetId i))
       (within-unlink i b l (G .lines) resets (resetId i) (omega arith) (reset-waited b l (G .lines) i a) (reset-owner i (entry-low t ws b l G i li)))
-      (reset-gone b l (G .lines) i a)
-  opened-kept t₀ q e false a = opened-outcome t₀ q e b l (within-same i b l (G .lines)) a
+      (unlink-cells b l (G .lines) resets (resetId i) (omega arith) (reset-waited b l (G .lines) i a)) (reset-gone b l (G .lines) i a)
+  opened-kept t₀ q e false a = opened-outcome t₀ q e b l (within-same i b l (G .lines)) (λ c h. refl) a
 
   -- nothing
   nothing : ackAnswer (endOf ws i) (endOf ws i .state) s ≡ arrived.Ignored → Outcome t ws b l ws b i s
@@ -242,6 +272,7 @@ module _ (t ws b : List ℕ) (l : Lists) (G : Good t ws b l) (i s : ℕ) (li : i
         apart = apart-same i ws;
         within = within-same i b l (G .lines);
         ends = ignored refl refl h;
+        lengths = λ c g. refl;
       }
 
   -- ---- all of them
@@ -265,7 +296,7 @@ module _ (t ws b : List ℕ) (l : Lists) (G : Good t ws b l) (i s : ℕ) (li : i
   outcome (Failing n) q = sides (counts (endOf ws i .run) s) refl
     where
       sides : (z : Bool) → counts (endOf ws i .run) s ≡ z
-          → Outcome t ws b l (pick z (saved ws i (Failing (fewer (timerIn b (cell i (endOf ws i .run .window) s)) n)) (ackedRun (endOf ws i .run) s)) ws)
+          → Outcome t ws b l (pick z (roused (saved ws i (Failing (fewer (timerIn b (cell i (endOf ws i .run .window) s)) n)) (ackedRun (endOf ws i .run) s))) ws)
           (pick z (set b (timerAt (cell i (endOf ws i .run .window) s)) 0) b) i s
       sides true c = failing-outcome c n q (sender-stated t ws b l G i li kind (Failing n) q)
       sides false c = nothing (rw (q, c))
@@ -285,3 +316,7 @@ module _ (t : List ℕ) (x : Lent) (l : Lists) (i s : ℕ) (g : Good t (x .node)
   pub ack-ends : Acked (x .node) (x .book) (ackAfter x i (endOf (x .node) i) (endOf (x .node) i .state) s .node)
       (ackAfter x i (endOf (x .node) i) (endOf (x .node) i .state) s .book) i s
   ack-ends = whole .ends
+
+  -- the payloads' lengths are as they were
+  pub ack-lengths : (c : ℕ) → c < 2048 → lengthIn (ackAfter x i (endOf (x .node) i) (endOf (x .node) i .state) s .book) c ≡ lengthIn (x .book) c
+  ack-lengths = whole .lengths

@@ -25,13 +25,13 @@ use Rattle.ends.specs.Runs.{isNew}
 use Rattle.ends.specs.declared.Run.{Run}
 use Rattle.slots.specs.Slots.{cell, past, timerIn}
 use Rattle.acking.specs.Acking.{counts, passing, moved, stopped, fewer}
-use Rattle.good.specs.Good.{Lists, Lines, mine, idAt, ids, Resend, Resends, Filled, Sending, running}
+use Rattle.good.specs.Good.{Lists, Lines, mine, idAt, ids, Resend, Resends, Filled, Sending, running, Outlasts}
 use Rattle.good.proofs.Members.{without-in, without-keeps, mine-in, mine-without}
 use Rattle.good.proofs.Lined.{less, unlink-lines, unlink-cells}
 use Rattle.good.proofs.Known.{is-new, either, neither}
 use Rattle.good.proofs.Framing.{Within, within-then, within-unlink, cell-low}
 use Rattle.good.proofs.Offsets.{cell-pass, id-inj}
-use Rattle.good.proofs.Senders.{Timed, timed-set, timed-after, within-timed, running-stopped, running-moved, gone-other}
+use Rattle.good.proofs.Senders.{Timed, timed-outlasts, timed-set, timed-after, within-timed, running-stopped, running-moved, gone-other}
 
 -- ---- the window once a number is acknowledged
 
@@ -143,6 +143,13 @@ module _ (b b′ : List ℕ) (i : ℕ) (low : i < 16) (r : Run) (g : GoodWindow 
         confirmed = omega arith;
         urgent = fits .urgent;
       }
+
+  -- the timers of the numbers that are left stay timely
+  pub moved-outlasts : (c q : ℕ) → ((j : ℕ) → j < r .handed → Outlasts c q (timerIn b (cell i (r .window) (past (r .window) j))))
+      → (j : ℕ) → j < r .handed - v .run → Outlasts c q (timerIn b′ (cell i (v .window) (past (v .window) j)))
+  moved-outlasts c q h j m =
+      subst (λ (z : ℕ). Outlasts c q (timerIn b′ z)) (sym (P .cells j))
+      (timed-outlasts b b′ i (r .window) k 0 T c q (λ runs. absurd (runs refl)) (r .handed) (omega (arith, S .taken, S .handed)) (λ n l d. h n l) (v .run + j) (omega arith))
 
   -- at Failing: the timers that run then
   pub moved-timers : (n : ℕ) → n ≡ running b i (r .window) (r .handed)

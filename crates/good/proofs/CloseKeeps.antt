@@ -28,10 +28,11 @@ use Rattle.ends.specs.declared.State.{State}
 use Rattle.ends.specs.declared.State.the-variants.{Closed, Enabled, Open, Failing}
 use Rattle.ends.specs.declared.EndPoint.{EndPoint}
 use Rattle.opening.specs.Opening.{closeAnswer, silenced, closeAfter}
-use Rattle.good.specs.Good.{Lists, Lines, Silent, Stated, Entered, Good}
+use Rattle.timing.specs.Timing.{clockIn, quietIn}
+use Rattle.good.specs.Good.{Lists, Lines, Silent, Stated, Entered, Timely, Good}
 use Rattle.good.proofs.Lined.{less}
 use Rattle.good.proofs.Known.{stated-as, receiver-silent}
-use Rattle.good.proofs.Framing.{Within, within-same, within-unlink, Apart, apart-then, apart-saved, framed, apart-count, entry-low}
+use Rattle.good.proofs.Framing.{Within, within-same, within-unlink, Apart, apart-then, apart-saved, framed, apart-count, apart-timely, entry-low}
 use Rattle.good.proofs.Offsets.{reset-owner}
 use Rattle.good.proofs.Turns.{run-fits, turnedTo, end-saved, anew-fits, anew-size, anew-fresh, anew-window, ring-of, owed-other, free-turn, sender-turn, drop-apart, drop-end, not-in, Kept, kept-same}
 use Rattle.good.proofs.Senders.{reset-waited, reset-gone}
@@ -93,6 +94,8 @@ module _ (t ws b : List ℕ) (l : Lists) (g : Good t ws b l) (i : ℕ) (li : i <
       framed i ws (dropped i ws) apart t b b l l g (within-same i b l (g .lines)) li (drop-ring i ws ring .most)
       (λ w m. let p = left w m in owed-other i ws (dropped i ws) apart w (g .owed w (p .0)) (p .1))
       (subst (Entered b l i) (sym (drop-end i i ws ring)) (g .entered i li))
+      (subst (λ (e : EndPoint). Timely (clockIn (dropped i ws)) (quietIn (dropped i ws)) b i e (e .state)) (sym (drop-end i i ws ring))
+      (apart-timely i ws (dropped i ws) apart b i (endOf ws i) (endOf ws i .state) (g .timely i li)))
 
   drop-known : i < countIn (dropped i ws)
   drop-known = rw (apart-count i ws (dropped i ws) apart) li
@@ -104,7 +107,7 @@ module _ (t ws b : List ℕ) (l : Lists) (g : Good t ws b l) (i : ℕ) (li : i <
       let h = drop-end i i ws ring in
       free-turn t (dropped i ws) b l drop-good i drop-known (λ w m. left w m .1) Closed (anew r) tt (anew-fits r (run-fits ws i))
       (anew-size r ∙ ap (λ (e : EndPoint). e .run .window .size) (sym h)) b l (within-same i b l (g .lines))
-      (subst (λ (e : EndPoint). Entered b l i (turnedTo e Closed (anew r))) (sym h) (closed-entered b l i (endOf ws i) (g .entered i li .window) s))
+      (subst (λ (e : EndPoint). Entered b l i (turnedTo e Closed (anew r))) (sym h) (closed-entered b l i (endOf ws i) (g .entered i li .window) s)) tt
 
   drop-end-closed : endOf (saved (dropped i ws) i Closed (anew (endOf ws i .run))) i ≡ turnedTo (endOf ws i) Closed (anew (endOf ws i .run))
   drop-end-closed =
@@ -136,7 +139,7 @@ module _ (x : Lent) (i : ℕ) (t : List ℕ) (l : Lists) (g : Good t (x .node) (
         lists = q .lists;
         good =
             sender-turn t (x .node) (x .book) l g i li h Closed (anew (e .run)) tt (anew-fits (e .run) (run-fits (x .node) i)) (anew-size (e .run)) b (q .lists) (q .within)
-            (closed-entered b (q .lists) i e (n .window) (q .silent));
+            (closed-entered b (q .lists) i e (n .window) (q .silent)) tt;
         apart = apart-saved i (x .node) Closed (anew (e .run));
         within = q .within;
       }

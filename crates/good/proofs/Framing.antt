@@ -13,7 +13,7 @@ use lib.Seq.{getD-set-other, length-sets}
 use lib.Dec.{eqb}
 use borrow.Author.Tests.{ne-eqb}
 use Rattle.units.specs.Refusals.{pick}
-use Rattle.memory.specs.Layout.{resets, urgents, resends, datas, rowAt, entryAt, lengthAt, timerAt, retriesAt}
+use Rattle.memory.specs.Layout.{resets, urgents, resends, datas, clockAt, quietAt, rowAt, entryAt, lengthAt, timerAt, retriesAt}
 use Rattle.waiting.specs.Queues.{appended, unlinked}
 use Rattle.waiting.specs.Acks.{waitingOf}
 use Rattle.order.specs.Order.{acksIn}
@@ -31,8 +31,9 @@ use Rattle.ends.specs.declared.EndPoint.{EndPoint}
 use Rattle.lookup.specs.Lookup.{rowIn, Indexed}
 use Rattle.lookup.proofs.Rows.{row-ext}
 use Rattle.slots.specs.Slots.{slotFor, cell, past, lengthIn, timerIn}
+use Rattle.timing.specs.Timing.{clockIn, quietIn}
 use Rattle.table.proofs.Good.{good-head}
-use Rattle.good.specs.Good.{Lists, Lines, ownerOf, Ranged, mine, Share, Resends, Silent, Filled, Sending, Receiving, running, Anew, Stated, Entered, Tabled, Owed, Good}
+use Rattle.good.specs.Good.{Lists, Lines, ownerOf, Ranged, mine, Share, Resends, Silent, Filled, Sending, Receiving, running, Anew, Stated, Entered, Outlasts, Timely, Tabled, Owed, Good}
 use Rattle.good.specs.Independence.{cellOwner}
 use Rattle.good.proofs.Members.{mine-append, mine-other, mine-apart, without-in, rest, rest-append, rest-own, rest-without}
 use Rattle.good.proofs.Lined.{added, less, added-here, added-there, added-in, append-lines, append-cells, unlink-lines, unlink-cells, set-lines}
@@ -116,27 +117,37 @@ within-set i b l L k v h o =
       order = λ q g. refl;
     }
 
--- ---- the node: only entry i's end point alters, and perhaps the waiting acknowledgements
+-- ---- the node: only entry i's end point alters, and perhaps the waiting acknowledgements; no tick passes, and no more may than before
 
 pub record Apart (i : ℕ) (ws ws′ : List ℕ) : Type 0 where
   pub long : length ws′ ≡ length ws
   pub head : (k : ℕ) → k < 4 → getD ws′ k 0 ≡ getD ws k 0
+  pub clock : clockIn ws′ ≡ clockIn ws
+  pub quiet : quietIn ws′ ≤ quietIn ws
   pub table : (j k : ℕ) → k < 8 → word ws′ j k ≡ word ws j k
   pub rows : (v : ℕ) → v < 256 → getD ws′ (rowAt v) 0 ≡ getD ws (rowAt v) 0
   pub others : (j : ℕ) → j ≢ i → endOf ws′ j ≡ endOf ws j
+
+pub le-trans : {a b c : ℕ} → a ≤ b → b ≤ c → a ≤ c
+le-trans p q = omega (arith, p, q)
+
+le-same : {a b : ℕ} → a ≡ b → a ≤ b
+le-same p = omega (arith, p)
 
 pub apart-then : (i : ℕ) (a b c : List ℕ) → Apart i a b → Apart i b c → Apart i a c
 apart-then i a b c v w =
     record {
       long = w .long ∙ v .long;
       head = λ k h. w .head k h ∙ v .head k h;
+      clock = w .clock ∙ v .clock;
+      quiet = le-trans (w .quiet) (v .quiet);
       table = λ j k h. w .table j k h ∙ v .table j k h;
       rows = λ u h. w .rows u h ∙ v .rows u h;
       others = λ j n. w .others j n ∙ v .others j n;
     }
 
 pub apart-same : (i : ℕ) (ws : List ℕ) → Apart i ws ws
-apart-same i ws = record { long = refl; head = λ k h. refl; table = λ j k h. refl; rows = λ v h. refl; others = λ j n. refl }
+apart-same i ws = record { long = refl; head = λ k h. refl; clock = refl; quiet = omega arith; table = λ j k h. refl; rows = λ v h. refl; others = λ j n. refl }
 
 saved-long : (ws : List ℕ) (i : ℕ) (s : State) (r : Run) → length (saved ws i s r) ≡ length ws
 unfolding saved
@@ -147,6 +158,8 @@ apart-saved i ws s r =
     record {
       long = saved-long ws i s r;
       head = λ k h. saved-head ws i s r k (omega arith);
+      clock = ap (λ (x : ℕ). x % 65536) (saved-head ws i s r clockAt (omega arith));
+      quiet = le-same (saved-head ws i s r quietAt (omega arith));
       table = λ j k h. sides j k h (decLe j i);
       rows = λ v h. saved-word ws i s r (rowAt v) (inl (omega arith));
       others = λ j n. saved-other ws i j s r n;
@@ -156,13 +169,16 @@ apart-saved i ws s r =
     sides j k h (yes l) = saved-word ws i s r (entryAt j + k) (inl (omega arith))
     sides j k h (no l) = saved-word ws i s r (entryAt j + k) (inr (omega arith))
 
--- whatever alters the waiting acknowledgements alone
-pub apart-rest : (i : ℕ) (ws ws′ : List ℕ) → length ws′ ≡ length ws → ((k : ℕ) → k < 4 → getD ws′ k 0 ≡ getD ws k 0) → ((k : ℕ) → 64 ≤ k → getD ws′ k 0 ≡ getD ws k 0)
+-- whatever alters the waiting acknowledgements alone, or how many ticks may pass
+pub apart-rest : (i : ℕ) (ws ws′ : List ℕ) → length ws′ ≡ length ws → ((k : ℕ) → k < 4 → getD ws′ k 0 ≡ getD ws k 0)
+    → clockIn ws′ ≡ clockIn ws → quietIn ws′ ≤ quietIn ws → ((k : ℕ) → 64 ≤ k → getD ws′ k 0 ≡ getD ws k 0)
     → Apart i ws ws′
-apart-rest i ws ws′ l h r =
+apart-rest i ws ws′ l h c q r =
     record {
       long = l;
       head = h;
+      clock = c;
+      quiet = q;
       table = λ j k g. r (entryAt j + k) (omega arith);
       rows = λ v g. r (rowAt v) (omega arith);
       others = λ j n. end-ext ws′ ws j (λ k g. r (entryAt j + k) (omega arith));
@@ -197,6 +213,21 @@ pub running-ext : (b b′ : List ℕ) (i : ℕ) (w : Window) (n : ℕ)
 unfolding running
 running-ext b b′ i w zero h = refl
 running-ext b b′ i w (suc n) h = rw (h n (omega arith), running-ext b b′ i w n (λ k l. h k (omega arith)))
+
+-- the same numbers handed out with the same timers are as timely
+module _ (c q : ℕ) (b b′ : List ℕ) (i : ℕ) (e e′ : EndPoint) (w : e′ .run .window ≡ e .run .window) (n : e′ .run .handed ≡ e .run .handed)
+    (timers : (k : ℕ) → timerIn b′ (cell i (e .run .window) (past (e .run .window) k)) ≡ timerIn b (cell i (e .run .window) (past (e .run .window) k))) where
+  outlasts-as : ((k : ℕ) → k < e .run .handed → Outlasts c q (timerIn b (cell i (e .run .window) (past (e .run .window) k))))
+      → (k : ℕ) → k < e′ .run .handed → Outlasts c q (timerIn b′ (cell i (e′ .run .window) (past (e′ .run .window) k)))
+  outlasts-as h k m =
+      subst (λ (z : Window). Outlasts c q (timerIn b′ (cell i z (past z k)))) (sym w)
+      (subst (Outlasts c q) (sym (timers k)) (h k (subst (λ (z : ℕ). k < z) n m)))
+
+  pub timely-as : (s : State) → Timely c q b i e s → Timely c q b′ i e′ s
+  timely-as Closed h = tt
+  timely-as (Enabled d sent) h = h
+  timely-as Open h = outlasts-as h
+  timely-as (Failing m) h = (outlasts-as (h .0), h .1)
 
 module _ (j : ℕ) (low : j < 16) (b b′ : List ℕ) (l l′ : Lists)
     (cells : (k : ℕ) → 4224 ≤ k → cellOwner k ≡ j → getD b′ k 0 ≡ getD b k 0)
@@ -275,6 +306,19 @@ module _ (j : ℕ) (low : j < 16) (b b′ : List ℕ) (l l′ : Lists)
   pub same-entered : (e : EndPoint) → Entered b l j e → Entered b′ l′ j e
   same-entered e a = record { window = a .window; stated = same-stated e (a .window) (isSends (e .entry .kind)) (e .state) (a .stated) }
 
+  pub same-timely : (c q : ℕ) (e : EndPoint) → GoodWindow (e .run .window) → (s : State) → Timely c q b j e s → Timely c q b′ j e s
+  same-timely c q e g s h = timely-as c q b b′ j e e refl refl (λ k. same-timer (e .run) g (past (e .run .window) k)) s h
+
+-- where fewer ticks may pass
+pub outlasts-fewer : (c q q′ d : ℕ) → q′ ≤ q → Outlasts c q d → Outlasts c q′ d
+outlasts-fewer c q q′ d f h runs = let p = h runs in (p .0, omega (arith, f, p .1))
+
+pub timely-fewer : (c q q′ : ℕ) (b : List ℕ) (j : ℕ) (e : EndPoint) (s : State) → q′ ≤ q → Timely c q b j e s → Timely c q′ b j e s
+timely-fewer c q q′ b j e Closed f h = tt
+timely-fewer c q q′ b j e (Enabled d sent) f h = outlasts-fewer c q q′ d f h
+timely-fewer c q q′ b j e Open f h = λ k m. outlasts-fewer c q q′ _ f (h k m)
+timely-fewer c q q′ b j e (Failing n) f h = (λ k m. outlasts-fewer c q q′ _ f (h .0 k m), λ z. let y = h .1 z in omega (arith, f, y))
+
 -- ---- the node as a whole
 
 pub count-low : (t ws b : List ℕ) (l : Lists) → Good t ws b l → countIn ws ≤ 16
@@ -284,53 +328,69 @@ count-low t ws b l g = let h = good-head t (g .table) .count in omega (arith, g 
 pub entry-low : (t ws b : List ℕ) (l : Lists) → Good t ws b l → (i : ℕ) → i < countIn ws → i < 16
 entry-low t ws b l g i h = let c = count-low t ws b l g in omega arith
 
+-- what the table says is in the head, the entries' first words and the index
+module _ (ws ws′ : List ℕ) (head : (k : ℕ) → k < 4 → getD ws′ k 0 ≡ getD ws k 0) (table : (j k : ℕ) → k < 8 → word ws′ j k ≡ word ws j k)
+    (rows : (v : ℕ) → v < 256 → getD ws′ (rowAt v) 0 ≡ getD ws (rowAt v) 0) where
+  same-count : countIn ws′ ≡ countIn ws
+  same-count = ap (λ (x : ℕ). x % 256) (head 0 (omega arith))
+
+  same-entry : (j : ℕ) → loadEntry ws′ j ≡ loadEntry ws j
+  unfolding loadEntry
+  same-entry j =
+      let z : entryAt j + 0 ≡ entryAt j = omega arith in
+      let h0 : getD ws′ (entryAt j) 0 ≡ getD ws (entryAt j) 0 = rw z at (table j 0 (omega arith)) in
+      rw (h0, table j 1 (omega arith), table j 2 (omega arith), table j 3 (omega arith), table j 4 (omega arith), table j 5 (omega arith), table j 6 (omega arith))
+
+  same-row : (v : ℕ) → rowIn ws′ v ≡ rowIn ws v
+  same-row v = row-ext ws′ ws v (rows v)
+
+  same-index : Indexed ws → Indexed ws′
+  same-index x =
+      record {
+        few = rw same-count (x .few);
+        channels = λ sends v i h. rw (same-row v, same-count, same-entry i) (x .channels sends v i h);
+        remotes = λ v i h. rw (same-row v, same-count, same-entry i) (x .remotes v i h);
+      }
+
+  pub same-tabled : (t : List ℕ) → Tabled ws t → Tabled ws′ t
+  same-tabled t h =
+      record {
+        count = same-count ∙ h .count;
+        own = rw (head 1 (omega arith)) (h .own);
+        protocol = rw (head 2 (omega arith)) (h .protocol);
+        need = head 3 (omega arith) ∙ h .need;
+        entry = λ j l. same-entry j ∙ h .entry j l;
+        place = λ j l. rw (table j 7 (omega arith)) (h .place j l);
+        index = same-index (h .index);
+      }
+
 module _ (i : ℕ) (ws ws′ : List ℕ) (a : Apart i ws ws′) where
   pub apart-count : countIn ws′ ≡ countIn ws
-  apart-count = ap (λ (x : ℕ). x % 256) (a .head 0 (omega arith))
+  apart-count = same-count ws ws′ (a .head) (a .table) (a .rows)
 
   pub apart-entry : (j : ℕ) → loadEntry ws′ j ≡ loadEntry ws j
-  unfolding loadEntry
-  apart-entry j =
-      let z : entryAt j + 0 ≡ entryAt j = omega arith in
-      let h0 : getD ws′ (entryAt j) 0 ≡ getD ws (entryAt j) 0 = rw z at (a .table j 0 (omega arith)) in
-      rw (h0, a .table j 1 (omega arith), a .table j 2 (omega arith), a .table j 3 (omega arith), a .table j 4 (omega arith), a .table j 5 (omega arith), a .table j 6 (omega arith))
+  apart-entry j = same-entry ws ws′ (a .head) (a .table) (a .rows) j
 
-  apart-row : (v : ℕ) → rowIn ws′ v ≡ rowIn ws v
-  apart-row v = row-ext ws′ ws v (a .rows v)
-
-  apart-index : Indexed ws → Indexed ws′
-  apart-index x =
-      record {
-        few = rw apart-count (x .few);
-        channels = λ sends v i h. rw (apart-row v, apart-count, apart-entry i) (x .channels sends v i h);
-        remotes = λ v i h. rw (apart-row v, apart-count, apart-entry i) (x .remotes v i h);
-      }
-
-  apart-tabled : (t : List ℕ) → Tabled ws t → Tabled ws′ t
-  apart-tabled t h =
-      record {
-        count = apart-count ∙ h .count;
-        own = rw (a .head 1 (omega arith)) (h .own);
-        protocol = rw (a .head 2 (omega arith)) (h .protocol);
-        need = a .head 3 (omega arith) ∙ h .need;
-        entry = λ j l. apart-entry j ∙ h .entry j l;
-        place = λ j l. rw (a .table j 7 (omega arith)) (h .place j l);
-        index = apart-index (h .index);
-      }
+  -- timers that stay stay timely
+  pub apart-timely : (b : List ℕ) (j : ℕ) (e : EndPoint) (s : State) → Timely (clockIn ws) (quietIn ws) b j e s → Timely (clockIn ws′) (quietIn ws′) b j e s
+  apart-timely b j e s h =
+      subst (λ (c : ℕ). Timely c (quietIn ws′) b j e s) (sym (a .clock)) (timely-fewer (clockIn ws) (quietIn ws) (quietIn ws′) b j e s (a .quiet) h)
 
   -- The framing lemma.
   pub framed : (t b b′ : List ℕ) (l l′ : Lists) → Good t ws b l → Within i b b′ l l′ → i < countIn ws → waitingOf ws′ ≤ 32
-      → ((w : ℕ) → List·Memᴰ w (acksIn ws′) → Owed ws′ w) → Entered b′ l′ i (endOf ws′ i) → Good t ws′ b′ l′
-  framed t b b′ l l′ g v li acks owed here =
+      → ((w : ℕ) → List·Memᴰ w (acksIn ws′) → Owed ws′ w) → Entered b′ l′ i (endOf ws′ i)
+      → Timely (clockIn ws′) (quietIn ws′) b′ i (endOf ws′ i) (endOf ws′ i .state) → Good t ws′ b′ l′
+  framed t b b′ l l′ g v li acks owed here soon =
       record {
         table = g .table;
         long = a .long ∙ g .long;
-        tabled = apart-tabled t (g .tabled);
+        tabled = same-tabled ws ws′ (a .head) (a .table) (a .rows) t (g .tabled);
         acks = acks;
         owed = owed;
         lines = v .lines;
         known = λ q h x m. known q x (g .known q h x) (v .known q h x m);
         entered = λ j h. there j (rw (← apart-count) h) (ℕ-discrete j i);
+        timely = λ j h. on j (rw (← apart-count) h) (ℕ-discrete j i);
       }
     where
       known : (q x : ℕ) → (List·Memᴰ x (l q) → (ownerOf x < countIn ws) × Ranged q x) → List·Memᴰ x (l q) ⊎ ((ownerOf x ≡ i) × Ranged q x) → (ownerOf x < countIn ws′) × Ranged q x
@@ -342,3 +402,11 @@ module _ (i : ℕ) (ws ws′ : List ℕ) (a : Apart i ws ws′) where
       there j h (no n) =
           subst (Entered b′ l′ j) (sym (a .others j n))
           (same-entered j (entry-low t ws b l g j h) b b′ l l′ (λ k m o. v .cells k m (λ e. n (sym o ∙ e))) (λ q m. v .shares j n q m) (endOf ws j) (g .entered j h))
+
+      on : (j : ℕ) → j < countIn ws → Dec (j ≡ i) → Timely (clockIn ws′) (quietIn ws′) b′ j (endOf ws′ j) (endOf ws′ j .state)
+      on j h (yes e) = subst (λ (k : ℕ). Timely (clockIn ws′) (quietIn ws′) b′ k (endOf ws′ k) (endOf ws′ k .state)) (sym e) soon
+      on j h (no n) =
+          subst (λ (z : EndPoint). Timely (clockIn ws′) (quietIn ws′) b′ j z (z .state)) (sym (a .others j n))
+          (apart-timely b′ j (endOf ws j) (endOf ws j .state)
+          (same-timely j (entry-low t ws b l g j h) b b′ l l′ (λ k m o. v .cells k m (λ e. n (sym o ∙ e))) (λ q m. v .shares j n q m) (clockIn ws) (quietIn ws) (endOf ws j)
+          (g .entered j h .window) (endOf ws j .state) (g .timely j h)))

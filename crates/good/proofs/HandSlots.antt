@@ -6,32 +6,40 @@ use mathlib.Core.Logic.{_≢_}
 use mathlib.Core.Bool.{Bool, true, false}
 use mathlib.Core.List.{List, [], List·Memᴰ}
 use native.Mathlib.Omega.{arith}
-use lib.ListN.{set}
-use Rattle.memory.specs.Layout.{resets, urgents, resends, datas, timerAt}
+use lib.ListN.{length, set}
+use Rattle.memory.specs.Layout.{resets, urgents, resends, datas, timerAt, quietAt, nodeWords}
 use Rattle.waiting.specs.Queues.{unlinked}
+use Rattle.waiting.specs.Acks.{waitingOf}
 use Rattle.order.specs.Order.{acksIn, Distinct}
 use Rattle.window.specs.Windows.{held, Good as GoodWindow}
 use Rattle.window.proofs.Sizes.{size-le}
 use Rattle.kept.proofs.Kept.{RunFits}
-use Rattle.ends.specs.Ends.{endOf}
+use Rattle.ends.specs.Ends.{endOf, saved}
 use Rattle.ends.specs.States.{isSends}
 use Rattle.ends.specs.Lent.{Lent}
 use Rattle.ends.specs.declared.State.{State}
 use Rattle.ends.specs.declared.State.the-variants.{Open}
 use Rattle.ends.specs.declared.Run.{Run}
-use Rattle.slots.specs.Slots.{cell, past, lengthIn}
+use Rattle.slots.specs.Slots.{cell, past, lengthIn, timerIn}
+use Rattle.timing.specs.Timing.{clockIn, quietIn, later, heeded}
+use Rattle.timing.proofs.Falling.{later-runs}
+use Rattle.good.proofs.Clocked.{Clocked, clocked-set, clocked-end, clocked-waiting, clocked-acks, heeded-apart, heeded-quiet, starts}
 use Rattle.handing.specs.declared.Next.the-variants as next
-use Rattle.handing.specs.Handing.{cellOf, slotEntry, handedRun, timed, outNode, outBook, handedOut}
-use Rattle.good.specs.Good.{Lists, mine, idAt, ids, Resend, Resends, OpenSender, Stated, Good}
+use Rattle.handing.specs.Handing.{cellOf, slotEntry, handedRun, timed, againNode, outNode, outBook, handedOut}
+use Rattle.good.specs.Good.{Lists, mine, idAt, ids, Resend, Resends, OpenSender, Stated, Outlasts, Timely, Good}
 use Rattle.good.proofs.Members.{without-in, without-keeps, mine-in, mine-without}
 use Rattle.good.proofs.Lined.{less}
-use Rattle.good.proofs.Framing.{Within, within-then, Apart, apart-same, apart-saved, entry-low}
-use Rattle.good.proofs.Turns.{run-fits, turnedTo, saved-acks, book-turn}
-use Rattle.good.proofs.Senders.{Timed, timed-set, timed-after, within-timed, entry-window, sender-entered, sender-timeout}
+use Rattle.good.proofs.Framing.{Within, within-then, Apart, apart-then, apart-saved, outlasts-fewer, entry-low}
+use Rattle.good.proofs.Turns.{run-fits, turnedTo, saved-acks, sender-put}
+use Rattle.good.proofs.Senders.{Timed, timed-outlasts, timed-set, timed-after, within-timed, entry-window, sender-entered, sender-timeout, timeout-fits}
 use Rattle.good.proofs.HandRuns.{withHanded, NextData, handed-sending, timed-sending, timed-resends, id-cell, id-slot, id-number, share-first, share-rest, next-data}
 use Rattle.good.proofs.Handed.{Went, SlotOut, HandKept, resent, handed}
 use Rattle.good.proofs.HandFirst.{First, first-in, Whose, ranged-slot, slot-owner, whose}
-use Rattle.good.proofs.HandSorts.{open-state, open-sender, open-within, open-beyond, open-share, open-good, open-end}
+use Rattle.good.proofs.HandSorts.{open-state, open-sender, open-within, open-beyond, open-share, open-end}
+
+-- the tick at which the timer of what waits as n runs out
+abbrev over : Lent → ℕ → ℕ
+over x n = later (clockIn (x .node)) (endOf (x .node) (slotEntry n) .entry .timeout)
 
 module _ (t : List ℕ) (x : Lent) (l : Lists) (G : Good t (x .node) (x .book) l) where
   -- a slot: the number k past the start
@@ -53,8 +61,16 @@ module _ (t : List ℕ) (x : Lent) (l : Lists) (G : Good t (x .node) (x .book) l
     slot-sender : OpenSender (x .book) l (slotEntry n) (endOf (x .node) (slotEntry n))
     slot-sender = open-sender t x l G (suc (suc q)) hq (λ e. omega arith) n (slotEntry n) slot-whose
 
-    slot-timeout : 1 ≤ endOf (x .node) (slotEntry n) .entry .timeout
-    slot-timeout = sender-timeout t (x .node) (x .book) l G (slotEntry n) (slot-whose .known) (slot-state .0)
+    slot-length : (1 ≤ endOf (x .node) (slotEntry n) .entry .timeout) × (endOf (x .node) (slotEntry n) .entry .timeout ≤ 65535)
+    slot-length = (
+      sender-timeout t (x .node) (x .book) l G (slotEntry n) (slot-whose .known) (slot-state .0),
+      omega (arith, timeout-fits (x .node) (slotEntry n)),
+    )
+
+    slot-timeout : 1 ≤ over x n
+    slot-timeout =
+        let h = later-runs (clockIn (x .node)) (endOf (x .node) (slotEntry n) .entry .timeout) (omega arith) (slot-length .0) (slot-length .1) in
+        omega (arith, h .0)
 
     slot-share : (r : ℕ) → r < 4 → r ≢ suc (suc q) → (xs : List ℕ) → mine (slotEntry n) (l r) ≡ xs → mine (slotEntry n) (less l n r) ≡ xs
     slot-share = open-share t x l G (suc (suc q)) hq (λ e. omega arith) n (slotEntry n) slot-whose
@@ -70,22 +86,35 @@ module _ (t : List ℕ) (x : Lent) (l : Lists) (G : Good t (x .node) (x .book) l
       slot-within =
           let i = slotEntry n in
           let w = endOf (x .node) i .run .window in
-          let v = endOf (x .node) i .entry .timeout in
+          let v = over x n in
           let one = open-within t x l G (suc (suc q)) hq (λ e. omega arith) n i slot-whose in
           subst (λ (c : ℕ). Within i (x .book) (set (unlinked (x .book) n) (timerAt c) v) l (less l n)) (sym slot-cell)
           (within-then i (x .book) (unlinked (x .book) n) (set (unlinked (x .book) n) (timerAt (cell i w (past w k))) v) l (less l n) (less l n) one
           (within-timed i slot-low w slot-window k slot-fit v (unlinked (x .book) n) (less l n) (one .lines)))
 
-      slot-timed : Timed (x .book) (timed (x .node) (x .book) n) (slotEntry n) (endOf (x .node) (slotEntry n) .run .window) k (endOf (x .node) (slotEntry n) .entry .timeout)
+      slot-timed : Timed (x .book) (timed (x .node) (x .book) n) (slotEntry n) (endOf (x .node) (slotEntry n) .run .window) k (over x n)
       slot-timed =
           let i = slotEntry n in
           let w = endOf (x .node) i .run .window in
-          let v = endOf (x .node) i .entry .timeout in
+          let v = over x n in
           let b′ = unlinked (x .book) n in
           subst (λ (c : ℕ). Timed (x .book) (set b′ (timerAt c) v) i w k v) (sym slot-cell)
           (timed-after i slot-low w slot-window k slot-fit v (x .book) b′ (set b′ (timerAt (cell i w (past w k))) v)
           (open-beyond t x l G (suc (suc q)) hq (λ e. omega arith) n i slot-whose)
           (timed-set i slot-low w slot-window k slot-fit v b′ (open-within t x l G (suc (suc q)) hq (λ e. omega arith) n i slot-whose .lines .long)))
+
+      -- its timer starts, and those of the other numbers handed out run on; fewer ticks than it takes may pass
+      slot-outlasts : (h q′ : ℕ) → h ≤ endOf (x .node) (slotEntry n) .run .window .size → ((j : ℕ) → j < h → j ≢ k → j < endOf (x .node) (slotEntry n) .run .handed)
+          → q′ ≤ quietIn (x .node) → q′ < endOf (x .node) (slotEntry n) .entry .timeout → (j : ℕ) → j < h
+          → Outlasts (clockIn (x .node)) q′ (timerIn (timed (x .node) (x .book) n)
+          (cell (slotEntry n) (endOf (x .node) (slotEntry n) .run .window) (past (endOf (x .node) (slotEntry n) .run .window) j)))
+      slot-outlasts h q′ few others fewer soon =
+          let i = slotEntry n in
+          let c = clockIn (x .node) in
+          let was = subst (Timely c (quietIn (x .node)) (x .book) i (endOf (x .node) i)) (slot-state .1) (G .timely i (slot-whose .known)) in
+          timed-outlasts (x .book) (timed (x .node) (x .book) n) i (endOf (x .node) i .run .window) k (over x n) slot-timed c q′
+          (starts c q′ (endOf (x .node) i .entry .timeout) (omega arith) soon (slot-length .1)) h few
+          (λ j m d. outlasts-fewer c (quietIn (x .node)) q′ _ fewer (was j (others j m d)))
 
       slot-out : (x′ : Lent) → x′ .book ≡ timed (x .node) (x .book) n → Apart (slotEntry n) (x .node) (x′ .node) → acksIn (x′ .node) ≡ acksIn (x .node)
           → SlotOut x x′ l (less l n) n (slotEntry n) k
@@ -116,7 +145,7 @@ module _ (t : List ℕ) (x : Lent) (l : Lists) (G : Good t (x .node) (x .book) l
     again-taken : again .at < endOf (x .node) (slotEntry n) .run .taken
     again-taken = omega (arith, again .handed, slot-sender 0 n m (omega arith) .sending .handed)
 
-    again-timed : Timed (x .book) (timed (x .node) (x .book) n) (slotEntry n) (endOf (x .node) (slotEntry n) .run .window) (again .at) (endOf (x .node) (slotEntry n) .entry .timeout)
+    again-timed : Timed (x .book) (timed (x .node) (x .book) n) (slotEntry n) (endOf (x .node) (slotEntry n) .run .window) (again .at) (over x n)
     again-timed = slot-timed 0 n m (omega arith) (again .at) (again .is) again-taken
 
     again-resends : Resends (timed (x .node) (x .book) n) (less l n) (slotEntry n) (endOf (x .node) (slotEntry n) .run)
@@ -125,7 +154,7 @@ module _ (t : List ℕ) (x : Lent) (l : Lists) (G : Good t (x .node) (x .book) l
         let r = endOf (x .node) i .run in
         let s = slot-sender 0 n m (omega arith) .sending in
         let same = mine-without i n (l resends) in
-        timed-resends (x .book) (timed (x .node) (x .book) n) i (slot-low 0 n m (omega arith)) r (slot-window 0 n m (omega arith)) (again .at) (endOf (x .node) i .entry .timeout)
+        timed-resends (x .book) (timed (x .node) (x .book) n) i (slot-low 0 n m (omega arith)) r (slot-window 0 n m (omega arith)) (again .at) (over x n)
         (slot-timeout 0 n m (omega arith)) (slot-fit 0 n m (omega arith) (again .at) (again .is) again-taken) (again .missing) again-timed
         (r .handed) (omega arith) (λ j h d. h) (omega (arith, s .taken, s .handed)) l (less l n) (slot-sender 0 n m (omega arith) .resends)
         (λ y k. let d = without-in n y (mine i (l resends)) (subst (λ (ys : List ℕ). List·Memᴰ y ys) same k) in (d .0, λ e. d .1 (e ∙ sym (again .is))))
@@ -138,7 +167,7 @@ module _ (t : List ℕ) (x : Lent) (l : Lists) (G : Good t (x .node) (x .book) l
         let o = slot-sender 0 n m (omega arith) in
         let kept = slot-share 0 n m (omega arith) in
         record {
-          sending = timed-sending (x .book) (timed (x .node) (x .book) n) i (slot-low 0 n m (omega arith)) (e .run) (slot-window 0 n m (omega arith)) (again .at) (e .entry .timeout)
+          sending = timed-sending (x .book) (timed (x .node) (x .book) n) i (slot-low 0 n m (omega arith)) (e .run) (slot-window 0 n m (omega arith)) (again .at) (over x n)
               (slot-timeout 0 n m (omega arith)) (slot-fit 0 n m (omega arith) (again .at) (again .is) again-taken) (again .missing) again-timed (e .entry .largest) (o .sending);
           share = record {
             resets = kept resets (omega arith) (λ z. omega arith) [] (o .share .resets);
@@ -148,16 +177,30 @@ module _ (t : List ℕ) (x : Lent) (l : Lists) (G : Good t (x .node) (x .book) l
           resends = again-resends;
         }
 
-    again-good : Good t (x .node) (timed (x .node) (x .book) n) (less l n)
+    abbrev again-heeded : List ℕ
+    again-heeded = againNode (x .node) (endOf (x .node) (slotEntry n))
+
+    again-clocked : Clocked (x .node) again-heeded
+    again-clocked = clocked-set (x .node) quietAt _ (omega arith) (omega arith)
+
+    again-apart : Apart (slotEntry n) (x .node) again-heeded
+    again-apart = heeded-apart (x .node) (G .long) (endOf (x .node) (slotEntry n) .entry .timeout) (slotEntry n)
+
+    again-good : Good t again-heeded (timed (x .node) (x .book) n) (less l n)
     again-good =
         let i = slotEntry n in
         let e = endOf (x .node) i in
         let b′ = timed (x .node) (x .book) n in
         let known = slot-whose 0 n m (omega arith) .known in
         let state = slot-state 0 n m (omega arith) in
-        book-turn t (x .node) (x .book) l G i known b′ (less l n) (slot-within 0 n m (omega arith) (again .at) (again .is) again-taken)
+        let s = slot-sender 0 n m (omega arith) .sending in
+        sender-put t (x .node) (x .book) l G i known (state .0) again-heeded again-apart (clocked-waiting (x .node) again-heeded again-clocked) (clocked-acks (x .node) again-heeded again-clocked)
+        b′ (less l n) (slot-within 0 n m (omega arith) (again .at) (again .is) again-taken) e (clocked-end (x .node) again-heeded again-clocked i)
         (sender-entered t (x .node) (x .book) l G i known (state .0) b′ (less l n) (e .state) (e .run) (slot-window 0 n m (omega arith))
         (subst (λ (z : State). Stated b′ (less l n) i e true z) (sym (state .1)) again-then))
+        (subst (Timely (clockIn (x .node)) (quietIn again-heeded) b′ i e) (sym (state .1))
+        (slot-outlasts 0 n m (omega arith) (again .at) (again .is) again-taken (e .run .handed) (quietIn again-heeded) (omega (arith, s .taken, s .handed)) (λ j h d. h)
+        (again-apart .quiet) (heeded-quiet (x .node) (G .long) (e .entry .timeout) (slot-length 0 n m (omega arith) .0))))
 
     pub hand-resend : Went x (handedOut x (next.Resend n)) (next.Resend n) → HandKept t x (handedOut x (next.Resend n)) l
     unfolding outNode outBook
@@ -171,10 +214,11 @@ module _ (t : List ℕ) (x : Lent) (l : Lists) (G : Good t (x .node) (x .book) l
               (record {
                 at = slotEntry n;
                 offset = again .at;
-                slot = slot-out 0 n m (omega arith) (again .at) (again .is) again-taken (handedOut x (next.Resend n)) refl (apart-same (slotEntry n) (x .node)) refl;
+                slot = slot-out 0 n m (omega arith) (again .at) (again .is) again-taken (handedOut x (next.Resend n)) refl again-apart
+                    (clocked-acks (x .node) again-heeded again-clocked);
                 handed = again .handed;
                 missing = again .missing;
-                node = refl;
+                ends = clocked-end (x .node) again-heeded again-clocked;
               });
         }
 
@@ -206,7 +250,7 @@ module _ (t : List ℕ) (x : Lent) (l : Lists) (G : Good t (x .node) (x .book) l
         omega (arith, data-next .more, data-sender .sending .taken, size-le (endOf (x .node) (slotEntry n) .run .window .size) (slot-window 1 n m (omega arith) .sized))
 
     data-timed : Timed (x .book) (timed (x .node) (x .book) n) (slotEntry n) (endOf (x .node) (slotEntry n) .run .window) (endOf (x .node) (slotEntry n) .run .handed)
-        (endOf (x .node) (slotEntry n) .entry .timeout)
+        (over x n)
     data-timed = slot-timed 1 n m (omega arith) (endOf (x .node) (slotEntry n) .run .handed) (data-next .is) (data-next .more)
 
     data-resends : Resends (timed (x .node) (x .book) n) (less l n) (slotEntry n) (withHanded (endOf (x .node) (slotEntry n) .run) (suc (endOf (x .node) (slotEntry n) .run .handed)))
@@ -215,7 +259,7 @@ module _ (t : List ℕ) (x : Lent) (l : Lists) (G : Good t (x .node) (x .book) l
         let r = endOf (x .node) i .run in
         let s = data-sender .sending in
         let same = slot-share 1 n m (omega arith) resends (omega arith) (λ z. omega arith) (mine i (l resends)) refl in
-        timed-resends (x .book) (timed (x .node) (x .book) n) i (slot-low 1 n m (omega arith)) r (slot-window 1 n m (omega arith)) (r .handed) (endOf (x .node) i .entry .timeout)
+        timed-resends (x .book) (timed (x .node) (x .book) n) i (slot-low 1 n m (omega arith)) r (slot-window 1 n m (omega arith)) (r .handed) (over x n)
         (slot-timeout 1 n m (omega arith)) (slot-fit 1 n m (omega arith) (r .handed) (data-next .is) (data-next .more)) data-missing data-timed
         (suc (r .handed)) (omega arith) (λ j h d. omega arith) (omega (arith, s .taken, data-next .more)) l (less l n) (data-sender .resends)
         (λ y k. let d = subst (λ (ys : List ℕ). List·Memᴰ y ys) same k in (
@@ -241,7 +285,7 @@ module _ (t : List ℕ) (x : Lent) (l : Lists) (G : Good t (x .node) (x .book) l
         let kept = slot-share 1 n m (omega arith) in
         record {
           sending = handed-sending b′ i (e .run) (e .entry .largest) (suc (e .run .handed)) (omega arith) (data-next .more)
-              (timed-sending (x .book) b′ i (slot-low 1 n m (omega arith)) (e .run) (slot-window 1 n m (omega arith)) (e .run .handed) (e .entry .timeout)
+              (timed-sending (x .book) b′ i (slot-low 1 n m (omega arith)) (e .run) (slot-window 1 n m (omega arith)) (e .run .handed) (over x n)
               (slot-timeout 1 n m (omega arith)) (slot-fit 1 n m (omega arith) (e .run .handed) (data-next .is) (data-next .more)) data-missing data-timed (e .entry .largest) (o .sending));
           share = record {
             resets = kept resets (omega arith) (λ z. omega arith) [] (o .share .resets);
@@ -262,6 +306,45 @@ module _ (t : List ℕ) (x : Lent) (l : Lists) (G : Good t (x .node) (x .book) l
         let f = run-fits (x .node) (slotEntry n) in
         record { start = f .start; taken = f .taken; handed = omega arith; accepted = f .accepted; confirmed = f .confirmed; urgent = f .urgent }
 
+    -- what is saved, and the node afterwards
+    abbrev data-saved : List ℕ
+    data-saved = saved (x .node) (slotEntry n) (endOf (x .node) (slotEntry n) .state) (handedRun (endOf (x .node) (slotEntry n) .run))
+
+    abbrev data-heeded : List ℕ
+    data-heeded = heeded data-saved (endOf (x .node) (slotEntry n) .entry .timeout)
+
+    data-clocked : Clocked data-saved data-heeded
+    data-clocked = clocked-set data-saved quietAt _ (omega arith) (omega arith)
+
+    data-long : length data-saved ≡ nodeWords
+    data-long = apart-saved (slotEntry n) (x .node) (endOf (x .node) (slotEntry n) .state) (handedRun (endOf (x .node) (slotEntry n) .run)) .long ∙ G .long
+
+    data-apart : Apart (slotEntry n) (x .node) data-heeded
+    data-apart =
+        let i = slotEntry n in
+        let e = endOf (x .node) i in
+        apart-then i (x .node) data-saved data-heeded (apart-saved i (x .node) (e .state) (handedRun (e .run))) (heeded-apart data-saved data-long (e .entry .timeout) i)
+
+    data-acks : (waitingOf data-heeded ≡ waitingOf (x .node)) × (acksIn data-heeded ≡ acksIn (x .node))
+    data-acks =
+        let p = saved-acks (x .node) (slotEntry n) (endOf (x .node) (slotEntry n) .state) (handedRun (endOf (x .node) (slotEntry n) .run)) in
+        (clocked-waiting data-saved data-heeded data-clocked ∙ p .0, clocked-acks data-saved data-heeded data-clocked ∙ p .1)
+
+    data-end : endOf data-heeded (slotEntry n) ≡ turnedTo (endOf (x .node) (slotEntry n)) Open (handedRun (endOf (x .node) (slotEntry n) .run))
+    unfolding handedRun
+    data-end =
+        let i = slotEntry n in
+        clocked-end data-saved data-heeded data-clocked i
+        ∙ open-end t x l G datas (omega arith) (λ z. omega arith) n i (slot-whose 1 n m (omega arith)) (handedRun (endOf (x .node) i .run)) data-fits (slot-window 1 n m (omega arith)) refl
+
+    data-timely : Timely (clockIn (x .node)) (quietIn data-heeded) (timed (x .node) (x .book) n) (slotEntry n)
+        (turnedTo (endOf (x .node) (slotEntry n)) Open (withHanded (endOf (x .node) (slotEntry n) .run) (suc (endOf (x .node) (slotEntry n) .run .handed)))) Open
+    data-timely =
+        let e = endOf (x .node) (slotEntry n) in
+        slot-outlasts 1 n m (omega arith) (e .run .handed) (data-next .is) (data-next .more) (suc (e .run .handed)) (quietIn data-heeded)
+        (omega (arith, data-sender .sending .taken, data-next .more)) (λ j h d. omega arith) (data-apart .quiet)
+        (heeded-quiet data-saved data-long (e .entry .timeout) (slot-length 1 n m (omega arith) .0))
+
     pub hand-data : Went x (handedOut x (next.Data n)) (next.Data n) → HandKept t x (handedOut x (next.Data n)) l
     unfolding outNode outBook handedRun
     hand-data W =
@@ -271,17 +354,20 @@ module _ (t : List ℕ) (x : Lent) (l : Lists) (G : Good t (x .node) (x .book) l
         let b′ = timed (x .node) (x .book) n in
         let g = slot-window 1 n m (omega arith) in
         let w = slot-whose 1 n m (omega arith) in
+        let sends = slot-state 1 n m (omega arith) .0 in
         record {
           lists = less l n;
-          good = open-good t x l G datas (omega arith) (λ z. omega arith) n i w r data-fits g refl b′ (slot-within 1 n m (omega arith) (e .run .handed) (data-next .is) (data-next .more))
-              (subst (λ (z : Run). OpenSender b′ (less l n) i (turnedTo e Open z)) (sym data-run) data-then);
+          good = sender-put t (x .node) (x .book) l G i (w .known) sends data-heeded data-apart (data-acks .0) (data-acks .1) b′ (less l n)
+              (slot-within 1 n m (omega arith) (e .run .handed) (data-next .is) (data-next .more)) (turnedTo e Open r) data-end
+              (sender-entered t (x .node) (x .book) l G i (w .known) sends b′ (less l n) Open r g
+              (subst (λ (z : Run). OpenSender b′ (less l n) i (turnedTo e Open z)) (sym data-run) data-then))
+              (subst (λ (z : Run). Timely (clockIn (x .node)) (quietIn data-heeded) b′ i (turnedTo e Open z) Open) (sym data-run) data-timely);
           store = refl;
           lengths = data-timed .lengths;
           what = handed n W
               (record {
                 at = i;
-                slot = slot-out 1 n m (omega arith) (e .run .handed) (data-next .is) (data-next .more) (handedOut x (next.Data n)) refl (apart-saved i (x .node) (e .state) r)
-                    (saved-acks (x .node) i (e .state) r .1);
-                ends = open-end t x l G datas (omega arith) (λ z. omega arith) n i w r data-fits g refl;
+                slot = slot-out 1 n m (omega arith) (e .run .handed) (data-next .is) (data-next .more) (handedOut x (next.Data n)) refl data-apart (data-acks .1);
+                ends = data-end;
               });
         }

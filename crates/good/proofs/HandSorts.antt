@@ -7,13 +7,14 @@ use mathlib.Core.Bool.{Bool, true, false}
 use mathlib.Core.List.{List, [], _∷_, List·Memᴰ, List·Memᴰ·head, List·Memᴰ·tail}
 use native.Mathlib.Nat.{mod-eq-of-lt}
 use native.Mathlib.Omega.{arith}
-use lib.ListN.{getD}
+use lib.ListN.{length, getD}
 use lib.Dec.{eqb}
 use borrow.Author.Tests.{ne-eqb}
 use Rattle.units.specs.Refusals.{pick}
-use Rattle.memory.specs.Layout.{resets, urgents, resends, datas, resetId, urgentId, lengthAt, timerAt}
+use Rattle.memory.specs.Layout.{resets, urgents, resends, datas, resetId, urgentId, lengthAt, timerAt, quietAt, nodeWords}
 use Rattle.waiting.specs.Queues.{unlinked}
 use Rattle.waiting.specs.Acks.{waitingOf, oldestOf, ackOf, popped}
+use Rattle.order.specs.Order.{acksIn}
 use Rattle.order.proofs.Ringed.{Ring, pop-acks, pop-ring}
 use Rattle.window.specs.Windows.{Good as GoodWindow}
 use Rattle.kept.proofs.Kept.{RunFits}
@@ -27,13 +28,16 @@ use Rattle.ends.specs.declared.State.the-variants.{Enabled, Open}
 use Rattle.ends.specs.declared.Run.{Run}
 use Rattle.ends.specs.declared.EndPoint.{EndPoint}
 use Rattle.slots.specs.Slots.{cell, past}
+use Rattle.timing.specs.Timing.{clockIn, quietIn, later, heeded}
+use Rattle.timing.proofs.Falling.{later-runs}
+use Rattle.good.proofs.Clocked.{Clocked, clocked-set, clocked-end, clocked-waiting, clocked-acks, heeded-apart, heeded-quiet, starts}
 use Rattle.handing.specs.declared.Next.the-variants as next
 use Rattle.handing.specs.Handing.{resetEntry, urgentEntry, resetNode, outNode, outBook, handedOut}
-use Rattle.good.specs.Good.{Lists, ownerOf, mine, Silent, OpenSender, Anew, Entered, Owed, Good}
+use Rattle.good.specs.Good.{Lists, ownerOf, mine, Silent, OpenSender, Anew, Entered, Timely, Owed, Good}
 use Rattle.good.proofs.Lined.{less, unlink-cells}
-use Rattle.good.proofs.Framing.{Within, within-same, within-unlink, apart-saved, framed, count-low, entry-low}
+use Rattle.good.proofs.Framing.{Within, within-same, within-unlink, Apart, apart-then, apart-saved, apart-timely, timely-as, framed, count-low, entry-low}
 use Rattle.good.proofs.Offsets.{reset-owner, urgent-owner}
-use Rattle.good.proofs.Turns.{run-fits, turnedTo, end-saved, gone-fits, ring-of, saved-acks, owed-open, sender-turn, pop-apart, pop-end}
+use Rattle.good.proofs.Turns.{run-fits, turnedTo, end-saved, gone-fits, ring-of, saved-acks, owed-open, sender-put, sender-turn, pop-apart, pop-end}
 use Rattle.good.proofs.Senders.{sending-kept, urgent-sending, resends-kept, gone-one, reset-gone, entry-window, sender-stated, sender-entered, sender-timeout, timeout-fits}
 use Rattle.good.proofs.HandRuns.{urgent-waited, share-kept}
 use Rattle.good.proofs.Handed.{Went, HandKept, nothing, acked, reset, urgent}
@@ -78,6 +82,8 @@ module _ (t : List ℕ) (x : Lent) (l : Lists) (G : Good t (x .node) (x .book) l
         owed-open i ws (popped ws) (pop-apart i ws ring) (rw same ack-receives) (rw same ack-open) w
         (G .owed w (subst (λ (ys : List ℕ). List·Memᴰ w ys) (sym (pop-acks ws ring some)) (List·Memᴰ·tail m))))
         (subst (Entered (x .book) l i) (sym same) (G .entered i ack-known))
+        (subst (λ (e : EndPoint). Timely (clockIn (popped ws)) (quietIn (popped ws)) (x .book) i e (e .state)) (sym same)
+        (apart-timely i ws (popped ws) (pop-apart i ws ring) (x .book) i (endOf ws i) (endOf ws i .state) (G .timely i ack-known)))
 
     pub hand-ack : Went x (handedOut x (next.Ack (ackOf (oldestOf (x .node))))) (next.Ack (ackOf (oldestOf (x .node)))) → HandKept t x (handedOut x (next.Ack (ackOf (oldestOf (x .node))))) l
     unfolding outNode outBook
@@ -129,24 +135,66 @@ module _ (t : List ℕ) (x : Lent) (l : Lists) (G : Good t (x .node) (x .book) l
           silent = subst (λ (z : ℕ). Silent (less l z) (resetEntry n) []) (sym reset-is) (reset-gone (x .book) l (G .lines) (resetEntry n) (reset-silent .silent));
         }
 
+    reset-timeout : (1 ≤ endOf (x .node) (resetEntry n) .entry .timeout) × (endOf (x .node) (resetEntry n) .entry .timeout ≤ 65535)
+    reset-timeout = (
+      sender-timeout t (x .node) (x .book) l G (resetEntry n) (reset-whose .known) (reset-state .0),
+      omega (arith, timeout-fits (x .node) (resetEntry n)),
+    )
+
+    reset-over : (later (clockIn (x .node)) (endOf (x .node) (resetEntry n) .entry .timeout) ≢ 0) × (later (clockIn (x .node)) (endOf (x .node) (resetEntry n) .entry .timeout) ≤ 65535)
+    reset-over =
+        later-runs (clockIn (x .node)) (endOf (x .node) (resetEntry n) .entry .timeout) (omega arith) (reset-timeout .0) (reset-timeout .1)
+
+    abbrev reset-says : State
+    reset-says = Enabled (later (clockIn (x .node)) (endOf (x .node) (resetEntry n) .entry .timeout)) true
+
+    abbrev reset-saved : List ℕ
+    reset-saved = saved (x .node) (resetEntry n) reset-says (endOf (x .node) (resetEntry n) .run)
+
+    reset-clocked : Clocked reset-saved (heeded reset-saved (endOf (x .node) (resetEntry n) .entry .timeout))
+    reset-clocked = clocked-set reset-saved quietAt _ (omega arith) (omega arith)
+
+    reset-long : length reset-saved ≡ nodeWords
+    reset-long = apart-saved (resetEntry n) (x .node) reset-says (endOf (x .node) (resetEntry n) .run) .long ∙ G .long
+
+    abbrev reset-heeded : List ℕ
+    reset-heeded = resetNode (x .node) (resetEntry n) (endOf (x .node) (resetEntry n))
+
+    reset-apart : Apart (resetEntry n) (x .node) reset-heeded
+    reset-apart =
+        let i = resetEntry n in
+        let e = endOf (x .node) i in
+        apart-then i (x .node) reset-saved reset-heeded (apart-saved i (x .node) reset-says (e .run)) (heeded-apart reset-saved reset-long (e .entry .timeout) i)
+
+    reset-end : endOf reset-heeded (resetEntry n) ≡ turnedTo (endOf (x .node) (resetEntry n)) reset-says (endOf (x .node) (resetEntry n) .run)
+    reset-end =
+        let i = resetEntry n in
+        clocked-end reset-saved reset-heeded reset-clocked i
+        ∙ end-saved (x .node) i reset-says (endOf (x .node) i .run) (G .long) (entry-low t (x .node) (x .book) l G i (reset-whose .known)) (omega (arith, reset-over .1)) (run-fits (x .node) i) refl
+
+    reset-acks : (waitingOf reset-heeded ≡ waitingOf (x .node)) × (acksIn reset-heeded ≡ acksIn (x .node))
+    reset-acks =
+        let p = saved-acks (x .node) (resetEntry n) reset-says (endOf (x .node) (resetEntry n) .run) in
+        (clocked-waiting reset-saved reset-heeded reset-clocked ∙ p .0, clocked-acks reset-saved reset-heeded reset-clocked ∙ p .1)
+
     reset-good : Good t (resetNode (x .node) (resetEntry n) (endOf (x .node) (resetEntry n))) (unlinked (x .book) n) (less l n)
     reset-good =
         let i = resetEntry n in
         let e = endOf (x .node) i in
-        let s = Enabled (e .entry .timeout) true in
-        let ran : eqb (e .entry .timeout) 0 ≡ false =
-        ne-eqb (e .entry .timeout) 0 (λ z. omega (arith, sender-timeout t (x .node) (x .book) l G i (reset-whose .known) (reset-state .0))) in
-        sender-turn t (x .node) (x .book) l G i (reset-whose .known) (reset-state .0) s (e .run) (timeout-fits (x .node) i) (run-fits (x .node) i) refl (unlinked (x .book) n) (less l n) reset-within
+        let d = later (clockIn (x .node)) (e .entry .timeout) in
+        let s = reset-says in
+        let ran : eqb d 0 ≡ false = ne-eqb d 0 (reset-over .0) in
+        sender-put t (x .node) (x .book) l G i (reset-whose .known) (reset-state .0) reset-heeded reset-apart (reset-acks .0) (reset-acks .1) (unlinked (x .book) n) (less l n) reset-within
+        (turnedTo e s (e .run)) reset-end
         (sender-entered t (x .node) (x .book) l G i (reset-whose .known) (reset-state .0) (unlinked (x .book) n) (less l n) s (e .run)
         (entry-window t (x .node) (x .book) l G i (reset-whose .known))
         (subst (λ (z : Bool). Anew (less l n) i (turnedTo e s (e .run)) (pick z (resetId i ∷ []) [])) (sym ran) (reset-anew (turnedTo e s (e .run)) refl)))
+        (starts (clockIn (x .node)) (quietIn reset-heeded) (e .entry .timeout) (omega arith) (heeded-quiet reset-saved reset-long (e .entry .timeout) (reset-timeout .0)) (reset-timeout .1))
 
     pub hand-reset : Went x (handedOut x (next.Reset n)) (next.Reset n) → HandKept t x (handedOut x (next.Reset n)) l
     unfolding outNode outBook
     hand-reset W =
         let i = resetEntry n in
-        let e = endOf (x .node) i in
-        let s = Enabled (e .entry .timeout) true in
         record {
           lists = less l n;
           good = reset-good;
@@ -157,12 +205,16 @@ module _ (t : List ℕ) (x : Lent) (l : Lists) (G : Good t (x .node) (x .book) l
                 at = i;
                 entry = refl;
                 is = reset-is;
-                alone = record { known = reset-whose .known; apart = apart-saved i (x .node) s (e .run); within = reset-within };
+                alone = record {
+                  known = reset-whose .known;
+                  apart = reset-apart;
+                  within = reset-within;
+                };
                 sends = reset-state .0;
                 sent = reset-state .1 .0;
                 enabled = reset-state .1 .1;
-                ends = end-saved (x .node) i s (e .run) (G .long) (entry-low t (x .node) (x .book) l G i (reset-whose .known)) (timeout-fits (x .node) i) (run-fits (x .node) i) refl;
-                acks = saved-acks (x .node) i s (e .run) .1;
+                ends = reset-end;
+                acks = reset-acks .1;
               });
         }
 
@@ -186,11 +238,12 @@ module _ (t : List ℕ) (x : Lent) (l : Lists) (G : Good t (x .node) (x .book) l
 
     module _ (r : Run) (fits : RunFits r) (g : GoodWindow (r .window)) (size : r .window .size ≡ endOf (x .node) i .run .window .size) where
       pub open-good : (b′ : List ℕ) → Within i (x .book) b′ l (less l n) → OpenSender b′ (less l n) i (turnedTo (endOf (x .node) i) Open r)
+          → Timely (clockIn (x .node)) (quietIn (x .node)) b′ i (turnedTo (endOf (x .node) i) Open r) Open
           → Good t (saved (x .node) i (endOf (x .node) i .state) r) b′ (less l n)
-      open-good b′ v o =
+      open-good b′ v o soon =
           subst (λ (z : State). Good t (saved (x .node) i z r) b′ (less l n)) (sym (open-state .1))
           (sender-turn t (x .node) (x .book) l G i (w .known) (open-state .0) Open r tt fits size b′ (less l n) v
-          (sender-entered t (x .node) (x .book) l G i (w .known) (open-state .0) b′ (less l n) Open r g o))
+          (sender-entered t (x .node) (x .book) l G i (w .known) (open-state .0) b′ (less l n) Open r g o) soon)
 
       pub open-end : endOf (saved (x .node) i (endOf (x .node) i .state) r) i ≡ turnedTo (endOf (x .node) i) Open r
       open-end =
@@ -253,7 +306,10 @@ module _ (t : List ℕ) (x : Lent) (l : Lists) (G : Good t (x .node) (x .book) l
         let within = open-within urgents (omega arith) (λ z. omega arith) n i urgent-whose in
         record {
           lists = less l n;
-          good = open-good urgents (omega arith) (λ z. omega arith) n i urgent-whose r urgent-fits g refl b′ within urgent-then;
+          good = open-good urgents (omega arith) (λ z. omega arith) n i urgent-whose r urgent-fits g refl b′ within urgent-then
+              (timely-as (clockIn (x .node)) (quietIn (x .node)) (x .book) b′ i e (turnedTo e Open r) refl refl
+              (λ k. urgent-beyond (timerAt (cell i (e .run .window) (past (e .run .window) k))) (omega arith)) Open
+              (subst (Timely (clockIn (x .node)) (quietIn (x .node)) (x .book) i e) (state .1) (G .timely i (urgent-whose .known))));
           store = refl;
           lengths = λ c h. urgent-beyond (lengthAt c) (omega arith);
           what = urgent n W

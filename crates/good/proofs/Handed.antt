@@ -19,6 +19,7 @@ use Rattle.ends.specs.Lent.{Lent}
 use Rattle.ends.specs.declared.State.the-variants.{Enabled, Open}
 use Rattle.ends.specs.declared.answers.HandedOut.the-variants.{Length, Refused}
 use Rattle.slots.specs.Slots.{slotFor, cell, past, numberIn, lengthIn}
+use Rattle.timing.specs.Timing.{clockIn, later}
 use Rattle.handing.specs.declared.Next.{Next}
 use Rattle.handing.specs.declared.Next.the-variants as next
 use Rattle.handing.specs.Handing.{nextOut, resetEntry, urgentEntry, cellOf, slotEntry, slotIn, frameOut, handAnswer, handedRun, handedOut}
@@ -58,7 +59,7 @@ pub record ResetOut (x x′ : Lent) (l l′ : Lists) (n : ℕ) : Type 0 where
   pub sends : isSends (endOf (x .node) at .entry .kind) ≡ true
   pub sent : Bool
   pub enabled : endOf (x .node) at .state ≡ Enabled 0 sent
-  pub ends : endOf (x′ .node) at ≡ turnedTo (endOf (x .node) at) (Enabled (endOf (x .node) at .entry .timeout) true) (endOf (x .node) at .run)
+  pub ends : endOf (x′ .node) at ≡ turnedTo (endOf (x .node) at) (Enabled (later (clockIn (x .node)) (endOf (x .node) at .entry .timeout)) true) (endOf (x .node) at .run)
   pub acks : acksIn (x′ .node) ≡ acksIn (x .node)
 
 -- an open sender's Urgent
@@ -95,7 +96,7 @@ pub record ResendOut (x x′ : Lent) (l l′ : Lists) (n : ℕ) : Type 0 where
   pub slot : SlotOut x x′ l l′ n at offset
   pub handed : offset < endOf (x .node) at .run .handed
   pub missing : held (endOf (x .node) at .run .window) offset ≡ false
-  pub node : x′ .node ≡ x .node
+  pub ends : (j : ℕ) → endOf (x′ .node) j ≡ endOf (x .node) j
 
 -- data for the first time: the first number not handed out yet
 pub record DataOut (x x′ : Lent) (l l′ : Lists) (n : ℕ) : Type 0 where

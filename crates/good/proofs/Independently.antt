@@ -28,10 +28,10 @@ use Rattle.good.proofs.HandKeeps.{hand-keeps}
 -- what is apart from entry j is aside
 aside : (n m : Memory) (l l′ : Lists) (j : ℕ) → Apart j (n .node) (m .node) → Within j (n .book) (m .book) l l′ → (i : ℕ) → i ≢ j → Aside n m l l′ i
 aside n m l l′ j a w i d =
-    record { end = a .others i d; cells = λ k h o. w .cells k h (λ e. d (sym o ∙ e)); waits = λ q h. w .shares i d q h }
+    record { end = a .others i d; clock = a .clock; cells = λ k h o. w .cells k h (λ e. d (sym o ∙ e)); waits = λ q h. w .shares i d q h }
 
 same-aside : (n m : Memory) (l : Lists) → m .node ≡ n .node → m .book ≡ n .book → (i : ℕ) → Aside n m l l i
-same-aside n m l e f i = record { end = rw e; cells = λ k h o. rw f; waits = λ q h. refl }
+same-aside n m l e f i = record { end = rw e; clock = rw e; cells = λ k h o. rw f; waits = λ q h. refl }
 
 module _ (t : List ℕ) (n : Memory) (l : Lists) (g : Good t (n .node) (n .book) l) where
   -- by what a call is known to keep

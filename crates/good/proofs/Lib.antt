@@ -5,12 +5,14 @@ pub mod Framing
 pub mod Offsets
 pub mod Turns
 pub mod Senders
+pub mod Clocked
 pub mod Entering
 pub mod Indexing
 pub mod SetupGood
 pub mod Idling
 pub mod OpenKeeps
 pub mod CloseKeeps
+pub mod Sent
 pub mod SendKeeps
 pub mod UrgentKeeps
 pub mod AckRuns
@@ -25,7 +27,9 @@ pub mod HandSorts
 pub mod HandSlots
 pub mod HandKeeps
 pub mod TickSlots
+pub mod TickTimers
 pub mod TickEntry
+pub mod Timely
 pub mod TickKeeps
 pub mod ReachGood
 pub mod Independently

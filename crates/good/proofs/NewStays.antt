@@ -1,71 +1,105 @@
--- A new node stays as it is until it is set up. Assumes nothing.
-use Prim.Native.Nat.{ℕ, _≤_}
-use mathlib.Core.Path.{_≡_, refl, ap}
+-- A new node stays as it is until it is set up, but for its clock. Assumes nothing.
+use Prim.Native.Nat.{ℕ, _-_, _≤_, _<_}
+use mathlib.Core.Path.{_≡_, refl, ap, _∙_}
 use mathlib.Core.Logic.{_⊎_, inl, inr}
+use mathlib.Core.Bool.{Bool, true, false}
 use mathlib.Core.List.{List, []}
 use native.Mathlib.Omega.{arith}
-use lib.ListN.{getD-replicate}
+use native.Mathlib.Nat.{mod-eq-of-lt}
+use lib.ListN.{replicate, set, getD-replicate}
+use lib.Seq.{getD-set-other}
+use lib.Dec.{eqb}
 use borrow.Author.Tests.{le-ltb}
-use Rattle.memory.specs.Layout.{rowAt, nodeWords}
+use Rattle.units.specs.Refusals.{pick}
+use Rattle.memory.specs.Layout.{clockAt, quietAt, rowAt, nodeWords}
 use Rattle.window.proofs.Bits.{bit-of-zero}
 use Rattle.ends.specs.Heads.{countIn}
 use Rattle.ends.specs.declared.answers.HandedOut.{HandedOut}
 use Rattle.ends.specs.declared.answers.HandedOut.the-variants.{Length, Refused as HandRefused}
 use Rattle.lookup.specs.Lookup.{rowIn, channelDigit, remoteDigit, Indexed}
 use Rattle.lookup.proofs.Rows.{row-zero}
-use Rattle.ticking.specs.Ticking.{tickAfter, tickBoth, recoverAll, tickEntries}
+use Rattle.timing.specs.Timing.{clockIn, later}
+use Rattle.timing.proofs.Falling.{later-next}
+use Rattle.ticking.specs.Ticking.{tickAfter, tickBoth, stillAfter, scanAfter, scanBoth, recoverAll, tickEntries}
 use Rattle.handing.specs.Handing.{handAnswer, handAfter, nextOut, outNode, outBook}
 use Rattle.handing.specs.declared.Next.the-variants as next
-use Rattle.good.specs.Calls.{lent, bare, kept, keptBare, after}
-use Rattle.machine.specs.Calls.{opens, closes, counts, sends, urges, arrives, hands-out, ticks}
-use Rattle.good.specs.NewNode.{newNode, NewStays}
+use Rattle.good.specs.Calls.{Memory, lent, bare, kept, keptBare, after}
+use Rattle.machine.specs.Calls.{Call, opens, closes, counts, sends, urges, arrives, hands-out, ticks}
+use Rattle.good.specs.NewNode.{newAt, newAfter, NewStays}
 use Rattle.good.proofs.OpenKeeps.{open-refused}
 use Rattle.good.proofs.CloseKeeps.{close-refused}
 use Rattle.good.proofs.SendKeeps.{send-refused}
 use Rattle.good.proofs.UrgentKeeps.{urgent-refused}
 use Rattle.good.proofs.Arrivals.{Taken, Refused, arrives as comes}
 
-none : (store : List ℕ) (i : ℕ) → countIn (newNode store .node) ≤ i
-none store i = omega arith
+module _ (store : List ℕ) (c q : ℕ) where
+  abbrev new : Memory
+  new = newAt store c q
 
--- its index lists none
-zero-row : (store : List ℕ) (v : ℕ) → rowIn (newNode store .node) v ≡ 0
-zero-row store v = row-zero (newNode store .node) v (λ h. getD-replicate nodeWords (rowAt v) 0 0 (omega arith))
+  none : (i : ℕ) → countIn (new .node) ≤ i
+  none i = omega arith
 
-new-index : (store : List ℕ) → Indexed (newNode store .node)
-new-index store =
-    record {
-      few = none store 16;
-      channels = λ sends v i h. rw (zero-row store v, le-ltb i (countIn (newNode store .node)) (none store i)) (bit-of-zero (channelDigit sends i));
-      remotes = λ v i h. rw (zero-row store v, le-ltb i (countIn (newNode store .node)) (none store i)) (bit-of-zero (remoteDigit i));
-    }
+  -- its index lists none
+  zero-row : (v : ℕ) → rowIn (new .node) v ≡ 0
+  zero-row v =
+      row-zero (new .node) v
+      (λ h. getD-set-other (set (replicate nodeWords 0) clockAt c) quietAt (rowAt v) q 0 (λ e. omega arith)
+      ∙ getD-set-other (replicate nodeWords 0) clockAt (rowAt v) c 0 (λ e. omega arith)
+      ∙ getD-replicate nodeWords (rowAt v) 0 0 (omega arith))
 
--- nothing waits
-nothing : (store : List ℕ) → nextOut (newNode store .node) (newNode store .book) ≡ next.Nothing
-unfolding nextOut
-nothing store = refl
+  new-index : Indexed (new .node)
+  new-index =
+      record {
+        few = none 16;
+        channels = λ sends v i h. rw (zero-row v, le-ltb i (countIn (new .node)) (none i)) (bit-of-zero (channelDigit sends i));
+        remotes = λ v i h. rw (zero-row v, le-ltb i (countIn (new .node)) (none i)) (bit-of-zero (remoteDigit i));
+      }
 
-hand-same : (store buffer : List ℕ) (a : HandedOut) → kept (handAfter (lent (newNode store) buffer) a) ≡ newNode store
-unfolding handAfter outNode outBook
-hand-same store buffer (HandRefused w) = refl
-hand-same store buffer (Length n) = rw (nothing store)
+  -- nothing waits
+  nothing : nextOut (new .node) (new .book) ≡ next.Nothing
+  unfolding nextOut
+  nothing = refl
 
-tick-same : (store : List ℕ) → keptBare (newNode store) (tickAfter (bare (newNode store))) ≡ newNode store
-unfolding tickAfter tickBoth recoverAll tickEntries
-tick-same store = refl
+  hand-same : (buffer : List ℕ) (a : HandedOut) → kept (handAfter (lent new buffer) a) ≡ new
+  unfolding handAfter outNode outBook
+  hand-same buffer (HandRefused w) = refl
+  hand-same buffer (Length n) = rw nothing
 
-arrive-same : (store block f : List ℕ) → Refused (lent (newNode store) block) f ⊎ Taken (lent (newNode store) block) f → after (newNode store) (arrives block f) ≡ newNode store
+  arrive-same : (block f : List ℕ) → Refused (lent new block) f ⊎ Taken (lent new block) f → after new (arrives block f) ≡ new
+  unfolding after
+  arrive-same block f (inl r) = ap kept (r .after)
+  arrive-same block f (inr a) = absurd (let k = a .known in let z = none (a .entry) in omega arith)
+
+  -- a tick that passes moves the clock's words, and so does one that goes through the entries: there are none
+  still-new : (d : ℕ) → keptBare new (stillAfter d (bare new) .lent) ≡ newAt store d (q - 1)
+  still-new d = refl
+
+  scan-new : (d : ℕ) → keptBare new (scanAfter d (bare new) .lent) ≡ newAt store d 65534
+  unfolding scanAfter scanBoth recoverAll tickEntries
+  scan-new d = refl
+
+  tick-moves : c ≤ 65535 → keptBare new (tickAfter (bare new)) ≡ newAt store (later c 1) (pick (eqb q 0) 65534 (q - 1))
+  unfolding tickAfter tickBoth
+  tick-moves small =
+      let clock : clockIn (new .node) ≡ c = mod-eq-of-lt (let h : c < 65536 = omega arith in h) in
+      ap (λ (z : ℕ). keptBare new (pick (eqb q 0) (scanAfter (later z 1) (bare new)) (stillAfter (later z 1) (bare new)) .lent)) clock
+      ∙ sides (eqb q 0)
+    where
+      sides : (z : Bool)
+          → keptBare new (pick z (scanAfter (later c 1) (bare new)) (stillAfter (later c 1) (bare new)) .lent) ≡ newAt store (later c 1) (pick z 65534 (q - 1))
+      sides true = scan-new (later c 1)
+      sides false = still-new (later c 1)
+
+stays : (store : List ℕ) (c q : ℕ) → c ≤ 65535 → (k : Call) → after (newAt store c q) k ≡ newAfter store c q k
 unfolding after
-arrive-same store block f (inl r) = ap kept (r .after)
-arrive-same store block f (inr a) = absurd (let k = a .known in let z = none store (a .entry) in omega arith)
+stays store c q small (opens i) = ap (keptBare (newAt store c q)) (open-refused (bare (newAt store c q)) i (none store c q i))
+stays store c q small (closes i) = ap (keptBare (newAt store c q)) (close-refused (bare (newAt store c q)) i (none store c q i))
+stays store c q small (counts i) = refl
+stays store c q small (sends i p) = ap kept (send-refused (lent (newAt store c q) []) i p (none store c q i))
+stays store c q small (urges i p) = ap kept (urgent-refused (lent (newAt store c q) []) i p (none store c q i))
+stays store c q small (arrives block f) = arrive-same store c q block f (comes (lent (newAt store c q) block) (new-index store c q) f)
+stays store c q small (hands-out buffer) = hand-same store c q buffer (handAnswer (lent (newAt store c q) buffer))
+stays store c q small ticks = tick-moves store c q small
 
 pub new-stays : NewStays
-unfolding NewStays after
-new-stays store (opens i) = ap (keptBare (newNode store)) (open-refused (bare (newNode store)) i (none store i))
-new-stays store (closes i) = ap (keptBare (newNode store)) (close-refused (bare (newNode store)) i (none store i))
-new-stays store (counts i) = refl
-new-stays store (sends i p) = ap kept (send-refused (lent (newNode store) []) i p (none store i))
-new-stays store (urges i p) = ap kept (urgent-refused (lent (newNode store) []) i p (none store i))
-new-stays store (arrives block f) = arrive-same store block f (comes (lent (newNode store) block) (new-index store) f)
-new-stays store (hands-out buffer) = hand-same store buffer (handAnswer (lent (newNode store) buffer))
-new-stays store ticks = tick-same store
+new-stays = record { begins = λ store. refl; stays = stays; small = later-next }

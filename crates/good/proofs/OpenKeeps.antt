@@ -76,7 +76,7 @@ module _ (x : Lent) (i : ℕ) where
         let r = endOf (x .node) i .run in
         free-turn t (x .node) (x .book) l g i li
         (not-owed t (x .node) (x .book) l g i li (λ o. let z : _≡_ {A = ℕ} 0 1 = cc in omega arith))
-        (Enabled 0 false) (anew r) (omega arith) (anew-fits r (run-fits (x .node) i)) (anew-size r) b l′ v n
+        (Enabled 0 false) (anew r) (omega arith) (anew-fits r (run-fits (x .node) i)) (anew-size r) b l′ v n (λ runs. absurd (runs refl))
 
     -- one that sends or not
     enabled-kept : (k : Bool) → isSends (endOf (x .node) i .entry .kind) ≡ k → Kept t x (enabledAs x i (endOf (x .node) i) k) l i

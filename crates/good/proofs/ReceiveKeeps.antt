@@ -34,9 +34,10 @@ use Rattle.ends.specs.declared.EndPoint.{EndPoint}
 use Rattle.slots.specs.Slots.{cell, past, lengthIn}
 use Rattle.receiving.specs.Receiving.{acknowledged, resetAfter, resetNode, withWindow, putBook, taken, repeated, dataAfter}
 use Rattle.receiving.proofs.Taking.{dataAfter-new, dataAfter-other}
-use Rattle.good.specs.Good.{Lists, Filled, OpenReceiver, Entered, Owed, Good}
+use Rattle.timing.specs.Timing.{clockIn, quietIn}
+use Rattle.good.specs.Good.{Lists, Filled, OpenReceiver, Entered, Timely, Owed, Good}
 use Rattle.good.proofs.Known.{is-new, either, stated-as, entered-as, receiver-silent}
-use Rattle.good.proofs.Framing.{Within, within-same, within-set, Apart, apart-then, apart-saved, framed, apart-count, count-low, entry-low, cell-low, length-owner}
+use Rattle.good.proofs.Framing.{Within, within-same, within-set, Apart, apart-then, apart-saved, framed, apart-count, apart-timely, count-low, entry-low, cell-low, length-owner}
 use Rattle.good.proofs.Offsets.{cell-inj, cell-pass}
 use Rattle.good.proofs.Turns.{run-fits, turnedTo, end-saved, anew-fits, anew-size, ring-of, saved-acks, owed-other, owed-open, push-apart, push-end, drop-apart, drop-end, not-in, Kept}
 
@@ -60,7 +61,12 @@ module _ (t ws b : List ℕ) (l : Lists) (g : Good t ws b l) (i : ℕ) (li : i <
   receiver-turn vs a long same most acks r rf size b′ v e =
       framed i ws (saved vs i Open r) whole t b b′ l l g v li (rw (ring .0) most) (λ w m. owed w (acks w (subst (λ (ws : List ℕ). List·Memᴰ w ws) (ring .1) m)))
       (subst (Entered b′ l i) (sym now) e)
+      (subst (λ (z : EndPoint). Timely (clockIn (saved vs i Open r)) (quietIn (saved vs i Open r)) b′ i z (z .state)) (sym now) (λ j h. absurd (omega (arith, none))))
     where
+      -- a receiver hands out no data
+      none : r .handed ≡ 0
+      none = stated-as b′ l i (turnedTo (endOf ws i) Open r) e false k Open refl .receiving .handed
+
       whole : Apart i ws (saved vs i Open r)
       whole = apart-then i ws vs (saved vs i Open r) a (apart-saved i vs Open r)
 
@@ -292,7 +298,9 @@ module _ (t : List ℕ) (x : Lent) (l : Lists) (g : Good t (x .node) (x .book) l
         lists = l;
         good =
             framed i (x .node) (acknowledged (x .node) i s) apart-acked t (x .book) (x .book) l l g (within-same i (x .book) l (g .lines)) li
-            (push-ring (x .node) acks-ring (i * 256 + s) room .most) (λ m h. owed m (acks-owed m h)) (subst (Entered (x .book) l i) (sym end-acked) (g .entered i li));
+            (push-ring (x .node) acks-ring (i * 256 + s) room .most) (λ m h. owed m (acks-owed m h)) (subst (Entered (x .book) l i) (sym end-acked) (g .entered i li))
+            (subst (λ (z : EndPoint). Timely (clockIn (acknowledged (x .node) i s)) (quietIn (acknowledged (x .node) i s)) (x .book) i z (z .state)) (sym end-acked)
+            (apart-timely i (x .node) (acknowledged (x .node) i s) apart-acked (x .book) i (endOf (x .node) i) (endOf (x .node) i .state) (g .timely i li)));
         apart = apart-acked;
         within = within-same i (x .book) l (g .lines);
       }

@@ -32,13 +32,15 @@ use Rattle.ends.specs.declared.Run.{Run}
 use Rattle.ends.specs.declared.EndPoint.{EndPoint}
 use Rattle.slots.specs.Slots.{slotFor, cell, spot, past, lengthIn, timerIn}
 use Rattle.sending.specs.Sending.{sendTests, sendAnswer, nextNumber, sentRun, sentBook, sent, sendAfter}
-use Rattle.good.specs.Good.{Lists, Lines, Ranged, mine, idAt, ids, Share, Resends, Filled, Sending, OpenSender, Entered, Good}
+use Rattle.timing.specs.Timing.{clockIn, quietIn}
+use Rattle.good.specs.Good.{Lists, Lines, Ranged, mine, idAt, ids, Share, Resends, Filled, Sending, OpenSender, Entered, Timely, Good}
 use Rattle.good.proofs.Members.{mine-all, mine-append, mine-own}
 use Rattle.good.proofs.Lined.{added, append-cells}
 use Rattle.good.proofs.Known.{is-open, stated-as, entered-as}
-use Rattle.good.proofs.Framing.{Within, within-then, within-append, within-set, entry-low, cell-low, length-owner, retries-owner, apart-saved}
+use Rattle.good.proofs.Framing.{Within, within-then, within-append, within-set, entry-low, cell-low, length-owner, retries-owner, timely-as, timely-fewer}
 use Rattle.good.proofs.Offsets.{id-high, id-owner, data-ranged, cell-inj, id-inj, ids-more, ids-in}
-use Rattle.good.proofs.Turns.{run-fits, state-fits, turnedTo, end-saved, sender-turn, Kept, kept-same}
+use Rattle.good.proofs.Turns.{run-fits, turnedTo, sender-put, Kept, kept-same}
+use Rattle.good.proofs.Sent.{sent-apart, sent-end, sent-acks}
 use Rattle.good.proofs.Senders.{resends-kept}
 
 -- ---- what waits
@@ -307,13 +309,33 @@ module _ (t : List ℕ) (x : Lent) (l : Lists) (i : ℕ) (p : List ℕ) (g : Goo
   within : Within i (x .book) (sent x i e p .book) l (added l datas (idAt i (e .run .window) (e .run .taken)))
   within = sent-within (x .book) l (g .lines) i low (e .run .window) window (e .run .taken) (length p) none
 
+  few : e .run .taken < 255
+  few = let s = size-le (e .run .window .size) (window .sized) in let r = d .room in omega arith
+
+  low-count : e .run .accepted .0 < 4294967295
+  low-count = let f = run-fits (x .node) i .accepted in let c = d .counted in omega arith
+
+  put-end : endOf (sent x i e p .node) i ≡ turnedTo e (e .state) (sentRun (e .run))
+  put-end = sent-end (x .node) i (g .long) low few low-count
+
+  soon : Timely (clockIn (x .node)) (quietIn (sent x i e p .node)) (sent x i e p .book) i (turnedTo e (e .state) (sentRun (e .run))) (e .state)
+  unfolding sentRun
+  soon =
+      let a = sent-apart (x .node) i (g .long) low few low-count in
+      timely-as (clockIn (x .node)) (quietIn (sent x i e p .node)) (x .book) (sent x i e p .book) i e (turnedTo e (e .state) (sentRun (e .run))) refl refl
+      (timer (x .book) l (g .lines) i low e window was (length p) (d .some) (d .most) (d .room) none) (e .state)
+      (timely-fewer (clockIn (x .node)) (quietIn (x .node)) (quietIn (sent x i e p .node)) (x .book) i e (e .state) (a .quiet) (g .timely i (d .known)))
+
   sent-kept : Kept t x (sent x i e p) l i
   sent-kept =
       record {
         lists = added l datas (idAt i (e .run .window) (e .run .taken));
-        good = sender-turn t (x .node) (x .book) l g i (d .known) (d .sends) (e .state) (sentRun (e .run)) (state-fits (x .node) i) fits same-size
-            (sent x i e p .book) (added l datas (idAt i (e .run .window) (e .run .taken))) within now;
-        apart = apart-saved i (x .node) (e .state) (sentRun (e .run));
+        good =
+            let a = sent-acks (x .node) i (g .long) low few low-count in
+            sender-put t (x .node) (x .book) l g i (d .known) (d .sends) (sent x i e p .node) (sent-apart (x .node) i (g .long) low few low-count) (a .0) (a .1)
+            (sent x i e p .book) (added l datas (idAt i (e .run .window) (e .run .taken))) within
+            (turnedTo e (e .state) (sentRun (e .run))) put-end now soon;
+        apart = sent-apart (x .node) i (g .long) low few low-count;
         within = within;
       }
 
@@ -329,7 +351,7 @@ module _ (t : List ℕ) (x : Lent) (l : Lists) (i : ℕ) (p : List ℕ) (g : Goo
         room = d .room;
         need = d .stored;
         is = refl;
-        end = end-saved (x .node) i (e .state) (sentRun (e .run)) (g .long) low (state-fits (x .node) i) fits same-size
+        end = put-end
             ∙ ap (λ (s : State). turnedTo e s (sentRun (e .run))) (d .opened);
         filled = sent-here (x .book) l (g .lines) i low (e .run .window) window (e .run .taken) (length p) none;
         others = others (x .book) l (g .lines) i low e window was (length p) (d .some) (d .most) (d .room) none;

@@ -28,7 +28,7 @@ use Rattle.ends.specs.declared.State.the-variants.{Enabled}
 use Rattle.ends.specs.declared.Run.{Run}
 use Rattle.ends.specs.declared.EndPoint.{EndPoint}
 use Rattle.slots.specs.Slots.{cell, past, lengthIn, timerIn}
-use Rattle.good.specs.Good.{Lists, Lines, mine, Resends, Silent, Filled, Sending, running, Stated, Entered, Good}
+use Rattle.good.specs.Good.{Lists, Lines, mine, Resends, Silent, Filled, Sending, running, Stated, Entered, Outlasts, Good}
 use Rattle.good.proofs.Members.{mem-out, without, without-out, mine-in, mine-append, mine-own, mine-without}
 use Rattle.good.proofs.Lined.{added, less, added-here, added-there, append-cells}
 use Rattle.good.proofs.Known.{is-sends, stated-as, entered-as, silent-out}
@@ -43,6 +43,15 @@ pub record Timed (b b′ : List ℕ) (i : ℕ) (w : Window) (k v : ℕ) : Type 0
   pub lengths : (g : ℕ) → g < 2048 → lengthIn b′ g ≡ lengthIn b g
   pub here : timerIn b′ (cell i w (past w k)) ≡ v
   pub there : (j : ℕ) → j < w .size → j ≢ k → timerIn b′ (cell i w (past w j)) ≡ timerIn b (cell i w (past w j))
+
+-- the first n numbers' timers outlast q ticks then, where that one's does and the others' did
+pub timed-outlasts : (b b′ : List ℕ) (i : ℕ) (w : Window) (k v : ℕ) → Timed b b′ i w k v → (c q : ℕ) → Outlasts c q v → (n : ℕ) → n ≤ w .size
+    → ((j : ℕ) → j < n → j ≢ k → Outlasts c q (timerIn b (cell i w (past w j)))) → (j : ℕ) → j < n → Outlasts c q (timerIn b′ (cell i w (past w j)))
+timed-outlasts b b′ i w k v T c q o n few h j m = sides (ℕ-discrete j k)
+  where
+    sides : Dec (j ≡ k) → Outlasts c q (timerIn b′ (cell i w (past w j)))
+    sides (yes e) = subst (λ (z : ℕ). Outlasts c q (timerIn b′ (cell i w (past w z)))) (sym e) (subst (Outlasts c q) (sym (T .here)) o)
+    sides (no d) = subst (Outlasts c q) (sym (T .there j (omega arith) d)) (h j m d)
 
 module _ (i : ℕ) (low : i < 16) (w : Window) (g : GoodWindow w) (k : ℕ) (hk : k < w .size) (v : ℕ) where
   pub timed-set : (b : List ℕ) → length b ≡ 10368 → Timed b (set b (timerAt (cell i w (past w k))) v) i w k v

@@ -1,5 +1,5 @@
 -- Setup gives a good node: every entry Closed as the table has it, nothing waits. Assumes that the table's elements are bytes.
-use Prim.Native.Nat.{ℕ, zero, suc, _+_, _≤_, _<_}
+use Prim.Native.Nat.{ℕ, zero, suc, _+_, _<_}
 use mathlib.Core.Path.{_≡_, refl, sym, ap, subst, _∙_}
 use mathlib.Core.Logic.{_≢_}
 use mathlib.Core.Bool.{true, not}
@@ -31,7 +31,8 @@ use Rattle.ends.specs.declared.EndPoint.{EndPoint}
 use Rattle.lookup.specs.Lookup.{rowIn, Indexed}
 use Rattle.lookup.proofs.Rows.{row-zero}
 use Rattle.opening.specs.Setup.{setupAnswer, headed, entered, tabled, emptied, setupAfter}
-use Rattle.good.specs.Good.{Lines, Entered, Tabled, Good}
+use Rattle.timing.specs.Timing.{clockIn, quietIn}
+use Rattle.good.specs.Good.{Lines, Entered, Timely, Tabled, Good}
 use Rattle.good.proofs.Entering.{closedAt, tabled-long, tabled-head, tabled-at}
 use Rattle.good.proofs.Indexing.{tabled-index}
 
@@ -39,7 +40,7 @@ use Rattle.good.proofs.Indexing.{tabled-index}
 
 module _ (t : List ℕ) (g : goodTable t ≡ true) (bytes : (k : ℕ) → getD t k 0 < 256) where
   abbrev head : List ℕ
-  head = countOf t ∷ ownOf t .0 ∷ protocolOf t ∷ storeOf t ∷ []
+  head = countOf t ∷ ownOf t .0 ∷ protocolOf t ∷ storeOf t ∷ 0 ∷ 0 ∷ 0 ∷ 65535 ∷ []
 
   abbrev blank : List ℕ
   blank = headed t (replicate nodeWords 0)
@@ -50,16 +51,12 @@ module _ (t : List ℕ) (g : goodTable t ≡ true) (bytes : (k : ℕ) → getD t
   blank-long : length blank ≡ nodeWords
   blank-long = length-sets (replicate nodeWords 0) 0 head ∙ length-replicate {A = ℕ} nodeWords 0
 
-  -- the head's four words, then zeros
-  node-head : (k : ℕ) → k < 4 → getD node k 0 ≡ getD head k 0
+  -- the head's eight words
+  node-head : (k : ℕ) → k < 8 → getD node k 0 ≡ getD head k 0
   node-head k h =
       let z : 0 + k ≡ k = omega arith in
       tabled-head t g bytes blank blank-long (countOf t) (omega arith) k (omega arith)
       ∙ (rw z at (getD-sets-at head (replicate nodeWords 0) 0 k 0 h (omega (arith, length-replicate {A = ℕ} nodeWords 0))))
-
-  node-zero : (k : ℕ) → 4 ≤ k → k < 64 → getD node k 0 ≡ 0
-  node-zero k l h =
-      tabled-head t g bytes blank blank-long (countOf t) (omega arith) k h ∙ getD-sets-after head (replicate nodeWords 0) 0 k 0 (omega arith) ∙ getD-replicate nodeWords k 0 0 (omega arith)
 
   node-end : (i : ℕ) → i < countOf t → endOf node i ≡ closedAt t i
   node-end i h = tabled-at t g bytes blank blank-long (countOf t) (omega arith) i h
@@ -93,7 +90,7 @@ module _ (t : List ℕ) (g : goodTable t ≡ true) (bytes : (k : ℕ) → getD t
       }
 
   waits-none : waitingOf node ≡ 0
-  waits-none = rw (node-zero 5 (omega arith) (omega arith))
+  waits-none = rw (node-head 5 (omega arith))
 
   acks-none : acksIn node ≡ []
   unfolding from
@@ -177,6 +174,9 @@ set-up t b g bytes long =
       known = λ q h x m. absurd (List·Memᴰ·not-nil m);
       entered = λ i h. let l : i < countOf t = rw (node-count t g bytes) at h in
           subst (Entered (emptied b) (λ q. []) i) (sym (node-end t g bytes i l)) (closed-entered t (emptied b) g i l);
+      timely = λ i h. let l : i < countOf t = rw (node-count t g bytes) at h in
+          let ws = tabled t (countOf t) (headed t (replicate nodeWords 0)) in
+          subst (λ (e : EndPoint). Timely (clockIn ws) (quietIn ws) (emptied b) i e (e .state)) (sym (node-end t g bytes i l)) tt;
     }
 
 passed-table : (x : Lent) (t : List ℕ) → setupAnswer x t ≡ Passed → goodTable t ≡ true

@@ -1,13 +1,13 @@
 -- A tick's turn of one entry keeps a good node good, and what it makes of that entry's end point. No other entry's business alters.
 -- Assumes nothing.
-use Prim.Native.Nat.{ℕ, _-_, _<_}
+use Prim.Native.Nat.{ℕ, _-_, _≤_, _<_}
 use mathlib.Core.Path.{_≡_, refl, sym, ap, subst}
 use mathlib.Core.Logic.{_≢_}
 use mathlib.Core.Bool.{Bool, true, false, true≢false}
 use mathlib.Core.List.{List, [], _∷_}
 use native.Mathlib.Omega.{arith}
 use lib.Dec.{eqb}
-use borrow.Author.Tests.{eq-eqb, ne-eqb, eqb-true, eqb-false}
+use borrow.Author.Tests.{eq-eqb, eqb-true}
 use Rattle.units.specs.Refusals.{pick}
 use Rattle.memory.specs.Layout.{resets, resetId, lengthAt}
 use Rattle.waiting.specs.Queues.{appended}
@@ -22,15 +22,17 @@ use Rattle.ends.specs.declared.State.{State}
 use Rattle.ends.specs.declared.State.the-variants.{Closed, Enabled, Open, Failing}
 use Rattle.ends.specs.declared.Run.{Run}
 use Rattle.ends.specs.declared.EndPoint.{EndPoint}
-use Rattle.slots.specs.Slots.{lengthIn}
-use Rattle.ticking.specs.Ticking.{tickSlots, ticked, both, tickEnabled, tickOpen, tickFailing, tickState, tickEntry}
-use Rattle.good.specs.Good.{Lists, Silent, Sending, running, Anew, Stated, Entered, Good}
+use Rattle.slots.specs.Slots.{cell, past, lengthIn, timerIn}
+use Rattle.timing.specs.Timing.{clockIn, quietIn, leftOf, soonest}
+use Rattle.ticking.specs.Ticking.{Ticked, Scanned, tickSlots, ticked, both, tickEnabled, tickOpen, tickFailing, tickState, tickEntry}
+use Rattle.good.specs.Good.{Lists, Silent, Sending, running, Anew, Stated, Entered, Outlasts, Timely, Good}
 use Rattle.good.proofs.Lined.{added}
 use Rattle.good.proofs.Known.{entered-as}
-use Rattle.good.proofs.Framing.{Within, within-same, apart-same, apart-saved, entry-low}
-use Rattle.good.proofs.Turns.{run-fits, state-fits, turnedTo, end-saved, gone-fits, book-turn, sender-turn, Kept, kept-same}
+use Rattle.good.proofs.Framing.{Within, apart-same, apart-saved, entry-low}
+use Rattle.good.proofs.Turns.{run-fits, turnedTo, end-saved, gone-fits, book-turn, sender-turn, Kept, kept-same}
 use Rattle.good.proofs.Senders.{running-le, urgent-sending, reset-within, reset-cells, reset-silent}
 use Rattle.good.proofs.TickSlots.{Slots, slots-all, stays-failing}
+use Rattle.good.proofs.TickTimers.{still-outlasts, runs-bound, least-falls, min-left, min-right}
 
 -- ---- what a tick's first pass makes of an end point
 
@@ -43,13 +45,27 @@ pub data Ticks (e e′ : EndPoint) : Type 0 where
 
 -- ---- an entry's turn
 
--- a good node stays good, only entry i's business altered; what became of its end point; every payload's length stays
-pub record EntryTicked (t : List ℕ) (x x′ : Lent) (l : Lists) (i : ℕ) : Type 0 where
-  pub kept : Kept t x x′ l i
-  pub ticks : Ticks (endOf (x .node) i) (endOf (x′ .node) i)
-  pub lengths : (c : ℕ) → c < 2048 → lengthIn (x′ .book) c ≡ lengthIn (x .book) c
-  pub store : x′ .store ≡ x .store
-  pub out : x′ .out ≡ x .out
+-- no timer that runs out at tick d does so, after tick c, before m more
+abbrev pub Bound : ℕ → ℕ → ℕ → Type 0
+Bound c m d = d ≢ 0 → m ≤ leftOf c d
+
+-- none of entry i's
+abbrev pub Bounds : ℕ → ℕ → List ℕ → ℕ → EndPoint → State → Type 0
+Bounds c m b i e Closed = Unit {0}
+Bounds c m b i e (Enabled d sent) = Bound c m d
+Bounds c m b i e Open = (k : ℕ) → k < e .run .handed → Bound c m (timerIn b (cell i (e .run .window) (past (e .run .window) k)))
+Bounds c m b i e (Failing n) = (k : ℕ) → k < e .run .handed → Bound c m (timerIn b (cell i (e .run .window) (past (e .run .window) k)))
+
+-- a good node stays good, only entry i's business altered; what became of its end point; every payload's length stays; the least that is left
+-- takes this entry's timers in
+pub record EntryTicked (t : List ℕ) (c : ℕ) (y y′ : Scanned) (l : Lists) (i : ℕ) : Type 0 where
+  pub kept : Kept t (y .lent) (y′ .lent) l i
+  pub ticks : Ticks (endOf (y .lent .node) i) (endOf (y′ .lent .node) i)
+  pub lengths : (g : ℕ) → g < 2048 → lengthIn (y′ .lent .book) g ≡ lengthIn (y .lent .book) g
+  pub store : y′ .lent .store ≡ y .lent .store
+  pub out : y′ .lent .out ≡ y .lent .out
+  pub falls : y′ .least ≤ y .least
+  pub heeds : Bounds c (y′ .least) (y′ .lent .book) i (endOf (y′ .lent .node) i) (endOf (y′ .lent .node) i .state)
 
 gone-size : (r : Run) → urgentGone r .window .size ≡ r .window .size
 unfolding urgentGone
@@ -69,9 +85,13 @@ failed-entered b l i e n g k s q c =
       timers = c;
     })
 
-module _ (t : List ℕ) (x : Lent) (l : Lists) (g : Good t (x .node) (x .book) l) (i : ℕ) (li : i < countIn (x .node)) where
+module _ (t : List ℕ) (c : ℕ) (y : Scanned) (l : Lists) (g : Good t (y .lent .node) (y .lent .book) l) (i : ℕ) (li : i < countIn (y .lent .node))
+    (idle : quietIn (y .lent .node) ≡ 0) where
   low : i < 16
-  low = entry-low t (x .node) (x .book) l g i li
+  low = entry-low t (y .lent .node) (y .lent .book) l g i li
+
+  abbrev x : Lent
+  x = y .lent
 
   abbrev e : EndPoint
   e = endOf (x .node) i
@@ -79,78 +99,101 @@ module _ (t : List ℕ) (x : Lent) (l : Lists) (g : Good t (x .node) (x .book) l
   window : GoodWindow (e .run .window)
   window = g .entered i li .window
 
-  stands : Ticks e e → EntryTicked t x x l i
-  stands h = record { kept = kept-same t x l i g; ticks = h; lengths = λ c p. refl; store = refl; out = refl }
+  -- only the least alters
+  stands : (m : ℕ) → m ≤ y .least → (s : State) → e .state ≡ s → Bounds c m (x .book) i e s → Ticks e e → EntryTicked t c y (record { lent = x; least = m }) l i
+  stands m f s q b h =
+      record {
+        kept = kept-same t x l i g;
+        ticks = h;
+        lengths = λ d p. refl;
+        store = refl;
+        out = refl;
+        falls = f;
+        heeds = subst (Bounds c m (x .book) i e) (sym q) b;
+      }
 
   -- a sender is saved in another state
   saves : isSends (e .entry .kind) ≡ true → (s : State) (r : Run) → StateFits s → RunFits r → r .window .size ≡ e .run .window .size
-      → (b′ : List ℕ) (l′ : Lists) → Within i (x .book) b′ l l′ → ((c : ℕ) → c < 2048 → lengthIn b′ c ≡ lengthIn (x .book) c)
-      → Entered b′ l′ i (turnedTo e s r) → Ticks e (turnedTo e s r) → EntryTicked t x (both x (saved (x .node) i s r) b′) l i
-  saves k s r sf rf size b′ l′ v c n h =
+      → (b′ : List ℕ) (l′ : Lists) → Within i (x .book) b′ l l′ → ((d : ℕ) → d < 2048 → lengthIn b′ d ≡ lengthIn (x .book) d)
+      → Entered b′ l′ i (turnedTo e s r) → Ticks e (turnedTo e s r) → (m : ℕ) → m ≤ y .least → Bounds c m b′ i (turnedTo e s r) s
+      → Timely (clockIn (x .node)) (quietIn (x .node)) b′ i (turnedTo e s r) s
+      → EntryTicked t c y (record { lent = both x (saved (x .node) i s r) b′; least = m }) l i
+  saves k s r sf rf size b′ l′ v d n h m f u o =
+      let q = end-saved (x .node) i s r (g .long) low sf rf size in
       record {
         kept =
             record {
               lists = l′;
-              good = sender-turn t (x .node) (x .book) l g i li k s r sf rf size b′ l′ v n;
+              good = sender-turn t (x .node) (x .book) l g i li k s r sf rf size b′ l′ v n o;
               apart = apart-saved i (x .node) s r;
               within = v;
             };
-        ticks = subst (Ticks e) (sym (end-saved (x .node) i s r (g .long) low sf rf size)) h;
-        lengths = c;
+        ticks = subst (Ticks e) (sym q) h;
+        lengths = d;
         store = refl;
         out = refl;
+        falls = f;
+        heeds = subst (λ (z : EndPoint). Bounds c m b′ i z (z .state)) (sym q) u;
       }
 
   -- at Enabled
   module _ (k : isSends (e .entry .kind) ≡ true) (n : ℕ) (sent : Bool) (s : e .state ≡ Enabled n sent) where
-    fits : n < 65536
-    fits = subst StateFits s (state-fits (x .node) i)
+    itself : Ticks e e
+    itself = enabled n n sent s (ap (λ (z : State). turnedTo e z (e .run)) s)
 
-    counts : (b′ : List ℕ) (l′ : Lists) → Within i (x .book) b′ l l′ → ((c : ℕ) → c < 2048 → lengthIn b′ c ≡ lengthIn (x .book) c)
-        → Anew l′ i (turnedTo e (Enabled (n - 1) sent) (e .run)) (pick (eqb (n - 1) 0) (resetId i ∷ []) [])
-        → EntryTicked t x (both x (saved (x .node) i (Enabled (n - 1) sent) (e .run)) b′) l i
-    counts b′ l′ v c a =
-        saves k (Enabled (n - 1) sent) (e .run) (omega (arith, fits)) (run-fits (x .node) i) refl b′ l′ v c
-        (entered-as b′ l′ i (turnedTo e (Enabled (n - 1) sent) (e .run)) window true k (Enabled (n - 1) sent) refl a)
-        (enabled n (n - 1) sent s refl)
-
-    waits : (u : Bool) → eqb n 1 ≡ u → n ≢ 0 → Anew l i e []
-        → EntryTicked t x (both x (saved (x .node) i (Enabled (n - 1) sent) (e .run)) (pick u (appended (x .book) resets (resetId i)) (x .book))) l i
-    waits true u z a =
-        let q : n - 1 ≡ 0 = omega (arith, eqb-true n 1 u) in
-        counts (appended (x .book) resets (resetId i)) (added l resets (resetId i))
+    waits : Anew l i e [] → EntryTicked t c y (record { lent = both x (saved (x .node) i (Enabled 0 sent) (e .run)) (appended (x .book) resets (resetId i)); least = y .least }) l i
+    waits a =
+        saves k (Enabled 0 sent) (e .run) (omega arith) (run-fits (x .node) i) refl (appended (x .book) resets (resetId i)) (added l resets (resetId i))
         (reset-within (x .book) l (g .lines) i low (a .silent))
-        (λ c p. reset-cells (x .book) l (g .lines) i low (a .silent) (lengthAt c) (omega arith))
-        (record { fresh = a .fresh; silent = rw (eq-eqb (n - 1) 0 q) (reset-silent (x .book) l (g .lines) i low (a .silent)) })
-    waits false u z a =
-        counts (x .book) l (within-same i (x .book) l (g .lines)) (λ c p. refl)
-        (record { fresh = a .fresh; silent = rw (ne-eqb (n - 1) 0 (λ q. eqb-false n 1 u (omega arith))) (a .silent) })
+        (λ d p. reset-cells (x .book) l (g .lines) i low (a .silent) (lengthAt d) (omega arith))
+        (entered-as (appended (x .book) resets (resetId i)) (added l resets (resetId i)) i (turnedTo e (Enabled 0 sent) (e .run)) window true k (Enabled 0 sent) refl
+        (record { fresh = a .fresh; silent = reset-silent (x .book) l (g .lines) i low (a .silent) }))
+        (enabled n 0 sent s refl) (y .least) (omega arith) (λ z. absurd (z refl)) (λ z. absurd (z refl))
 
-    enabled-turn : Anew l i e (pick (eqb n 0) (resetId i ∷ []) []) → EntryTicked t x (tickEnabled x i e n sent) l i
-    enabled-turn a = sides (eqb n 0) refl a
+    enabled-turn : Anew l i e (pick (eqb n 0) (resetId i ∷ []) []) → EntryTicked t c y (tickEnabled c y i e n sent) l i
+    enabled-turn a = sides (eqb n 0) (eqb n c) refl a
       where
-        sides : (z : Bool) → eqb n 0 ≡ z → Anew l i e (pick z (resetId i ∷ []) [])
-            → EntryTicked t x
-            (pick z x (both x (saved (x .node) i (Enabled (n - 1) sent) (e .run)) (pick (eqb n 1) (appended (x .book) resets (resetId i)) (x .book)))) l i
-        sides true z a = stands (enabled n n sent s (ap (λ (y : State). turnedTo e y (e .run)) s))
-        sides false z a = waits (eqb n 1) refl (eqb-false n 0 z) a
+        sides : (z u : Bool) → eqb n 0 ≡ z → Anew l i e (pick z (resetId i ∷ []) [])
+            → EntryTicked t c y
+            (pick z y (pick u (record { lent = both x (saved (x .node) i (Enabled 0 sent) (e .run)) (appended (x .book) resets (resetId i)); least = y .least })
+            (record { lent = x; least = soonest (y .least) c n }))) l i
+        sides true u z a = stands (y .least) (omega arith) (Enabled n sent) s (λ q. absurd (q (eqb-true n 0 z))) itself
+        sides false true z a = waits a
+        sides false false z a = stands (soonest (y .least) c n) (min-left (y .least) (leftOf c n)) (Enabled n sent) s (λ q. min-right (y .least) (leftOf c n)) itself
 
   -- a count of timers fits its word
-  count-fits : (b : List ℕ) (c : ℕ) → c ≡ running b i (e .run .window) (e .run .handed) → c < 65536
-  count-fits b c q = omega (arith, running-le b i (e .run .window) (e .run .handed), run-fits (x .node) i .handed)
+  count-fits : (b : List ℕ) (d : ℕ) → d ≡ running b i (e .run .window) (e .run .handed) → d < 65536
+  count-fits b d q = omega (arith, running-le b i (e .run .window) (e .run .handed), run-fits (x .node) i .handed)
+
+  -- what its numbers' turns leave of the least
+  abbrev Runs-on : Ticked → Type 0
+  Runs-on k = (j : ℕ) → j < e .run .handed → Bound c (k .least) (timerIn (k .book) (cell i (e .run .window) (past (e .run .window) j)))
+
+  gone-bounds : (b′ : List ℕ) (d m : ℕ) → Runs-on (record { book = b′; failing = true; running = d; least = m }) → Bounds c m b′ i (turnedTo e (Failing d) (urgentGone (e .run))) (Failing d)
+  unfolding urgentGone
+  gone-bounds b′ d m u = u
+
+  -- and of the ticks that may pass, which are none
+  abbrev Lasts-on : List ℕ → Type 0
+  Lasts-on b′ = (j : ℕ) → j < e .run .handed → Outlasts (clockIn (x .node)) (quietIn (x .node)) (timerIn b′ (cell i (e .run .window) (past (e .run .window) j)))
+
+  gone-timely : (b′ : List ℕ) (d : ℕ) → Lasts-on b′ → Timely (clockIn (x .node)) (quietIn (x .node)) b′ i (turnedTo e (Failing d) (urgentGone (e .run))) (Failing d)
+  unfolding urgentGone
+  gone-timely b′ d o = (o, λ z. idle)
 
   -- at Open
-  open-turn : isSends (e .entry .kind) ≡ true → e .state ≡ Open → (b′ : List ℕ) (f : Bool) (c : ℕ)
-      → Slots i low e window (x .book) l (e .run .handed) (record { book = b′; failing = f; running = c })
-      → EntryTicked t x (tickOpen x i e (record { book = b′; failing = f; running = c })) l i
-  open-turn k s b′ false c p =
+  open-turn : isSends (e .entry .kind) ≡ true → e .state ≡ Open → (b′ : List ℕ) (f : Bool) (d m : ℕ)
+      → Slots i low e window (x .book) l (e .run .handed) (record { book = b′; failing = f; running = d; least = m })
+      → m ≤ y .least → Runs-on (record { book = b′; failing = f; running = d; least = m }) → Lasts-on b′
+      → EntryTicked t c y (tickOpen y i e (record { book = b′; failing = f; running = d; least = m })) l i
+  open-turn k s b′ false d m p h u o =
       record {
         kept =
             record {
               lists = p .lists;
               good =
                   book-turn t (x .node) (x .book) l g i li b′ (p .lists) (p .within)
-                  (entered-as b′ (p .lists) i e window true k Open s (p .lives));
+                  (entered-as b′ (p .lists) i e window true k Open s (p .lives)) (subst (Timely (clockIn (x .node)) (quietIn (x .node)) b′ i e) (sym s) o);
               apart = apart-same i (x .node);
               within = p .within;
             };
@@ -158,45 +201,63 @@ module _ (t : List ℕ) (x : Lent) (l : Lists) (g : Good t (x .node) (x .book) l
         lengths = p .lengths;
         store = refl;
         out = refl;
+        falls = h;
+        heeds = subst (Bounds c m b′ i e) (sym s) u;
       }
-  open-turn k s b′ true c p =
-      saves k (Failing c) (urgentGone (e .run)) (count-fits b′ c (p .count)) (gone-fits (e .run) (run-fits (x .node) i)) (gone-size (e .run))
+  open-turn k s b′ true d m p h u o =
+      saves k (Failing d) (urgentGone (e .run)) (count-fits b′ d (p .count)) (gone-fits (e .run) (run-fits (x .node) i)) (gone-size (e .run))
       b′ (p .lists) (p .within) (p .lengths)
-      (failed-entered b′ (p .lists) i e c window k (p .lives .0) (p .lives .1) (p .count))
-      (failed c s refl)
+      (failed-entered b′ (p .lists) i e d window k (p .lives .0) (p .lives .1) (p .count))
+      (failed d s refl) m h (gone-bounds b′ d m u) (gone-timely b′ d o)
 
   -- at Failing
-  failing-turn : isSends (e .entry .kind) ≡ true → (n : ℕ) → e .state ≡ Failing n → e .run .urgent ≡ 0 → (b′ : List ℕ) (f : Bool) (c : ℕ) → f ≡ true
-      → Slots i low e window (x .book) l (e .run .handed) (record { book = b′; failing = f; running = c })
-      → EntryTicked t x (tickFailing x i e (record { book = b′; failing = f; running = c })) l i
-  failing-turn k n s u b′ false c q p = absurd (true≢false (sym q))
-  failing-turn k n s u b′ true c q p =
-      saves k (Failing c) (e .run) (count-fits b′ c (p .count)) (run-fits (x .node) i) refl b′ (p .lists) (p .within) (p .lengths)
-      (entered-as b′ (p .lists) i (turnedTo e (Failing c) (e .run)) window true k (Failing c) refl
+  failing-turn : isSends (e .entry .kind) ≡ true → (n : ℕ) → e .state ≡ Failing n → e .run .urgent ≡ 0 → (b′ : List ℕ) (f : Bool) (d m : ℕ) → f ≡ true
+      → Slots i low e window (x .book) l (e .run .handed) (record { book = b′; failing = f; running = d; least = m })
+      → m ≤ y .least → Runs-on (record { book = b′; failing = f; running = d; least = m }) → Lasts-on b′
+      → EntryTicked t c y (tickFailing y i e (record { book = b′; failing = f; running = d; least = m })) l i
+  failing-turn k n s u b′ false d m q p h v o = absurd (true≢false (sym q))
+  failing-turn k n s u b′ true d m q p h v o =
+      saves k (Failing d) (e .run) (count-fits b′ d (p .count)) (run-fits (x .node) i) refl b′ (p .lists) (p .within) (p .lengths)
+      (entered-as b′ (p .lists) i (turnedTo e (Failing d) (e .run)) window true k (Failing d) refl
       (record { sending = p .lives .0; urgent = u; silent = p .lives .1; timers = p .count }))
-      (failing n c s refl)
+      (failing n d s refl) m h v (o, λ z. idle)
 
   -- a receiver has no timers
-  receiver-turn : e .run .handed ≡ 0 → x ≡ tickOpen x i e (ticked i e false (x .book))
+  receiver-turn : e .run .handed ≡ 0 → record { lent = x; least = y .least } ≡ tickOpen y i e (ticked c i e false (x .book) (y .least))
   unfolding tickSlots
   receiver-turn z = rw z
 
-  by-state : (k : Bool) → isSends (e .entry .kind) ≡ k → (s : State) → e .state ≡ s → Stated (x .book) l i e k s → EntryTicked t x (tickState x i e s) l i
+  was : e .state ≡ Open → Timely (clockIn (x .node)) (quietIn (x .node)) (x .book) i e Open
+  was s = subst (Timely (clockIn (x .node)) (quietIn (x .node)) (x .book) i e) s (g .timely i li)
+
+  failing-was : (n : ℕ) → e .state ≡ Failing n → Timely (clockIn (x .node)) (quietIn (x .node)) (x .book) i e (Failing n)
+  failing-was n s = subst (Timely (clockIn (x .node)) (quietIn (x .node)) (x .book) i e) s (g .timely i li)
+
+  by-state : (k : Bool) → isSends (e .entry .kind) ≡ k → (s : State) → e .state ≡ s → Stated (x .book) l i e k s → EntryTicked t c y (tickState c y i e s) l i
   unfolding tickState
-  by-state k ke Closed s h = stands (closed s refl)
+  by-state k ke Closed s h = stands (y .least) (omega arith) Closed s tt (closed s refl)
   by-state true ke (Enabled n sent) s h = enabled-turn ke n sent s h
   by-state false ke (Enabled n sent) s h =
-      rw (eq-eqb n 0 (h .1)) (stands (enabled n n sent s (ap (λ (y : State). turnedTo e y (e .run)) s)))
+      rw (eq-eqb n 0 (h .1)) (stands (y .least) (omega arith) (Enabled n sent) s (λ q. absurd (q (h .1))) (enabled n n sent s (ap (λ (z : State). turnedTo e z (e .run)) s)))
   by-state true ke Open s h =
-      let k = ticked i e false (x .book) in
-      open-turn ke s (k .book) (k .failing) (k .running) (slots-all i low e window (x .book) l (g .lines) false h)
-  by-state false ke Open s h = subst (λ (y : Lent). EntryTicked t x y l i) (receiver-turn (h .receiving .handed)) (stands (opened s refl))
+      let k = ticked c i e false (x .book) (y .least) in
+      let most : e .run .handed ≤ e .run .window .size = omega (arith, h .sending .handed, h .sending .taken) in
+      open-turn ke s (k .book) (k .failing) (k .running) (k .least) (slots-all i low e window c (x .book) l (g .lines) false (y .least) h)
+      (least-falls i low e window c (x .book) l (g .lines) false (y .least) h most) (runs-bound i low e window c (x .book) l (g .lines) false (y .least) h most)
+      (λ j q. still-outlasts i low e window c (x .book) l (g .lines) false (y .least) h most _ _ j q (was s j q))
+  by-state false ke Open s h =
+      subst (λ (z : Scanned). EntryTicked t c y z l i) (receiver-turn (h .receiving .handed))
+      (stands (y .least) (omega arith) Open s (λ k q. absurd (omega (arith, h .receiving .handed))) (opened s refl))
   by-state true ke (Failing n) s h =
-      let k = ticked i e true (x .book) in
-      failing-turn ke n s (h .urgent) (k .book) (k .failing) (k .running) (stays-failing i e (x .book))
-      (slots-all i low e window (x .book) l (g .lines) true (h .sending, h .silent))
+      let k = ticked c i e true (x .book) (y .least) in
+      let most : e .run .handed ≤ e .run .window .size = omega (arith, h .sending .handed, h .sending .taken) in
+      failing-turn ke n s (h .urgent) (k .book) (k .failing) (k .running) (k .least) (stays-failing c i e (x .book) (y .least))
+      (slots-all i low e window c (x .book) l (g .lines) true (y .least) (h .sending, h .silent))
+      (least-falls i low e window c (x .book) l (g .lines) true (y .least) (h .sending, h .silent) most)
+      (runs-bound i low e window c (x .book) l (g .lines) true (y .least) (h .sending, h .silent) most)
+      (λ j q. still-outlasts i low e window c (x .book) l (g .lines) true (y .least) (h .sending, h .silent) most _ _ j q (failing-was n s .0 j q))
   by-state false ke (Failing n) s h = absurd h
 
-  pub tick-entry-keeps : EntryTicked t x (tickEntry i x) l i
+  pub tick-entry-keeps : EntryTicked t c y (tickEntry c i y) l i
   unfolding tickEntry
   tick-entry-keeps = by-state (isSends (e .entry .kind)) refl (e .state) refl (g .entered i li .stated)

@@ -2,20 +2,23 @@
 -- end point, with the bit that the tick answers of it, and what stays. Assumes nothing.
 use Prim.Native.Nat.{ℕ, zero, suc, _+_, _-_, _/_, _%_, _^_, _≤_, _<_}
 use mathlib.Core.Path.{_≡_, refl, sym, ap, subst, _∙_}
-use mathlib.Core.Logic.{_⊎_, inl, inr}
+use mathlib.Core.Logic.{_≢_, _⊎_, inl, inr}
 use mathlib.Core.Bool.{Bool, true, false, false≢true}
 use mathlib.Core.List.{List, []}
 use native.Mathlib.Decide.{ℕ-discrete}
 use native.Mathlib.Nat.{two-pow-succ, add-mul-div-right, add-div-right, div-eq-of-lt, min-eq-left}
 use native.Mathlib.Omega.{arith}
-use lib.ListN.{getD}
+use lib.ListN.{getD, set}
+use lib.Seq.{getD-set-other}
+use lib.Dec.{eqb}
 use lib.Pow.{pow-pos, pow-add}
-use borrow.Author.Tests.{eqb-true}
+use borrow.Author.Tests.{eqb-true, eqb-false}
 use Rattle.units.specs.Refusals.{pick}
-use Rattle.memory.specs.Layout.{resets, resetId, lengthAt}
+use Rattle.memory.specs.Layout.{resets, resetId, lengthAt, timerAt, clockAt, quietAt}
 use Rattle.waiting.specs.Queues.{appended}
 use Rattle.order.specs.Order.{acksIn}
 use Rattle.kept.proofs.Kept.{RunFits}
+use Rattle.window.specs.Windows.{Good as GoodWindow}
 use Rattle.ends.specs.Ends.{endOf}
 use Rattle.ends.specs.Heads.{countIn}
 use Rattle.ends.specs.States.{isSends}
@@ -25,67 +28,108 @@ use Rattle.ends.specs.declared.State.{State}
 use Rattle.ends.specs.declared.State.the-variants.{Closed, Enabled, Open, Failing}
 use Rattle.ends.specs.declared.Run.{Run}
 use Rattle.ends.specs.declared.EndPoint.{EndPoint}
-use Rattle.slots.specs.Slots.{lengthIn}
-use Rattle.ticking.specs.Ticking.{tickEntry, tickEntries, Recovered, again, recover, recoverAll, entries, tickBoth, tickAfter, tickAnswer}
+use Rattle.slots.specs.Slots.{cell, past, lengthIn, timerIn}
+use Rattle.timing.specs.Timing.{clockIn, quietIn, later, leftOf, passed as passing}
+use Rattle.timing.proofs.Falling.{later-next}
+use Rattle.ticking.specs.Ticking.{Scanned, tickEntry, tickEntries, Recovered, again, recover, recoverAll, entries, scanned, scanBoth, scanAfter, stillAfter, tickBoth, tickAfter, tickAnswer}
+use Rattle.ticking.proofs.Apart.{begun, timed, tick-only, scan-head}
 use Rattle.ends.specs.States.{isOver}
-use Rattle.ticking.proofs.Apart.{after-head}
-use Rattle.good.specs.Good.{Lists, Silent, Stated, Good}
+use Rattle.good.specs.Good.{Lists, Silent, Stated, Timely, Good}
 use Rattle.good.proofs.Lined.{added}
 use Rattle.good.proofs.Known.{stated-as}
-use Rattle.good.proofs.Framing.{apart-saved, apart-count, count-low, entry-low}
+use Rattle.good.specs.Independence.{cellOwner}
+use Rattle.good.proofs.Clocked.{pass-clocked, pass-quiet, pass-clock, clocked-end, clocked-acks, clocked-good}
+use Rattle.good.proofs.Framing.{le-trans, apart-saved, apart-count, count-low, entry-low, timer-owner}
 use Rattle.good.proofs.Turns.{run-fits, turnedTo, end-saved, anew-fits, anew-size, acks-ext, sender-turn, Kept, kept-same}
 use Rattle.good.proofs.Senders.{reset-within, reset-cells, reset-silent, enabled-sender}
-use Rattle.good.proofs.TickEntry.{Ticks, closed, enabled, opened, failed, failing, EntryTicked, tick-entry-keeps}
+use Rattle.good.proofs.TickEntry.{Ticks, closed, enabled, opened, failed, failing, EntryTicked, tick-entry-keeps, Bound, Bounds}
+use Rattle.good.proofs.Timely.{falls-on, passes-over, found-on}
+
+-- ---- a bound stays while the entry's timers do, and where it is lowered
+
+module _ (c m m′ : ℕ) (down : m′ ≤ m) (b b′ : List ℕ) (j : ℕ) (low : j < 16) (e : EndPoint) (g : GoodWindow (e .run .window))
+    (cells : (k : ℕ) → 4224 ≤ k → cellOwner k ≡ j → getD b′ k 0 ≡ getD b k 0) where
+  one-kept : (k : ℕ) → Bound c m (timerIn b (cell j (e .run .window) (past (e .run .window) k))) → Bound c m′ (timerIn b′ (cell j (e .run .window) (past (e .run .window) k)))
+  one-kept k h =
+      let w = e .run .window in
+      let same = cells (timerAt (cell j w (past w k))) (omega arith) (timer-owner j low w g (past w k)) in
+      λ runs. le-trans down (subst (λ (z : ℕ). m ≤ leftOf c z) (sym same) (h (λ z. runs (same ∙ z))))
+
+  pub bounds-kept : (s : State) → Bounds c m b j e s → Bounds c m′ b′ j e s
+  bounds-kept Closed h = tt
+  bounds-kept (Enabled d sent) h = λ runs. le-trans down (h runs)
+  bounds-kept Open h = λ k l. one-kept k (h k l)
+  bounds-kept (Failing n) h = λ k l. one-kept k (h k l)
 
 -- ---- every entry's timers
 
--- after the turns of the first n entries: those end points have ticked, the others are as they were
-pub record Pass (t : List ℕ) (x x′ : Lent) (n : ℕ) : Type 0 where
-  pub lists : Lists
-  pub good : Good t (x′ .node) (x′ .book) lists
-  pub count : countIn (x′ .node) ≡ countIn (x .node)
-  pub ticks : (j : ℕ) → j < n → Ticks (endOf (x .node) j) (endOf (x′ .node) j)
-  pub later : (j : ℕ) → n ≤ j → endOf (x′ .node) j ≡ endOf (x .node) j
-  pub lengths : (c : ℕ) → c < 2048 → lengthIn (x′ .book) c ≡ lengthIn (x .book) c
-  pub store : x′ .store ≡ x .store
-  pub out : x′ .out ≡ x .out
+-- of entry j, none runs out before m more ticks
+abbrev pub Bounded : ℕ → ℕ → Lent → ℕ → Type 0
+Bounded c m x j = Bounds c m (x .book) j (endOf (x .node) j) (endOf (x .node) j .state)
 
-pass-then : (t : List ℕ) (x x′ x″ : Lent) (n : ℕ) (p : Pass t x x′ n) → EntryTicked t x′ x″ (p .lists) n → Pass t x x″ (suc n)
-pass-then t x x′ x″ n p s =
+-- after the turns of the first n entries: those end points have ticked, the others are as they were
+pub record Pass (t : List ℕ) (c : ℕ) (x : Lent) (y : Scanned) (n : ℕ) : Type 0 where
+  pub lists : Lists
+  pub good : Good t (y .lent .node) (y .lent .book) lists
+  pub count : countIn (y .lent .node) ≡ countIn (x .node)
+  pub idle : quietIn (y .lent .node) ≡ 0
+  pub ticks : (j : ℕ) → j < n → Ticks (endOf (x .node) j) (endOf (y .lent .node) j)
+  pub later : (j : ℕ) → n ≤ j → endOf (y .lent .node) j ≡ endOf (x .node) j
+  pub lengths : (g : ℕ) → g < 2048 → lengthIn (y .lent .book) g ≡ lengthIn (x .book) g
+  pub store : y .lent .store ≡ x .store
+  pub out : y .lent .out ≡ x .out
+  pub heeds : (j : ℕ) → j < n → Bounded c (y .least) (y .lent) j
+
+pass-then : (t : List ℕ) (c : ℕ) (x : Lent) (y y′ : Scanned) (n : ℕ) → n < countIn (x .node) → (p : Pass t c x y n) → EntryTicked t c y y′ (p .lists) n
+    → quietIn (y′ .lent .node) ≡ quietIn (y .lent .node) → Pass t c x y′ (suc n)
+pass-then t c x y y′ n known p s quiet =
     record {
       lists = s .kept .lists;
       good = s .kept .good;
-      count = apart-count n (x′ .node) (x″ .node) (s .kept .apart) ∙ p .count;
+      count = apart-count n (y .lent .node) (y′ .lent .node) (s .kept .apart) ∙ p .count;
+      idle = quiet ∙ p .idle;
       ticks = λ j h. sides j h (ℕ-discrete j n);
       later = λ j h. s .kept .apart .others j (λ m. omega arith) ∙ p .later j (omega arith);
-      lengths = λ c h. s .lengths c h ∙ p .lengths c h;
+      lengths = λ g h. s .lengths g h ∙ p .lengths g h;
       store = s .store ∙ p .store;
       out = s .out ∙ p .out;
+      heeds = λ j h. heed j h (ℕ-discrete j n);
     }
   where
-    sides : (j : ℕ) → j < suc n → Dec (j ≡ n) → Ticks (endOf (x .node) j) (endOf (x″ .node) j)
+    sides : (j : ℕ) → j < suc n → Dec (j ≡ n) → Ticks (endOf (x .node) j) (endOf (y′ .lent .node) j)
     sides j h (yes m) =
-        subst (λ (k : ℕ). Ticks (endOf (x .node) k) (endOf (x″ .node) k)) (sym m)
-        (subst (λ (e : EndPoint). Ticks e (endOf (x″ .node) n)) (p .later n (omega arith)) (s .ticks))
+        subst (λ (k : ℕ). Ticks (endOf (x .node) k) (endOf (y′ .lent .node) k)) (sym m)
+        (subst (λ (e : EndPoint). Ticks e (endOf (y′ .lent .node) n)) (p .later n (omega arith)) (s .ticks))
     sides j h (no m) = subst (Ticks (endOf (x .node) j)) (sym (s .kept .apart .others j m)) (p .ticks j (omega arith))
 
-pub passed : (t : List ℕ) (x : Lent) (l : Lists) → Good t (x .node) (x .book) l → (n : ℕ) → n ≤ countIn (x .node) → Pass t x (tickEntries n x) n
+    heed : (j : ℕ) → j < suc n → Dec (j ≡ n) → Bounded c (y′ .least) (y′ .lent) j
+    heed j h (yes m) = subst (Bounded c (y′ .least) (y′ .lent)) (sym m) (s .heeds)
+    heed j h (no m) =
+        let there : j < countIn (y .lent .node) = omega (arith, p .count) in
+        let e = endOf (y .lent .node) j in
+        subst (λ (z : EndPoint). Bounds c (y′ .least) (y′ .lent .book) j z (z .state)) (sym (s .kept .apart .others j m))
+        (bounds-kept c (y .least) (y′ .least) (s .falls) (y .lent .book) (y′ .lent .book) j (entry-low t (y .lent .node) (y .lent .book) (p .lists) (p .good) j there) e
+        (p .good .entered j there .window) (λ k l o. s .kept .within .cells k l (λ q. m (sym o ∙ q))) (e .state) (p .heeds j (omega arith)))
+
+pub passed : (t : List ℕ) (c : ℕ) (x : Lent) (l : Lists) → Good t (x .node) (x .book) l → quietIn (x .node) ≡ 0 → (n : ℕ) → n ≤ countIn (x .node) → Pass t c x (tickEntries c n (begun x)) n
 unfolding tickEntries
-passed t x l g zero h =
+passed t c x l g idle zero h =
     record {
       lists = l;
       good = g;
       count = refl;
+      idle = idle;
       ticks = λ j m. absurd (omega arith);
       later = λ j m. refl;
       lengths = λ c m. refl;
       store = refl;
       out = refl;
+      heeds = λ j m. absurd (omega arith);
     }
-passed t x l g (suc n) h =
-    let p = passed t x l g n (omega arith) in
-    pass-then t x (tickEntries n x) (tickEntry n (tickEntries n x)) n p
-    (tick-entry-keeps t (tickEntries n x) (p .lists) (p .good) n (omega (arith, p .count)))
+passed t c x l g idle (suc n) h =
+    let p = passed t c x l g idle n (omega arith) in
+    let y = tickEntries c n (begun x) in
+    pass-then t c x y (tickEntry c n y) n h p (tick-entry-keeps t c y (p .lists) (p .good) n (omega (arith, p .count)) (p .idle)) (tick-only c n y .before quietAt (omega arith))
 
 -- ---- the bits
 
@@ -131,6 +175,7 @@ record Recovery (t : List ℕ) (r r′ : Recovered) (l : Lists) (i : ℕ) : Type
   lengths : (c : ℕ) → c < 2048 → lengthIn (r′ .lent .book) c ≡ lengthIn (r .lent .book) c
   store : r′ .lent .store ≡ r .lent .store
   out : r′ .lent .out ≡ r .lent .out
+  heeds : (c m : ℕ) → Bounded c m (r .lent) i → Bounded c m (r′ .lent) i
 
 module _ (t : List ℕ) (r : Recovered) (l : Lists) (g : Good t (r .lent .node) (r .lent .book) l) (i : ℕ) (li : i < countIn (r .lent .node)) where
   low : i < 16
@@ -149,6 +194,7 @@ module _ (t : List ℕ) (r : Recovered) (l : Lists) (g : Good t (r .lent .node) 
         lengths = λ c b. refl;
         store = refl;
         out = refl;
+        heeds = λ c m b. b;
       }
 
   begins : e .state ≡ Failing 0 → isSends (e .entry .kind) ≡ true → Silent l i [] → Recovery t r (again i r) l i
@@ -161,7 +207,7 @@ module _ (t : List ℕ) (r : Recovered) (l : Lists) (g : Good t (r .lent .node) 
                   sender-turn t (r .lent .node) (r .lent .book) l g i li k (Enabled 0 false) (anew (e .run)) (omega arith) fits (anew-size (e .run))
                   (appended (r .lent .book) resets (resetId i)) (added l resets (resetId i)) (reset-within (r .lent .book) l (g .lines) i low q)
                   (enabled-sender (appended (r .lent .book) resets (resetId i)) (added l resets (resetId i)) i e k (g .entered i li .window)
-                  (reset-silent (r .lent .book) l (g .lines) i low q));
+                  (reset-silent (r .lent .book) l (g .lines) i low q)) (λ runs. absurd (runs refl));
               apart = apart-saved i (r .lent .node) (Enabled 0 false) (anew (e .run));
               within = reset-within (r .lent .book) l (g .lines) i low q;
             };
@@ -172,6 +218,9 @@ module _ (t : List ℕ) (r : Recovered) (l : Lists) (g : Good t (r .lent .node) 
         lengths = λ c h. reset-cells (r .lent .book) l (g .lines) i low q (lengthAt c) (omega arith);
         store = refl;
         out = refl;
+        heeds = λ c m b.
+            subst (λ (z : EndPoint). Bounds c m (appended (r .lent .book) resets (resetId i)) i z (z .state))
+            (sym (end-saved (r .lent .node) i (Enabled 0 false) (anew (e .run)) (g .long) low (omega arith) fits (anew-size (e .run)))) (λ runs. absurd (runs refl));
       }
     where
       fits : RunFits (anew (e .run))
@@ -202,6 +251,7 @@ pub record Round (t : List ℕ) (y r : Recovered) (n : ℕ) : Type 0 where
   pub lengths : (c : ℕ) → c < 2048 → lengthIn (r .lent .book) c ≡ lengthIn (y .lent .book) c
   pub store : r .lent .store ≡ y .lent .store
   pub out : r .lent .out ≡ y .lent .out
+  pub heeds : (c m j : ℕ) → j < countIn (y .lent .node) → Bounded c m (y .lent) j → Bounded c m (r .lent) j
 
 round-then : (t : List ℕ) (y r r′ : Recovered) (n : ℕ) (p : Round t y r n) → Recovery t r r′ (p .lists) n → Round t y r′ (suc n)
 round-then t y r r′ n p s =
@@ -215,6 +265,7 @@ round-then t y r r′ n p s =
       lengths = λ c h. s .lengths c h ∙ p .lengths c h;
       store = s .store ∙ p .store;
       out = s .out ∙ p .out;
+      heeds = λ c m j h b. heed c m j h b (ℕ-discrete j n);
     }
   where
     sides : (j : ℕ) → j < suc n → Dec (j ≡ n) → Recovers (r′ .bits / 2 ^ j % 2) (endOf (y .lent .node) j) (endOf (r′ .lent .node) j)
@@ -225,6 +276,15 @@ round-then t y r r′ n p s =
         let l : j < n = omega arith in
         subst (λ (b : ℕ). Recovers b (endOf (y .lent .node) j) (endOf (r′ .lent .node) j)) (sym (s .below j l))
         (subst (Recovers (r .bits / 2 ^ j % 2) (endOf (y .lent .node) j)) (sym (s .kept .apart .others j m)) (p .fate j l))
+
+    heed : (c m j : ℕ) → j < countIn (y .lent .node) → Bounded c m (y .lent) j → Dec (j ≡ n) → Bounded c m (r′ .lent) j
+    heed c m j h b (yes q) = subst (Bounded c m (r′ .lent)) (sym q) (s .heeds c m (subst (Bounded c m (r .lent)) q (p .heeds c m j h b)))
+    heed c m j h b (no q) =
+        let there : j < countIn (r .lent .node) = omega (arith, p .count) in
+        let e = endOf (r .lent .node) j in
+        subst (λ (z : EndPoint). Bounds c m (r′ .lent .book) j z (z .state)) (sym (s .kept .apart .others j q))
+        (bounds-kept c m m (omega arith) (r .lent .book) (r′ .lent .book) j (entry-low t (r .lent .node) (r .lent .book) (p .lists) (p .good) j there) e
+        (p .good .entered j there .window) (λ k l o. s .kept .within .cells k l (λ z. q (sym o ∙ z))) (e .state) (p .heeds c m j h b))
 
 pub rounds : (t : List ℕ) (y : Recovered) (l : Lists) → Good t (y .lent .node) (y .lent .book) l → y .bits ≡ 0 → (n : ℕ) → n ≤ countIn (y .lent .node)
     → Round t y (recoverAll n y) n
@@ -240,6 +300,7 @@ rounds t y l g z zero h =
       lengths = λ c m. refl;
       store = refl;
       out = refl;
+      heeds = λ c m j h b. b;
     }
 rounds t y l g z (suc n) h =
     let p = rounds t y l g z n (omega arith) in
@@ -274,33 +335,138 @@ fate-both : (bit : ℕ) (e m e′ : EndPoint) → Ticks e m → Recovers bit m e
 fate-both bit e m e′ k (stays b o h) = ticks b (subst (Ticks e) (sym h) k) (ap (λ (y : EndPoint). isOver (y .state)) h ∙ o)
 fate-both bit e m e′ k (recovers b s h) = fate-over bit e m e′ b s h k
 
--- what a tick leaves of a good node
-pub record TickKept (t : List ℕ) (x : Lent) : Type 0 where
+-- what going through the entries in tick c leaves of a good node
+pub record ScanKept (t : List ℕ) (c : ℕ) (x : Lent) : Type 0 where
   pub lists : Lists
-  pub good : Good t (tickAfter x .node) (tickAfter x .book) lists
-  pub head : (k : ℕ) → k < 64 → getD (tickAfter x .node) k 0 ≡ getD (x .node) k 0
-  pub acks : acksIn (tickAfter x .node) ≡ acksIn (x .node)
-  pub fate : (j : ℕ) → j < countIn (x .node) → Fate (tickAnswer x / 2 ^ j % 2) (endOf (x .node) j) (endOf (tickAfter x .node) j)
-  pub most : tickAnswer x < 2 ^ countIn (x .node)
-  pub lengths : (c : ℕ) → c < 2048 → lengthIn (tickAfter x .book) c ≡ lengthIn (x .book) c
-  pub store : tickAfter x .store ≡ x .store
-  pub out : tickAfter x .out ≡ x .out
+  pub good : Good t (scanBoth c x .lent .node) (scanBoth c x .lent .book) lists
+  pub head : (k : ℕ) → k < 64 → getD (scanBoth c x .lent .node) k 0 ≡ getD (x .node) k 0
+  pub acks : acksIn (scanBoth c x .lent .node) ≡ acksIn (x .node)
+  pub fate : (j : ℕ) → j < countIn (x .node) → Fate (scanBoth c x .bits / 2 ^ j % 2) (endOf (x .node) j) (endOf (scanBoth c x .lent .node) j)
+  pub most : scanBoth c x .bits < 2 ^ countIn (x .node)
+  pub lengths : (g : ℕ) → g < 2048 → lengthIn (scanBoth c x .lent .book) g ≡ lengthIn (x .book) g
+  pub store : scanBoth c x .lent .store ≡ x .store
+  pub out : scanBoth c x .lent .out ≡ x .out
+  pub heeds : (j : ℕ) → j < countIn (x .node) → Bounded c (scanned c x .least) (scanBoth c x .lent) j
 
-pub tick-keeps : (t : List ℕ) (x : Lent) (l : Lists) → Good t (x .node) (x .book) l → TickKept t x
-unfolding tickAfter tickAnswer tickBoth
-tick-keeps t x l g =
+pub scan-keeps : (t : List ℕ) (c : ℕ) (x : Lent) (l : Lists) → Good t (x .node) (x .book) l → quietIn (x .node) ≡ 0 → ScanKept t c x
+unfolding scanBoth
+scan-keeps t c x l g idle =
     let n : entries x ≡ countIn (x .node) = min-eq-left (count-low t (x .node) (x .book) l g) in
-    let y : Recovered = record { lent = tickEntries (entries x) x; bits = 0 } in
-    let p = passed t x l g (entries x) (omega arith) in
+    let y : Recovered = timed c x in
+    let p = passed t c x l g idle (entries x) (omega arith) in
     let q = rounds t y (p .lists) (p .good) refl (entries x) (omega (arith, p .count)) in
     record {
       lists = q .lists;
       good = q .good;
-      head = after-head x;
-      acks = acks-ext (x .node) (tickAfter x .node) (after-head x) .1;
+      head = scan-head c x;
+      acks = acks-ext (x .node) (scanBoth c x .lent .node) (scan-head c x) .1;
       fate = λ j h. fate-both _ _ _ _ (p .ticks j (omega arith)) (q .fate j (omega arith));
-      most = rw (← n) (q .most);
-      lengths = λ c h. q .lengths c h ∙ p .lengths c h;
+      most = subst (λ (z : ℕ). recoverAll (entries x) (timed c x) .bits < 2 ^ z) n (q .most);
+      lengths = λ g h. q .lengths g h ∙ p .lengths g h;
       store = q .store ∙ p .store;
       out = q .out ∙ p .out;
+      heeds = λ j h. q .heeds c (scanned c x .least) j (omega (arith, p .count)) (p .heeds j (omega arith));
     }
+
+-- ---- the tick as a whole
+
+-- what a tick leaves of a good node
+pub record TickKept (t : List ℕ) (x x′ : Lent) (bits : ℕ) : Type 0 where
+  pub lists : Lists
+  pub good : Good t (x′ .node) (x′ .book) lists
+  pub head : (k : ℕ) → k < 64 → k ≢ clockAt → k ≢ quietAt → getD (x′ .node) k 0 ≡ getD (x .node) k 0
+  pub clock : clockIn (x′ .node) ≡ later (clockIn (x .node)) 1
+  pub acks : acksIn (x′ .node) ≡ acksIn (x .node)
+  pub fate : (j : ℕ) → j < countIn (x .node) → Fate (bits / 2 ^ j % 2) (endOf (x .node) j) (endOf (x′ .node) j)
+  pub most : bits < 2 ^ countIn (x .node)
+  pub lengths : (g : ℕ) → g < 2048 → lengthIn (x′ .book) g ≡ lengthIn (x .book) g
+  pub store : x′ .store ≡ x .store
+  pub out : x′ .out ≡ x .out
+
+-- the head but for the clock's words
+passed-head : (ws : List ℕ) (c q k : ℕ) → k ≢ clockAt → k ≢ quietAt → getD (passing ws c q) k 0 ≡ getD ws k 0
+passed-head ws c q k m n = getD-set-other (set ws clockAt c) quietAt k q 0 n ∙ getD-set-other ws clockAt k c 0 m
+
+-- an end point that a tick leaves as it is has ticked
+ticks-on : (e : EndPoint) (s : State) → e .state ≡ s → Ticks e e
+ticks-on e Closed s = closed s refl
+ticks-on e (Enabled n sent) s = enabled n n sent s (ap (λ (z : State). turnedTo e z (e .run)) s)
+ticks-on e Open s = opened s refl
+ticks-on e (Failing n) s = failing n n s (ap (λ (z : State). turnedTo e z (e .run)) s)
+
+fate-not-over : {bit : ℕ} {e e′ : EndPoint} → Fate bit e e′ → isOver (e′ .state) ≡ false
+fate-not-over (ticks b k o) = o
+fate-not-over (recovered b s h) = ap (λ (y : EndPoint). isOver (y .state)) h
+
+module _ (t : List ℕ) (x : Lent) (l : Lists) (g : Good t (x .node) (x .book) l) where
+  abbrev now : ℕ
+  now = later (clockIn (x .node)) 1
+
+  now-small : now ≤ 65535
+  now-small = later-next (clockIn (x .node)) (omega arith)
+
+  -- where none can run out
+  still-kept : quietIn (x .node) ≢ 0 → TickKept t x (stillAfter now x .lent) (stillAfter now x .bits)
+  still-kept some =
+      let ws = x .node in
+      let q = quietIn ws - 1 in
+      let ws′ = passing ws now q in
+      let p = pass-clocked ws now q in
+      let clock = pass-clock ws now q (g .long) now-small in
+      record {
+        lists = l;
+        good = clocked-good ws ws′ p t (x .book) l g (λ j h.
+            subst (λ (c : ℕ). Timely c (quietIn ws′) (x .book) j (endOf ws j) (endOf ws j .state)) (sym clock)
+            (subst (λ (z : ℕ). Timely now z (x .book) j (endOf ws j) (endOf ws j .state)) (sym (pass-quiet ws now q (g .long)))
+            (falls-on (clockIn ws) (quietIn ws) (omega arith) some (x .book) j (endOf ws j) (endOf ws j .state) (g .timely j h))));
+        head = λ k h m n. passed-head ws now q k m n;
+        clock = clock;
+        acks = clocked-acks ws ws′ p;
+        fate = λ j h.
+            let e = endOf ws j in
+            subst (Fate (0 / 2 ^ j % 2) e) (sym (clocked-end ws ws′ p j))
+            (ticks (bit-none 0 j (pow-pos j)) (ticks-on e (e .state) refl)
+            (passes-over (clockIn ws) (quietIn ws) (omega arith) some (x .book) j e (e .state) (g .timely j h)));
+        most = pow-pos (countIn ws);
+        lengths = λ c h. refl;
+        store = refl;
+        out = refl;
+      }
+
+  -- where one can
+  scan-kept : quietIn (x .node) ≡ 0 → TickKept t x (scanAfter now x .lent) (scanAfter now x .bits)
+  unfolding scanAfter
+  scan-kept idle =
+      let S = scan-keeps t now x l g idle in
+      let ws = scanBoth now x .lent .node in
+      let b = scanBoth now x .lent .book in
+      let m = scanned now x .least in
+      let ws′ = passing ws now (m - 1) in
+      let p = pass-clocked ws now (m - 1) in
+      let clock = pass-clock ws now (m - 1) (S .good .long) now-small in
+      let count : countIn ws ≡ countIn (x .node) = ap (λ (z : ℕ). z % 256) (S .head 0 (omega arith)) in
+      record {
+        lists = S .lists;
+        good = clocked-good ws ws′ p t b (S .lists) (S .good) (λ j h.
+            let there : j < countIn (x .node) = omega (arith, count) in
+            subst (λ (c : ℕ). Timely c (quietIn ws′) b j (endOf ws j) (endOf ws j .state)) (sym clock)
+            (subst (λ (z : ℕ). Timely now z b j (endOf ws j) (endOf ws j .state)) (sym (pass-quiet ws now (m - 1) (S .good .long)))
+            (found-on now (clockIn ws) m (quietIn ws) b j (endOf ws j) (endOf ws j .state) (S .heeds j there) (S .good .timely j h) (fate-not-over (S .fate j there)))));
+        head = λ k h u v. passed-head ws now (m - 1) k u v ∙ S .head k h;
+        clock = clock;
+        acks = clocked-acks ws ws′ p ∙ S .acks;
+        fate = λ j h. subst (Fate (scanBoth now x .bits / 2 ^ j % 2) (endOf (x .node) j)) (sym (clocked-end ws ws′ p j)) (S .fate j h);
+        most = S .most;
+        lengths = S .lengths;
+        store = S .store;
+        out = S .out;
+      }
+
+pub tick-keeps : (t : List ℕ) (x : Lent) (l : Lists) → Good t (x .node) (x .book) l → TickKept t x (tickAfter x) (tickAnswer x)
+unfolding tickAfter tickAnswer tickBoth
+tick-keeps t x l g = sides (eqb (quietIn (x .node)) 0) refl
+  where
+    sides : (z : Bool) → eqb (quietIn (x .node)) 0 ≡ z
+        → TickKept t x (pick z (scanAfter (now t x l g) x) (stillAfter (now t x l g) x) .lent) (pick z (scanAfter (now t x l g) x) (stillAfter (now t x l g) x) .bits)
+    sides true q = scan-kept t x l g (eqb-true (quietIn (x .node)) 0 q)
+    sides false q = still-kept t x l g (eqb-false (quietIn (x .node)) 0 q)

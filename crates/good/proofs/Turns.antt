@@ -1,6 +1,6 @@
 -- What a call on one entry leaves: an end point saved, the book altered within that entry, the waiting acknowledgements. Each with what is
 -- to be shown of that entry alone. Assumes nothing.
-use Prim.Native.Nat.{ℕ, zero, suc, _+_, _/_, _%_, _<_}
+use Prim.Native.Nat.{ℕ, zero, suc, _+_, _/_, _%_, _≤_, _<_}
 use mathlib.Core.Path.{_≡_, refl, sym, ap, subst, _∙_}
 use mathlib.Core.Logic.{_≢_, _⊎_, inl, inr}
 use mathlib.Core.Bool.{Bool, true, false, true≢false}
@@ -13,7 +13,7 @@ use lib.Seq.{getD-set-other}
 use lib.Dec.{eqb}
 use borrow.Author.Tests.{eqb-false}
 use Rattle.units.specs.Refusals.{pick}
-use Rattle.memory.specs.Layout.{oldestAt, acksAt, ackAt, nodeWords}
+use Rattle.memory.specs.Layout.{oldestAt, acksAt, ackAt, clockAt, quietAt, nodeWords}
 use Rattle.waiting.specs.Acks.{placeOf, waitingOf, oldestOf, pushed, popped, turned, turns, dropped}
 use Rattle.order.specs.Order.{from, acksIn, notOf}
 use Rattle.order.proofs.Ringed.{Ring, push-rest, pop-rest, drop-rest}
@@ -29,8 +29,9 @@ use Rattle.ends.specs.declared.State.{State}
 use Rattle.ends.specs.declared.State.the-variants.{Closed, Enabled, Open, Failing}
 use Rattle.ends.specs.declared.Run.{Run}
 use Rattle.ends.specs.declared.EndPoint.{EndPoint}
-use Rattle.good.specs.Good.{Lists, Fresh, Entered, Owed, Good}
-use Rattle.good.proofs.Framing.{Within, within-same, Apart, apart-same, apart-saved, apart-rest, framed, apart-count, entry-low}
+use Rattle.timing.specs.Timing.{clockIn, quietIn}
+use Rattle.good.specs.Good.{Lists, Fresh, Entered, Timely, Owed, Good}
+use Rattle.good.proofs.Framing.{Within, within-same, Apart, apart-same, apart-saved, apart-rest, framed, apart-count, apart-timely, entry-low}
 
 -- ---- an end point as it is loaded
 
@@ -126,17 +127,34 @@ owed-open i ws ws′ a k s w o = sides (ℕ-discrete (w / 256) i)
 -- ---- a turn of an entry that nothing is owed to
 
 module _ (t ws b : List ℕ) (l : Lists) (g : Good t ws b l) (i : ℕ) (li : i < countIn ws) where
-  pub book-turn : (b′ : List ℕ) (l′ : Lists) → Within i b b′ l l′ → Entered b′ l′ i (endOf ws i) → Good t ws b′ l′
-  book-turn b′ l′ v e = framed i ws ws (apart-same i ws) t b b′ l l′ g v li (g .acks) (g .owed) e
+  pub book-turn : (b′ : List ℕ) (l′ : Lists) → Within i b b′ l l′ → Entered b′ l′ i (endOf ws i) → Timely (clockIn ws) (quietIn ws) b′ i (endOf ws i) (endOf ws i .state)
+      → Good t ws b′ l′
+  book-turn b′ l′ v e s = framed i ws ws (apart-same i ws) t b b′ l l′ g v li (g .acks) (g .owed) e s
 
   pub free-turn : ((w : ℕ) → List·Memᴰ w (acksIn ws) → w / 256 ≢ i) → (s : State) (r : Run) → StateFits s → RunFits r → r .window .size ≡ endOf ws i .run .window .size
-      → (b′ : List ℕ) (l′ : Lists) → Within i b b′ l l′ → Entered b′ l′ i (turnedTo (endOf ws i) s r) → Good t (saved ws i s r) b′ l′
-  free-turn free s r sf rf size b′ l′ v e =
+      → (b′ : List ℕ) (l′ : Lists) → Within i b b′ l l′ → Entered b′ l′ i (turnedTo (endOf ws i) s r)
+      → Timely (clockIn ws) (quietIn ws) b′ i (turnedTo (endOf ws i) s r) s → Good t (saved ws i s r) b′ l′
+  free-turn free s r sf rf size b′ l′ v e m =
       let a = apart-saved i ws s r in
       let same = saved-acks ws i s r in
+      let now = end-saved ws i s r (g .long) (entry-low t ws b l g i li) sf rf size in
       framed i ws (saved ws i s r) a t b b′ l l′ g v li (rw (same .0) (g .acks))
       (λ w m. let n = subst (λ (ws : List ℕ). List·Memᴰ w ws) (same .1) m in owed-other i ws (saved ws i s r) a w (g .owed w n) (free w n))
-      (subst (Entered b′ l′ i) (sym (end-saved ws i s r (g .long) (entry-low t ws b l g i li) sf rf size)) e)
+      (subst (Entered b′ l′ i) (sym now) e)
+      (subst (λ (z : EndPoint). Timely (clockIn (saved ws i s r)) (quietIn (saved ws i s r)) b′ i z (z .state)) (sym now)
+      (apart-timely i ws (saved ws i s r) a b′ i (turnedTo (endOf ws i) s r) s m))
+
+  -- a sender's, however its end point was put back
+  pub sender-put : isSends (endOf ws i .entry .kind) ≡ true → (ws′ : List ℕ) → Apart i ws ws′ → waitingOf ws′ ≡ waitingOf ws → acksIn ws′ ≡ acksIn ws
+      → (b′ : List ℕ) (l′ : Lists) → Within i b b′ l l′ → (e : EndPoint) → endOf ws′ i ≡ e → Entered b′ l′ i e → Timely (clockIn ws) (quietIn ws′) b′ i e (e .state)
+      → Good t ws′ b′ l′
+  sender-put k ws′ a few same b′ l′ v e now here soon =
+      framed i ws ws′ a t b b′ l l′ g v li (rw few (g .acks))
+      (λ w m. let n = subst (λ (ys : List ℕ). List·Memᴰ w ys) same m in
+      owed-other i ws ws′ a w (g .owed w n) (λ q. true≢false (sym k ∙ subst (λ (j : ℕ). isSends (endOf ws j .entry .kind) ≡ false) q (g .owed w n .receives))))
+      (subst (Entered b′ l′ i) (sym now) here)
+      (subst (λ (z : EndPoint). Timely (clockIn ws′) (quietIn ws′) b′ i z (z .state)) (sym now)
+      (subst (λ (c : ℕ). Timely c (quietIn ws′) b′ i e (e .state)) (sym (a .clock)) soon))
 
   -- nothing is owed to one that is not open
   pub not-owed : (endOf ws i .state ≡ Open → ⊥) → (w : ℕ) → List·Memᴰ w (acksIn ws) → w / 256 ≢ i
@@ -144,16 +162,18 @@ module _ (t ws b : List ℕ) (l : Lists) (g : Good t ws b l) (i : ℕ) (li : i <
 
   -- nor to a sender
   pub sender-turn : isSends (endOf ws i .entry .kind) ≡ true → (s : State) (r : Run) → StateFits s → RunFits r → r .window .size ≡ endOf ws i .run .window .size
-      → (b′ : List ℕ) (l′ : Lists) → Within i b b′ l l′ → Entered b′ l′ i (turnedTo (endOf ws i) s r) → Good t (saved ws i s r) b′ l′
+      → (b′ : List ℕ) (l′ : Lists) → Within i b b′ l l′ → Entered b′ l′ i (turnedTo (endOf ws i) s r)
+      → Timely (clockIn ws) (quietIn ws) b′ i (turnedTo (endOf ws i) s r) s → Good t (saved ws i s r) b′ l′
   sender-turn k =
       free-turn (λ w m e. true≢false (sym k ∙ subst (λ (j : ℕ). isSends (endOf ws j .entry .kind) ≡ false) e (g .owed w m .receives)))
 
 -- ---- the ring: words 4, 5 and 32 to 63 alone
 
--- a node of as many words, the same in its head
+-- a node of as many words, the same in its head and its clock
 record Ringwise (ws vs : List ℕ) : Type 0 where
   long : length vs ≡ length ws
   head : (k : ℕ) → k < 4 → getD vs k 0 ≡ getD ws k 0
+  clock : (k : ℕ) → 6 ≤ k → k < 8 → getD vs k 0 ≡ getD ws k 0
 
 push-ringwise : (ws : List ℕ) (w : ℕ) → Ringwise ws (pushed ws w)
 unfolding pushed
@@ -162,6 +182,7 @@ push-ringwise ws w =
     record {
       long = length-set (set ws at w) acksAt (waitingOf ws + 1) ∙ length-set ws at w;
       head = λ k h. getD-set-other (set ws at w) acksAt k (waitingOf ws + 1) 0 (λ e. omega arith) ∙ getD-set-other ws at k w 0 (λ e. omega arith);
+      clock = λ k m h. getD-set-other (set ws at w) acksAt k (waitingOf ws + 1) 0 (λ e. omega arith) ∙ getD-set-other ws at k w 0 (λ e. omega arith);
     }
 
 pop-ringwise : (ws : List ℕ) → Ringwise ws (popped ws)
@@ -171,10 +192,12 @@ pop-ringwise ws =
       long = length-set (set ws oldestAt ((placeOf ws + 1) % 32)) acksAt ((waitingOf ws + 63) % 64) ∙ length-set ws oldestAt ((placeOf ws + 1) % 32);
       head = λ k h. getD-set-other (set ws oldestAt ((placeOf ws + 1) % 32)) acksAt k ((waitingOf ws + 63) % 64) 0 (λ e. omega arith)
           ∙ getD-set-other ws oldestAt k ((placeOf ws + 1) % 32) 0 (λ e. omega arith);
+      clock = λ k m h. getD-set-other (set ws oldestAt ((placeOf ws + 1) % 32)) acksAt k ((waitingOf ws + 63) % 64) 0 (λ e. omega arith)
+          ∙ getD-set-other ws oldestAt k ((placeOf ws + 1) % 32) 0 (λ e. omega arith);
     }
 
 then-ringwise : (a b c : List ℕ) → Ringwise a b → Ringwise b c → Ringwise a c
-then-ringwise a b c v w = record { long = w .long ∙ v .long; head = λ k h. w .head k h ∙ v .head k h }
+then-ringwise a b c v w = record { long = w .long ∙ v .long; head = λ k h. w .head k h ∙ v .head k h; clock = λ k m h. w .clock k m h ∙ v .clock k m h }
 
 either-ringwise : (a x y : List ℕ) (t : Bool) → Ringwise a x → Ringwise a y → Ringwise a (pick t x y)
 either-ringwise a x y true v w = v
@@ -188,17 +211,23 @@ turn-ringwise i ws =
 
 turns-ringwise : (i n : ℕ) (ws : List ℕ) → Ringwise ws (turns i n ws)
 unfolding turns
-turns-ringwise i zero ws = record { long = refl; head = λ k h. refl }
+turns-ringwise i zero ws = record { long = refl; head = λ k h. refl; clock = λ k m h. refl }
 turns-ringwise i (suc n) ws = then-ringwise ws (turns i n ws) (turned i (turns i n ws)) (turns-ringwise i n ws) (turn-ringwise i (turns i n ws))
 
+-- only the ring of acknowledgements alters
+ring-apart : (i : ℕ) (ws vs : List ℕ) → Ringwise ws vs → ((k : ℕ) → 64 ≤ k → getD vs k 0 ≡ getD ws k 0) → Apart i ws vs
+ring-apart i ws vs p rest =
+    apart-rest i ws vs (p .long) (p .head) (ap (λ (x : ℕ). x % 65536) (p .clock clockAt (omega arith) (omega arith)))
+    (let q = p .clock quietAt (omega arith) (omega arith) in omega (arith, q)) rest
+
 pub push-apart : (i : ℕ) (ws : List ℕ) (w : ℕ) → Ring ws → Apart i ws (pushed ws w)
-push-apart i ws w r = let p = push-ringwise ws w in apart-rest i ws (pushed ws w) (p .long) (p .head) (push-rest ws r w)
+push-apart i ws w r = ring-apart i ws (pushed ws w) (push-ringwise ws w) (push-rest ws r w)
 
 pub pop-apart : (i : ℕ) (ws : List ℕ) → Ring ws → Apart i ws (popped ws)
-pop-apart i ws r = let p = pop-ringwise ws in apart-rest i ws (popped ws) (p .long) (p .head) (pop-rest ws r)
+pop-apart i ws r = ring-apart i ws (popped ws) (pop-ringwise ws) (pop-rest ws r)
 
 pub drop-apart : (i j : ℕ) (ws : List ℕ) → Ring ws → Apart j ws (dropped i ws)
-drop-apart i j ws r = let p = turns-ringwise i (waitingOf ws) ws in apart-rest j ws (dropped i ws) (p .long) (p .head) (drop-rest i ws r)
+drop-apart i j ws r = ring-apart j ws (dropped i ws) (turns-ringwise i (waitingOf ws) ws) (drop-rest i ws r)
 
 -- every end point is then as it was
 pub push-end : (i : ℕ) (ws : List ℕ) (w : ℕ) → Ring ws → endOf (pushed ws w) i ≡ endOf ws i

@@ -29,11 +29,12 @@ use Rattle.ends.specs.declared.Run.{Run}
 use Rattle.ends.specs.declared.EndPoint.{EndPoint}
 use Rattle.slots.specs.Slots.{cell, spot, past, lengthIn}
 use Rattle.sending.specs.Sending.{urgentTests, urgentAnswer, urgentRun, urged, urgentAfter}
-use Rattle.good.specs.Good.{Lists, Lines, Ranged, mine, Resends, Sending, OpenSender, Entered, Good}
+use Rattle.timing.specs.Timing.{clockIn, quietIn}
+use Rattle.good.specs.Good.{Lists, Lines, Ranged, mine, Resends, Sending, OpenSender, Entered, Timely, Good}
 use Rattle.good.proofs.Members.{mine-all, mine-append, mine-own}
 use Rattle.good.proofs.Lined.{added, append-cells}
 use Rattle.good.proofs.Known.{is-open, stated-as, entered-as}
-use Rattle.good.proofs.Framing.{Within, within-append, apart-saved, entry-low}
+use Rattle.good.proofs.Framing.{Within, within-append, apart-saved, timely-as, entry-low}
 use Rattle.good.proofs.Offsets.{urgent-owner, urgent-ranged}
 use Rattle.good.proofs.Turns.{run-fits, state-fits, turnedTo, end-saved, sender-turn, Kept, kept-same}
 use Rattle.good.proofs.Senders.{resends-kept}
@@ -198,6 +199,13 @@ module _ (t : List ℕ) (x : Lent) (l : Lists) (i : ℕ) (p : List ℕ) (g : Goo
       true (d .sends) Open (d .opened)
       (urged-open (x .book) l (g .lines) i low e was (d .waits) (length p) (d .some) (d .most) none (e .state))
 
+  soon : Timely (clockIn (x .node)) (quietIn (x .node)) (urged x i e p .book) i after (e .state)
+  unfolding urgentRun
+  soon =
+      timely-as (clockIn (x .node)) (quietIn (x .node)) (x .book) (urged x i e p .book) i e after refl refl
+      (λ k. cells (x .book) l (g .lines) i low e was (d .waits) (length p) (d .some) (d .most) none (timerAt (cell i (e .run .window) (past (e .run .window) k))) (omega arith))
+      (e .state) (g .timely i (d .known))
+
   within : Within i (x .book) (urged x i e p .book) l (added l urgents (urgentId i))
   within = urged-within (x .book) l (g .lines) i low e was (d .waits) (length p) (d .some) (d .most) none
 
@@ -206,7 +214,7 @@ module _ (t : List ℕ) (x : Lent) (l : Lists) (i : ℕ) (p : List ℕ) (g : Goo
       record {
         lists = added l urgents (urgentId i);
         good = sender-turn t (x .node) (x .book) l g i (d .known) (d .sends) (e .state) (urgentRun (e .run) (length p)) (state-fits (x .node) i) fits same-size
-            (urged x i e p .book) (added l urgents (urgentId i)) within now;
+            (urged x i e p .book) (added l urgents (urgentId i)) within now soon;
         apart = apart-saved i (x .node) (e .state) (urgentRun (e .run) (length p));
         within = within;
       }

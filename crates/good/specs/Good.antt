@@ -1,5 +1,6 @@
--- What holds of every node that setup and calls can give: the table's rules, windows and counts within bounds, and what waits
--- agrees with the end points. Cited by what is proved of such nodes. Assumes nothing.
+-- What holds of every node that setup and calls can give: the table's rules, windows and counts within bounds, what
+-- waits agrees with the end points, and no timer runs out before the tick that looks for it. Cited by what is proved of
+-- such nodes. Assumes nothing.
 use Prim.Native.Nat.{ℕ, zero, suc, _+_, _-_, _/_, _≤_, _<_}
 use mathlib.Core.Path.{_≡_}
 use mathlib.Core.Logic.{_≢_}
@@ -25,6 +26,7 @@ use Rattle.ends.specs.declared.Run.{Run}
 use Rattle.ends.specs.declared.EndPoint.{EndPoint}
 use Rattle.lookup.specs.Lookup.{Indexed}
 use Rattle.slots.specs.Slots.{cell, past, lengthIn, timerIn}
+use Rattle.timing.specs.Timing.{clockIn, quietIn, leftOf}
 
 -- ---- what waits
 
@@ -159,6 +161,23 @@ pub record Entered (b : List ℕ) (l : Lists) (i : ℕ) (e : EndPoint) : Type 0 
   pub window : GoodWindow (e .run .window)
   pub stated : Stated b l i e (isSends (e .entry .kind)) (e .state)
 
+-- ---- timers
+
+-- of a timer that runs out at tick d, after tick c more than q ticks are left
+abbrev pub Outlasts : ℕ → ℕ → ℕ → Type 0
+Outlasts c q d = d ≢ 0 → (d ≤ 65535) × (q < leftOf c d)
+
+-- of each of a run's that entry i handed out
+abbrev pub Outlast : ℕ → ℕ → List ℕ → ℕ → Run → Type 0
+Outlast c q b i r = (k : ℕ) → k < r .handed → Outlasts c q (timerIn b (cell i (r .window) (past (r .window) k)))
+
+-- of each of entry i's; and a failing end with none running is recovered by the next tick, before which none may pass
+abbrev pub Timely : ℕ → ℕ → List ℕ → ℕ → EndPoint → State → Type 0
+Timely c q b i e Closed = Unit {0}
+Timely c q b i e (Enabled d sent) = Outlasts c q d
+Timely c q b i e Open = Outlast c q b i (e .run)
+Timely c q b i e (Failing n) = Outlast c q b i (e .run) × (n ≡ 0 → q ≡ 0)
+
 -- ---- the node
 
 -- it was set up from a table
@@ -187,3 +206,4 @@ pub record Good (t ws b : List ℕ) (l : Lists) : Type 0 where
   pub lines : Lines b l
   pub known : (q : ℕ) → q < 4 → (x : ℕ) → List·Memᴰ x (l q) → (ownerOf x < countIn ws) × Ranged q x
   pub entered : (i : ℕ) → i < countIn ws → Entered b l i (endOf ws i)
+  pub timely : (i : ℕ) → i < countIn ws → Timely (clockIn ws) (quietIn ws) b i (endOf ws i) (endOf ws i .state)

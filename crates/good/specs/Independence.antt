@@ -6,6 +6,7 @@ use mathlib.Core.Logic.{_≢_}
 use mathlib.Core.List.{List}
 use lib.ListN.{getD}
 use Rattle.ends.specs.Ends.{endOf}
+use Rattle.timing.specs.Timing.{clockIn}
 use Rattle.good.specs.Good.{Lists, Good, mine}
 use Rattle.good.specs.Calls.{Memory, after}
 use Rattle.machine.specs.Calls.{Call, opens, closes, counts, sends, urges, arrives, hands-out, ticks, Fed}
@@ -14,9 +15,11 @@ use Rattle.machine.specs.Calls.{Call, opens, closes, counts, sends, urges, arri
 abbrev pub cellOwner : ℕ → ℕ
 cellOwner k = (k - 4224) % 2048 / 128
 
--- entry i is as it was: its end point, its payloads' lengths, timers and retries, and which of it waits in which order
+-- entry i is as it was: its end point, its payloads' lengths, timers and retries, and which of it waits in which order;
+-- and no tick passed, so that what is left of its timers stays
 pub record Aside (n m : Memory) (l l′ : Lists) (i : ℕ) : Type 0 where
   pub end : endOf (m .node) i ≡ endOf (n .node) i
+  pub clock : clockIn (m .node) ≡ clockIn (n .node)
   pub cells : (k : ℕ) → 4224 ≤ k → cellOwner k ≡ i → getD (m .book) k 0 ≡ getD (n .book) k 0
   pub waits : (q : ℕ) → q < 4 → mine i (l′ q) ≡ mine i (l q)
 

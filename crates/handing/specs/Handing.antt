@@ -9,6 +9,7 @@ use lib.Dec.{leb, ltb}
 use Rattle.units.specs.Refusals.{pick}
 use Rattle.units.specs.declared.refusals.Refusal.the-variants as refusal
 use Rattle.memory.specs.Layout.{resets, urgents, resends, datas, timerAt}
+use Rattle.timing.specs.Timing.{clockIn, later, heeded}
 use Rattle.waiting.specs.Queues.{nextOf, unlinked}
 use Rattle.waiting.specs.Acks.{waitingOf, oldestOf, ackOf, popped}
 use Rattle.waiting.specs.declared.acks.Ack.{Ack}
@@ -131,21 +132,25 @@ unfoldable pub handedRun : Run → Run
 handedRun r =
     record { window = r .window; taken = r .taken; handed = (r .handed + 1) % 256; accepted = r .accepted; confirmed = r .confirmed; urgent = r .urgent }
 
--- a Reset's timer starts, and one went out
+-- a Reset's timer starts at T, and one went out
 abbrev pub resetNode : List ℕ → ℕ → EndPoint → List ℕ
-resetNode ws i e = saved ws i (Enabled (e .entry .timeout) true) (e .run)
+resetNode ws i e =
+    heeded (saved ws i (Enabled (later (clockIn ws) (e .entry .timeout)) true) (e .run)) (e .entry .timeout)
 
 -- its Urgent waits no more
 abbrev pub urgentNode : List ℕ → ℕ → EndPoint → List ℕ
 urgentNode ws i e = saved ws i (e .state) (urgentGone (e .run))
 
--- of data one number more is handed out
+-- of data one number more is handed out; its timer starts, as that of a retransmission does
 abbrev pub dataNode : List ℕ → ℕ → EndPoint → List ℕ
-dataNode ws i e = saved ws i (e .state) (handedRun (e .run))
+dataNode ws i e = heeded (saved ws i (e .state) (handedRun (e .run))) (e .entry .timeout)
+
+abbrev pub againNode : List ℕ → EndPoint → List ℕ
+againNode ws e = heeded ws (e .entry .timeout)
 
 -- a slot's timer starts at T
 abbrev pub timed : List ℕ → List ℕ → ℕ → List ℕ
-timed ws b n = set (unlinked b n) (timerAt (cellOf n)) (endOf ws (slotEntry n) .entry .timeout)
+timed ws b n = set (unlinked b n) (timerAt (cellOf n)) (later (clockIn ws) (endOf ws (slotEntry n) .entry .timeout))
 
 -- what each sort leaves of node and book
 unfoldable pub outNode : List ℕ → Next → List ℕ
@@ -153,7 +158,7 @@ outNode ws next.Nothing = ws
 outNode ws (next.Ack a) = popped ws
 outNode ws (next.Reset n) = resetNode ws (resetEntry n) (endOf ws (resetEntry n))
 outNode ws (next.Urgent n) = urgentNode ws (urgentEntry n) (endOf ws (urgentEntry n))
-outNode ws (next.Resend n) = ws
+outNode ws (next.Resend n) = againNode ws (endOf ws (slotEntry n))
 outNode ws (next.Data n) = dataNode ws (slotEntry n) (endOf ws (slotEntry n))
 
 unfoldable pub outBook : List ℕ → List ℕ → Next → List ℕ

@@ -18,6 +18,9 @@ use memory::put_half;
 use slots::number_in;
 use slots::part;
 use slots::spot_of;
+use timing::clock;
+use timing::heed;
+use timing::later;
 use units::Seq;
 use waiting::acks::Ack;
 use waiting::acks::pop;
@@ -28,7 +31,9 @@ ghost use lib.Seq.{sets};
 ghost use Rattle.waiting.specs.Queues.{unlinked};
 ghost use Rattle.waiting.specs.Acks.{popped};
 ghost use Rattle.ends.specs.Ends.{endOf};
-ghost use Rattle.handing.specs.Handing.{fitted, once, ackFrame, resetFrame, urgentFrame, dataFrame, resetEntry, urgentEntry, slotEntry, resetNode, urgentNode, dataNode, timed, handedRun};
+ghost use Rattle.handing.specs.Handing.{fitted, once, ackFrame, resetFrame, urgentFrame, dataFrame, resetEntry};
+ghost use Rattle.handing.specs.Handing.{urgentEntry, slotEntry, resetNode, urgentNode, dataNode, againNode};
+ghost use Rattle.handing.specs.Handing.{timed, handedRun};
 
 // a less b, and 0 where b is more.
 fn less(a: u16, b: u16) -> u16
@@ -71,7 +76,9 @@ pub fn put_reset(node: &mut [u64], book: &mut [u16], frame: &mut [u8], x: u16) -
         HandedOut::Refused(w) => HandedOut::Refused(w),
         HandedOut::Length(n) => {
             unlink(book, x);
-            save(node, i, State::Enabled(e.entry.timeout, true), e.run);
+            let over = later(clock(node), e.entry.timeout);
+            save(node, i, State::Enabled(over, true), e.run);
+            heed(node, e.entry.timeout);
             HandedOut::Length(n)
         }
     }
@@ -123,13 +130,15 @@ fn run_of(node: &[u64], i: usize) -> Run
 
 // The retransmission that is x in its queue: its timer starts.
 pub fn put_again(
-    node: &[u64],
+    node: &mut [u64],
     book: &mut [u16],
     store: &[u8],
     frame: &mut [u8],
     x: u16,
 ) -> HandedOut
     ensures answer { λ r. ⌜ r ≡ fitted (now (frame .entry)) (dataFrame (now (node .entry)) (now (book .entry)) (now (store .entry)) x) ⌝ }
+    ensures node { λ r. ⌜ now (node .exit)
+        ≡ once r (now (node .entry)) (againNode (now (node .entry)) (endOf (now (node .entry)) (slotEntry x))) ⌝ }
     ensures book { λ r. ⌜ now (book .exit) ≡ once r (now (book .entry)) (timed (now (node .entry)) (now (book .entry)) x) ⌝ }
     ensures frame { λ r. ⌜ now (frame .exit) ≡ once r (now (frame .entry)) (sets (now (frame .entry)) 0 (dataFrame (now (node .entry)) (now (book .entry)) (now (store .entry)) x)) ⌝ }
 {
@@ -145,7 +154,8 @@ pub fn put_again(
         HandedOut::Refused(w) => HandedOut::Refused(w),
         HandedOut::Length(n) => {
             unlink(book, x);
-            put_half(book, 6272 + g as usize, entry.timeout);
+            put_half(book, 6272 + g as usize, later(clock(node), entry.timeout));
+            heed(node, entry.timeout);
             HandedOut::Length(n)
         }
     }
@@ -186,8 +196,9 @@ pub fn put_data(
         HandedOut::Refused(w) => HandedOut::Refused(w),
         HandedOut::Length(n) => {
             unlink(book, x);
-            put_half(book, 6272 + g as usize, entry.timeout);
+            put_half(book, 6272 + g as usize, later(clock(node), entry.timeout));
             save(node, i, load_state(node, i), handed_run(run));
+            heed(node, entry.timeout);
             HandedOut::Length(n)
         }
     }

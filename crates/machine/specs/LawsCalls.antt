@@ -1,5 +1,5 @@
--- Laws of the host's calls: setup, open, close, counts, send and Urgent go through under exactly their conditions, and what
--- each then does. They rule out a node that refuses all and one that leaves its state alone. Proved in
+-- Laws of the host's calls: setup, open, close, counts, send and Urgent go through under exactly their conditions, and
+-- what each then does. They rule out a node that refuses all and one that leaves its state alone. Proved in
 -- proofs/Hosting.antt. Assumes nothing.
 use Prim.Native.Nat.{ℕ, _+_, _≤_, _<_}
 use mathlib.Core.Path.{_≡_}

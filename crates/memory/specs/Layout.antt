@@ -30,6 +30,13 @@ acksAt = 5
 abbrev pub ackAt : ℕ → ℕ
 ackAt k = 32 + k
 
+-- the number of the last tick, and how many more pass before a timer can run out (crates/timing)
+abbrev pub clockAt : ℕ
+clockAt = 6
+
+abbrev pub quietAt : ℕ
+quietAt = 7
+
 -- row v of the index, where frames find their entry: three sets of entries, a binary digit each (crates/lookup)
 abbrev pub rowAt : ℕ → ℕ
 rowAt v = 64 + v
@@ -73,7 +80,7 @@ nextAt x = x
 abbrev pub prevAt : ℕ → ℕ
 prevAt x = 2112 + x
 
--- slot g: the payload's length, its timer, its retries
+-- slot g: the payload's length, its timer (the tick at which it runs out, crates/timing), its retries
 abbrev pub lengthAt : ℕ → ℕ
 lengthAt g = 4224 + g
 

@@ -30,10 +30,12 @@ setupAnswer x t =
 abbrev pub firstRun : Run
 firstRun = record { window = newOf 0; taken = 0; handed = 0; accepted = record { 0 = 0 }; confirmed = record { 0 = 0 }; urgent = 0 }
 
--- the head, then the first k entries, each Closed and in the index
+-- the head: from the table, no acknowledgement waiting, the clock before its first tick; with no timer running as many
+-- ticks may pass as the longest timer takes
 abbrev pub headed : List ℕ → List ℕ → List ℕ
-headed t ws = sets ws 0 (countOf t ∷ ownOf t .0 ∷ protocolOf t ∷ storeOf t ∷ [])
+headed t ws = sets ws 0 (countOf t ∷ ownOf t .0 ∷ protocolOf t ∷ storeOf t ∷ 0 ∷ 0 ∷ 0 ∷ 65535 ∷ [])
 
+-- then the first k entries, each Closed and in the index
 abbrev pub entered : List ℕ → ℕ → List ℕ → List ℕ
 entered t k ws = indexed (saved (savedEntry ws k (entryOf t k) (placeOf t k)) k Closed firstRun) k (entryOf t k)
 

@@ -54,7 +54,8 @@ fn clear(ws: &mut [u64])
     }
 }
 
-// The head: how many entries, who we are, how much of a store the entries take.
+// The head: how many entries, who we are, how much of a store the entries take; no acknowledgement waits, no tick was,
+// and 65,535 may pass before a timer can run out.
 fn put_head(node: &mut [u64], table: &[u8])
     ensures { λ _. ⌜ now (node .exit) ≡ headed (now (table .entry)) (now (node .entry)) ⌝ }
 {
@@ -64,6 +65,10 @@ fn put_head(node: &mut [u64], table: &[u8])
         own.0 as u64,
         table::protocol(table) as u64,
         table::store_need(table) as u64,
+        0,
+        0,
+        0,
+        65535,
     ];
     put_words(node, 0, &words)
 }

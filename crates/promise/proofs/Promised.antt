@@ -16,6 +16,9 @@ use Rattle.table.specs.declared.Entry.{Entry}
 use Rattle.table.specs.declared.Kind.the-variants.{Sends, Receives}
 use Rattle.table.proofs.Good.{good-entry}
 use Rattle.ends.specs.Lent.{Lent}
+use Rattle.ends.specs.declared.State.{State}
+use Rattle.ends.specs.declared.State.the-variants.{Closed, Enabled, Open, Failing}
+use Rattle.ends.specs.Ends.{endOf}
 use Rattle.ends.specs.States.{isSends}
 use Rattle.opening.specs.Setup.{setupAfter}
 use Rattle.good.specs.Calls.{Memory, kept, answer, after}
@@ -23,13 +26,13 @@ use Rattle.good.specs.Calls as nodes
 use Rattle.machine.specs.Calls.{Call, opens, closes, counts, sends, urges, arrives, hands-out, ticks, Fed}
 use Rattle.machine.specs.Machine.{End, Machine, first, begun, step, SetUp}
 use Rattle.machine.specs.Sound.{Sound}
-use Rattle.refinement.specs.Standing.{endFor, endAt, ackItem, waitingFor, Stands, Follows, SetupAnswers, Begins, Refines, StandsSound}
+use Rattle.refinement.specs.Standing.{Reading, stateFor, readAt, endFor, endAt, ackItem, waitingFor, Stands, Follows, SetupAnswers, Begins, Refines, StandsSound}
 use Rattle.machine.proofs.Listed.{elem-listed}
 use Rattle.refinement.proofs.SetupStands.{setup-answers, begins}
 use Rattle.refinement.proofs.Refining.{refines}
 use Rattle.refinement.proofs.Sounding.{stands-sound}
 use Rattle.promise.specs.Promise.{Demand3}
-use Rattle.promise.specs.Seen.{Event}
+use Rattle.promise.specs.Seen.{Event, s-state-of}
 use Rattle.promise.specs.Link.{Did, sender, receiver, owedTo, Promise}
 use Rattle.promise.specs.Nodes as nodal
 use Rattle.promise.specs.Nodes.{owedIn, NodesPromise}
@@ -196,13 +199,22 @@ module _ (t : List ℕ) (i : ℕ) (h : i < countOf t) (k : entryOf t i .kind ≡
       some-same (sym (v .there) ∙ ap (λ (y : Machine). getElem? (y .ends) i) (sym (v .stands .is))
       ∙ elem-listed (countOf t) (endAt n) i h)
 
+  -- a Reset's timer is no part of what is seen
+  seen-for : (L : Reading) (s : State) → s-state-of (stateFor L s) ≡ s-state-of s
+  seen-for L Closed = refl
+  seen-for L (Enabled d sent) = refl
+  seen-for L Open = refl
+  seen-for L (Failing n) = refl
+
   node-sends : SLaws W (nodal.sender t i)
   unfolding endFor
   node-sends =
       record {
         Views = SeesN (s-watch t i) t i h s-steps;
         first = first-node (s-watch t i) t i h s-steps;
-        agrees = λ n s v. rw (v .1 .1, end-there n (v .0) (v .1 .0)) (refl, refl, refl);
+        agrees = λ n s v.
+            rw (v .1 .1, end-there n (v .0) (v .1 .0))
+            (seen-for (readAt n) (endOf (n .node) i .state), refl, refl);
         law = node-law (s-watch t i) t i h s-steps;
       }
 

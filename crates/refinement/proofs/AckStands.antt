@@ -12,7 +12,7 @@ use lib.Seq.{getD-set-other}
 use lib.Dec.{eqb}
 use borrow.Author.Tests.{eq-eqb, ne-eqb, eqb-true, eqb-false, ltb-true}
 use Rattle.units.specs.Refusals.{pick}
-use Rattle.memory.specs.Layout.{timerAt, retriesAt, slotId}
+use Rattle.memory.specs.Layout.{timerAt, retriesAt, slotId, quietAt}
 use Rattle.waiting.specs.Queues.{unlinked}
 use Rattle.order.specs.Order.{acksIn}
 use Rattle.window.specs.Numbers.{byteOf}
@@ -33,6 +33,8 @@ use Rattle.ends.specs.declared.EndPoint.{EndPoint}
 use Rattle.ends.specs.declared.answers.Arrived.{Arrived}
 use Rattle.ends.specs.declared.answers.Arrived.the-variants.{Ignored, Acknowledged, Opened}
 use Rattle.slots.specs.Slots.{cell, past, timerIn, retriesIn}
+use Rattle.timing.specs.Timing.{clockIn, roused}
+use Rattle.timing.proofs.Falling.{left-zero}
 use Rattle.acking.specs.Acking as memory
 use Rattle.acking.specs.Acking.{ackAnswer, ackNode, ackBook, ackAfter, stopped}
 use Rattle.good.specs.Good as good
@@ -50,13 +52,14 @@ use Rattle.good.proofs.Senders.{Timed, timed-set, gone-other}
 use Rattle.good.proofs.AckRuns.{Passes, Counts, counts-says, passes, passed-le, open-book}
 use Rattle.good.proofs.AckKeeps.{Acked, ignored, opened, counted, failed, ack-keeps, ack-ends}
 use Rattle.good.proofs.Payloads.{unaltered}
+use Rattle.good.proofs.Clocked.{clocked-set, clocked-acks}
 use Rattle.machine.specs.Machine as machine
 use Rattle.machine.specs.Machine.{Number, End, Item, Sort, acks, resets, urgents, resends, datas, Machine, Outcome}
 use Rattle.machine.specs.Machine.{listed, stated, passing, timed, ackedRun, running, turned, silent, notAgain, without}
 use Rattle.machine.specs.Machine.{anew, answers, acking}
-use Rattle.refinement.specs.Standing.{numberFor, endFor, endAt, ackItem, plainItem, slotItem, waitingFor, standsFor, Stands}
+use Rattle.refinement.specs.Standing.{Reading, readAt, stateFor, numberFor, endFor, endAt, ackItem, plainItem, slotItem, waitingFor, standsFor, Stands}
 use Rattle.refinement.proofs.Listing.{map-ext}
-use Rattle.refinement.proofs.Elsewhere.{no-places, Leaves, leaves, still, turned-stands}
+use Rattle.refinement.proofs.Elsewhere.{no-places, Leaves, leaves, end-at, still, turned-stands}
 use Rattle.refinement.proofs.Waiting.{silent-steady, windows-other, lists-are, waits-still, without-map, sender-acks, silent-stands}
 use Rattle.refinement.proofs.Following.{low-at, stated-at, stated-then, item-for, item-at}
 use Rattle.refinement.proofs.Passing.{start-past}
@@ -95,6 +98,12 @@ module _ (t : List ℕ) (n : Memory) (l : Lists) (g : Good t (n .node) (n .book)
 
   abbrev x : Lent
   x = lent n block
+
+  abbrev L : Reading
+  L = readAt n
+
+  zero-left : (d : ℕ) → eqb (L d) 0 ≡ eqb d 0
+  zero-left = left-zero (clockIn (n .node))
 
   abbrev e : EndPoint
   e = endOf (n .node) i
@@ -172,10 +181,10 @@ module _ (t : List ℕ) (n : Memory) (l : Lists) (g : Good t (n .node) (n .book)
     module _ {b : List ℕ} (S : Sending (n .book) i (e .run) (e .entry .largest)) (T : Timed (n .book) b i w at 0)
         (R : (k : ℕ) → k < 2048 → retriesIn b k ≡ retriesIn (n .book) k) where
       acked-run-is : ackedRun noted ≡ p
-      acked-run-is = run-is (n .store) (n .book) i e s S window b low C T R
+      acked-run-is = run-is L zero-left (n .store) (n .book) i e s S window b low C T R
 
-      numbers-left : (z : State) → drop p noted ≡ listed (e .run .taken - p) (numberFor (n .store) b i (turnedTo e z acked))
-      numbers-left = numbers-then (n .store) (n .book) i e s S window b low C T R
+      numbers-left : (z : State) → drop p noted ≡ listed (e .run .taken - p) (numberFor L (n .store) b i (turnedTo e z acked))
+      numbers-left = numbers-then L zero-left (n .store) (n .book) i e s S window b low C T R
 
       confirmed-is : (e .run .confirmed .0 + p) % 4294967296 ≡ e .run .confirmed .0 + p
       confirmed-is =
@@ -183,11 +192,12 @@ module _ (t : List ℕ) (n : Memory) (l : Lists) (g : Good t (n .node) (n .book)
           let y = run-fits (n .node) i .accepted in
           mod-eq-of-lt (omega (arith, S .counted, S .handed))
 
-      E-then : (z z′ : State) → endOf (now z .node) i ≡ turnedTo e z′ acked → now z .book ≡ b → endAt (kept (now z)) i ≡ stated z′ passed
+      E-then : (z z′ : State) → e .state ≡ z → endOf (now z .node) i ≡ turnedTo e z′ acked → now z .book ≡ b
+          → endAt (kept (now z)) i ≡ stated (stateFor L z′) passed
       unfolding endFor memory.ackedRun
-      E-then z z′ end book =
-          ap (endFor (n .store) (now z .book) i) end
-          ∙ ap (λ (b : List ℕ). endFor (n .store) b i (turnedTo e z′ acked)) book
+      E-then z z′ q end book =
+          end-at (left z q) end
+          ∙ ap (λ (b : List ℕ). endFor L (n .store) b i (turnedTo e z′ acked)) book
           ∙ rw (
             acked-run-is,
             numbers-left z′,
@@ -257,10 +267,10 @@ module _ (t : List ℕ) (n : Memory) (l : Lists) (g : Good t (n .node) (n .book)
           sides : (z : Bool) → eqb (timerIn (n .book) c₀) 0 ≡ z → Book (set (pick z (unlinked (n .book) x₀) (n .book)) (timerAt c₀) 0)
           sides true z =
               let m = waits-if (eqb-true (timerIn (n .book) c₀) 0 z) in
-              let L = unlink-lines (n .book) l (g .lines) 2 x₀ (omega arith) m in
+              let U = unlink-lines (n .book) l (g .lines) 2 x₀ (omega arith) m in
               record {
                 lists = less l x₀;
-                lines = set-lines (unlinked (n .book) x₀) (less l x₀) L (timerAt c₀) 0 (omega arith);
+                lines = set-lines (unlinked (n .book) x₀) (less l x₀) U (timerAt c₀) 0 (omega arith);
                 resent = refl;
                 others = λ r h d. gone-other (n .book) l (g .lines) 2 x₀ (omega arith) m r h d;
                 retries =
@@ -368,7 +378,7 @@ module _ (t : List ℕ) (n : Memory) (l : Lists) (g : Good t (n .node) (n .book)
       open-counts = (
         acked-run-is (O .sending) timer (book .retries),
         turned-stands g room li K
-            (E-then (O .sending) timer (book .retries) Open Open end book-is ∙ ap (λ (z : State). stated z passed) (sym q)) waiting,
+            (E-then (O .sending) timer (book .retries) Open Open q end book-is ∙ ap (λ (z : State). stated (stateFor L z) passed) (sym q)) waiting,
       )
 
     -- ---- Failing
@@ -411,9 +421,12 @@ module _ (t : List ℕ) (n : Memory) (l : Lists) (g : Good t (n .node) (n .book)
       fewer-is =
           let F′ = stated-then (left (Failing m) q) li true kind (Failing fewer) end-f in
           F′ .timers ∙ ap (λ (b : List ℕ). good.running b i (e-f .run .window) (e-f .run .handed)) book-f
-          ∙ sym (running-is (n .store) b-f i e-f (e .run .taken - p) (F′ .sending .handed))
+          ∙ sym (running-is L zero-left (n .store) b-f i e-f (e .run .taken - p) (F′ .sending .handed))
           ∙ ap running (sym (numbers-left (F .sending) timer-f retries-f (Failing fewer)))
           ∙ ap (λ (p : ℕ). running (drop p noted)) (sym run-f)
+
+      abbrev saved-f : List ℕ
+      saved-f = saved (n .node) i (Failing fewer) acked
 
       failing-counts : (ackedRun noted ≡ p)
           × Stands t (kept (now (Failing m))) (turned i (stated (Failing (running (passed .numbers))) passed) M)
@@ -421,10 +434,11 @@ module _ (t : List ℕ) (n : Memory) (l : Lists) (g : Good t (n .node) (n .book)
       failing-counts = (
         run-f,
         turned-stands g room li (left (Failing m) q)
-            (E-then (F .sending) timer-f retries-f (Failing m) (Failing fewer) end-f book-f
+            (E-then (F .sending) timer-f retries-f (Failing m) (Failing fewer) q end-f book-f
             ∙ ap (λ (j : ℕ). stated (Failing j) passed) fewer-is)
             (waits-still (left (Failing m) q) (silent-steady (F .silent))
-            (node-acks (Failing m) (Failing fewer) (rw c)) book-f
+            (rw c (clocked-acks saved-f (roused saved-f) (clocked-set saved-f quietAt 0 (omega arith) (omega arith))
+            ∙ saved-acks (n .node) i (Failing fewer) acked .1)) book-f
             (set-lines (n .book) l (g .lines) (timerAt c₀) 0 (omega arith))),
       )
 
@@ -463,7 +477,7 @@ module _ (t : List ℕ) (n : Memory) (l : Lists) (g : Good t (n .node) (n .book)
 
     E-o : endAt (kept now-o) i ≡ machine.counted 0 0 (anew Open E)
     unfolding endFor memory.openedRun listed
-    E-o = ap (endFor (n .store) (now-o .book) i) end-o ∙ rw (no-places (n .store) (now-o .book) i e-o kind)
+    E-o = end-at K-o end-o ∙ rw (no-places (n .store) (now-o .book) i e-o kind)
 
     opened-stands : Stands t (kept now-o) (silent i (turned i (machine.counted 0 0 (anew Open E)) M))
     opened-stands =
@@ -478,7 +492,7 @@ module _ (t : List ℕ) (n : Memory) (l : Lists) (g : Good t (n .node) (n .book)
       → (memory.counts (e .run) s ≡ false → now z ≡ x)
       → (memory.counts (e .run) s ≡ true → (ackedRun noted ≡ p) × Stands t (kept (now z)) (f passed))
       → Takes t (machine.acked M block E s f) (pick (memory.counts (e .run) s) (Acknowledged p) Ignored) (now z)
-  counts-as z f S stays counts = rw (← counts-is (n .store) (n .book) i e s S) (sides (memory.counts (e .run) s) refl)
+  counts-as z f S stays counts = rw (← counts-is L zero-left (n .store) (n .book) i e s S) (sides (memory.counts (e .run) s) refl)
     where
       sides : (y : Bool) → memory.counts (e .run) s ≡ y
           → Takes t (pick y (answers (0 ∷ 1 ∷ ackedRun noted ∷ []) block (f passed)) (answers (0 ∷ 0 ∷ []) block M))
@@ -487,13 +501,13 @@ module _ (t : List ℕ) (n : Memory) (l : Lists) (g : Good t (n .node) (n .book)
           record { numbers = ap (λ (k : ℕ). 0 ∷ 1 ∷ k ∷ []) (sym (counts c .0)); out = refl; stands = counts c .1 }
       sides false c = rw (stays c) same
 
-  takes-in : (z : State) → e .state ≡ z → Takes t (acking M block i E s z) (ackAnswer e z s) (now z)
+  takes-in : (z : State) → e .state ≡ z → Takes t (acking M block i E s (stateFor L z)) (ackAnswer e z s) (now z)
   unfolding acking ackAnswer ackNode ackBook
   takes-in Closed q = same
   takes-in (Enabled timer₀ sent) q = sides (sent && eqb s 0) refl
     where
       sides : (z : Bool) → (sent && eqb s 0) ≡ z
-          → Takes t (acking M block i E s (Enabled timer₀ sent)) (ackAnswer e (Enabled timer₀ sent) s) (now (Enabled timer₀ sent))
+          → Takes t (acking M block i E s (Enabled (L timer₀) sent)) (ackAnswer e (Enabled timer₀ sent) s) (now (Enabled timer₀ sent))
       sides true c = rw c (record { numbers = refl; out = refl; stands = rw c at (opened-stands timer₀ sent q c) })
       sides false c = rw c same
   takes-in Open q =

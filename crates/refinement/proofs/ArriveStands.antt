@@ -52,9 +52,9 @@ use Rattle.good.proofs.Arrivals.{payload-size, header-byte}
 use Rattle.good.proofs.NoCorners.{no-corner}
 use Rattle.machine.specs.Machine as machine
 use Rattle.machine.specs.Machine.{End, acks, Machine, Outcome, answers, judged, found, placeOf, reading, arriving, taken, step}
-use Rattle.refinement.specs.Standing.{endFor, endAt, ackItem, waitingFor, standsFor, Follows}
+use Rattle.refinement.specs.Standing.{readAt, endFor, endAt, ackItem, waitingFor, standsFor, Follows}
 use Rattle.machine.proofs.Listed.{length-listed, getD-listed, elem-listed, elem-none}
-use Rattle.refinement.proofs.Following.{size-is}
+use Rattle.refinement.proofs.Following.{closed-for, open-for, size-is}
 use Rattle.refinement.proofs.AckStands.{Takes, ack-takes}
 use Rattle.refinement.proofs.ReceiveStands.{urgent-takes, reset-takes, data-takes}
 
@@ -180,7 +180,7 @@ module _ (t : List ℕ) (n : Memory) (l : Lists) (g : Good t (n .node) (n .book)
     -- the tests are the same: how many acknowledgements wait, the store that is needed, the window in force
     same : verdict (machine.entryTests M (endAt n i) (h .kind) (h .length) (length block)) ≡ entryVerdict x i h
     unfolding endFor
-    same = rw (waiting-is, lt-leb (countIn (n .node)) i li, g .tabled .need, size-is g li)
+    same = rw (closed-for (readAt n) (e .state), open-for (readAt n) (e .state), waiting-is, lt-leb (countIn (n .node)) i li, g .tabled .need, size-is g li)
 
     passed : entryVerdict x i h ≡ Passed → TakesAs (h .kind)
     passed v =

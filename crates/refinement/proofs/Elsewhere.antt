@@ -23,6 +23,7 @@ use Rattle.ends.specs.Lent.{Lent}
 use Rattle.ends.specs.declared.State.{State}
 use Rattle.ends.specs.declared.State.the-variants.{Closed, Enabled, Open, Failing}
 use Rattle.ends.specs.declared.EndPoint.{EndPoint}
+use Rattle.timing.specs.Timing.{leftOf}
 use Rattle.slots.specs.Slots.{cell, past, spot, timerIn, retriesIn}
 use Rattle.handing.specs.Handing.{urgentPayload}
 use Rattle.good.specs.Good.{Lists, Stated, Good}
@@ -33,7 +34,7 @@ use Rattle.good.proofs.Framing.{Within, Apart, entry-low, timer-owner, retries-
 use Rattle.good.proofs.Stores.{urgent-low, areas-stay, read-own, slot-room}
 use Rattle.good.proofs.Payloads.{s-filled, r-filled, Stored, unaltered, put, stored-long, payload-stays}
 use Rattle.machine.specs.Machine.{End, Item, Sort, node, listed, turned}
-use Rattle.refinement.specs.Standing.{payloadFor, numberFor, placeFor, endFor, endAt, waitingFor, standsFor, Stands}
+use Rattle.refinement.specs.Standing.{Reading, readAt, payloadFor, numberFor, placeFor, endFor, endAt, waitingFor, standsFor, Stands}
 use Rattle.machine.proofs.Listed.{listed-ext, listed-replicate, set-listed}
 
 -- ---- an end point stands for the same, in another book and store
@@ -43,7 +44,7 @@ both-true : (a b : Bool) → (a && b) ≡ true → (a ≡ true) × (b ≡ true)
 both-true true b h = (refl, h)
 both-true false b h = absurd (let z : _≡_ {A = ℕ} 0 1 = cc in omega arith)
 
-module _ (st st′ b b′ : List ℕ) (i : ℕ) (e : EndPoint) where
+module _ (L : Reading) (st st′ b b′ : List ℕ) (i : ℕ) (e : EndPoint) where
   abbrev Same : (List ℕ → ℕ → ℕ) → ℕ → Type 0
   Same read k = read b′ (cell i (e .run .window) (past (e .run .window) k)) ≡ read b (cell i (e .run .window) (past (e .run .window) k))
 
@@ -60,7 +61,7 @@ module _ (st st′ b b′ : List ℕ) (i : ℕ) (e : EndPoint) where
       sides false h = refl
 
   pub numbers-same : (k : ℕ) → payloadFor st′ b′ i e k ≡ payloadFor st b i e k → Same retriesIn k → Same timerIn k
-      → numberFor st′ b′ i e k ≡ numberFor st b i e k
+      → numberFor L st′ b′ i e k ≡ numberFor L st b i e k
   numbers-same k p r t = rw (p, r, t)
 
   abbrev urgentIn : List ℕ → Option (List ℕ)
@@ -75,28 +76,28 @@ module _ (st st′ b b′ : List ℕ) (i : ℕ) (e : EndPoint) where
       sides true h = rw (s h)
       sides false h = rw (eq-eqb (e .run .urgent) 0 (r h))
 
-  pub end-same : ((k : ℕ) → k < e .run .taken → numberFor st′ b′ i e k ≡ numberFor st b i e k)
+  pub end-same : ((k : ℕ) → k < e .run .taken → numberFor L st′ b′ i e k ≡ numberFor L st b i e k)
       → ((k : ℕ) → isSends (e .entry .kind) ≡ false → held (e .run .window) k ≡ true → payloadFor st′ b′ i e k ≡ payloadFor st b i e k)
       → (isSends (e .entry .kind) ≡ true → urgentPayload st′ e ≡ urgentPayload st e)
       → (isSends (e .entry .kind) ≡ false → e .run .urgent ≡ 0)
-      → endFor st′ b′ i e ≡ endFor st b i e
+      → endFor L st′ b′ i e ≡ endFor L st b i e
   unfolding endFor
   end-same ns ps us ur =
       rw (
-        listed-ext (e .run .taken) (numberFor st′ b′ i e) (numberFor st b i e) ns,
+        listed-ext (e .run .taken) (numberFor L st′ b′ i e) (numberFor L st b i e) ns,
         listed-ext (e .entry .window) (placeFor st′ b′ i e) (placeFor st b i e) (λ k h. places-same ps k),
         urgent-same us ur,
       )
 
 -- where only links alter
-pub cells-same : (st b b′ : List ℕ) (i : ℕ) (e : EndPoint) → ((k : ℕ) → 4224 ≤ k → getD b′ k 0 ≡ getD b k 0)
-    → endFor st b′ i e ≡ endFor st b i e
+pub cells-same : (L : Reading) (st b b′ : List ℕ) (i : ℕ) (e : EndPoint) → ((k : ℕ) → 4224 ≤ k → getD b′ k 0 ≡ getD b k 0)
+    → endFor L st b′ i e ≡ endFor L st b i e
 unfolding endFor
-cells-same st b b′ i e c =
+cells-same L st b b′ i e c =
     rw (
-      listed-ext (e .run .taken) (numberFor st b′ i e) (numberFor st b i e)
-          (λ k h. numbers-same st st b b′ i e k (payload k) (c (retriesAt (at k)) (omega arith)) (c (timerAt (at k)) (omega arith))),
-      listed-ext (e .entry .window) (placeFor st b′ i e) (placeFor st b i e) (λ k h. places-same st st b b′ i e (λ j s l. payload j) k),
+      listed-ext (e .run .taken) (numberFor L st b′ i e) (numberFor L st b i e)
+          (λ k h. numbers-same L st st b b′ i e k (payload k) (c (retriesAt (at k)) (omega arith)) (c (timerAt (at k)) (omega arith))),
+      listed-ext (e .entry .window) (placeFor st b′ i e) (placeFor st b i e) (λ k h. places-same L st st b b′ i e (λ j s l. payload j) k),
     )
   where
     at : ℕ → ℕ
@@ -164,7 +165,7 @@ put-read {t} n {l} g room {i} li r p low most =
 -- ---- elsewhere: a call on entry j, seen from entry i
 
 module _ (t : List ℕ) (n m : Memory) (l l′ : Lists) (g : Good t (n .node) (n .book) l)
-    (room : storeOf t ≤ length (n .store)) (i j : ℕ) (li : i < countIn (n .node)) (d : i ≢ j)
+    (room : storeOf t ≤ length (n .store)) (L : Reading) (i j : ℕ) (li : i < countIn (n .node)) (d : i ≢ j)
     (a : Apart j (n .node) (m .node)) (v : Within j (n .book) (m .book) l l′) (st : Stored t n (m .store) j) where
   abbrev was : EndPoint
   was = endOf (n .node) i
@@ -175,12 +176,12 @@ module _ (t : List ℕ) (n m : Memory) (l l′ : Lists) (g : Good t (n .node) (n
   window : GoodWindow (was .run .window)
   window = g .entered i li .window
 
-  retries-stay : (k : ℕ) → Same (n .store) (m .store) (n .book) (m .book) i was retriesIn k
+  retries-stay : (k : ℕ) → Same L (n .store) (m .store) (n .book) (m .book) i was retriesIn k
   retries-stay k =
       v .cells (retriesAt (cell i (was .run .window) (past (was .run .window) k))) (omega arith)
       (λ c. d (sym (retries-owner i low (was .run .window) window (past (was .run .window) k)) ∙ c))
 
-  timer-stays : (k : ℕ) → Same (n .store) (m .store) (n .book) (m .book) i was timerIn k
+  timer-stays : (k : ℕ) → Same L (n .store) (m .store) (n .book) (m .book) i was timerIn k
   timer-stays k =
       v .cells (timerAt (cell i (was .run .window) (past (was .run .window) k))) (omega arith)
       (λ c. d (sym (timer-owner i low (was .run .window) window (past (was .run .window) k)) ∙ c))
@@ -207,11 +208,11 @@ module _ (t : List ℕ) (n m : Memory) (l l′ : Lists) (g : Good t (n .node) (n
       sides true s = payload-there k (payload-stays t n m l l′ g room i j li d a v st k (s-filled t (n .node) (n .book) l g i li s k h))
       sides false s = absurd (omega (arith, none-taken g li s))
 
-  pub elsewhere : endAt m i ≡ endAt n i
+  pub elsewhere : endFor L (m .store) (m .book) i (endOf (m .node) i) ≡ endFor L (n .store) (n .book) i was
   elsewhere =
-      ap (endFor (m .store) (m .book) i) (a .others i d)
-      ∙ end-same (n .store) (m .store) (n .book) (m .book) i was
-      (λ k h. numbers-same (n .store) (m .store) (n .book) (m .book) i was k (taken-stays k h) (retries-stay k) (timer-stays k))
+      ap (endFor L (m .store) (m .book) i) (a .others i d)
+      ∙ end-same L (n .store) (m .store) (n .book) (m .book) i was
+      (λ k h. numbers-same L (n .store) (m .store) (n .book) (m .book) i was k (taken-stays k h) (retries-stay k) (timer-stays k))
       (λ k s h. payload-there k (payload-stays t n m l l′ g room i j li d a v st k (r-filled t (n .node) (n .book) l g i li s k h)))
       urgent-stays (no-urgent g li)
 
@@ -229,6 +230,13 @@ pub leaves : {t : List ℕ} {n : Memory} {store out : List ℕ} {y : Lent} {l : 
     → Kept t (record { node = n .node; book = n .book; store = store; out = out }) y l i → (st : List ℕ) → Stored t n st i
     → Leaves t n (record { node = y .node; book = y .book; store = st }) l i
 leaves k st s = record { lists = k .lists; good = k .good; apart = k .apart; within = k .within; stored = s }
+
+-- entry i is read as it was: no tick has passed
+pub end-at : {t : List ℕ} {n m : Memory} {l : Lists} {i : ℕ} → Leaves t n m l i → {e : EndPoint} → endOf (m .node) i ≡ e
+    → endAt m i ≡ endFor (readAt n) (m .store) (m .book) i e
+end-at {n = n} {m = m} {i = i} k end =
+    ap (λ (c : ℕ). endFor (leftOf c) (m .store) (m .book) i (endOf (m .node) i)) (k .apart .clock)
+    ∙ ap (endFor (readAt n) (m .store) (m .book) i) end
 
 -- nothing was altered
 pub still : {t : List ℕ} {n : Memory} {l : Lists} → Good t (n .node) (n .book) l → storeOf t ≤ length (n .store)
@@ -258,4 +266,6 @@ turned-stands {t} {n} {l} g room {i} li {m} k {E} here waits =
     }
   where
     away : (j : ℕ) → j < countOf t → j ≢ i → endAt m j ≡ endAt n j
-    away j h d = elsewhere t n m l (k .lists) g room j i (omega (arith, g .tabled .count)) d (k .apart) (k .within) (k .stored)
+    away j h d =
+        ap (λ (c : ℕ). endFor (leftOf c) (m .store) (m .book) j (endOf (m .node) j)) (k .apart .clock)
+        ∙ elsewhere t n m l (k .lists) g room (readAt n) j i (omega (arith, g .tabled .count)) d (k .apart) (k .within) (k .stored)

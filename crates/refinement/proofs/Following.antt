@@ -26,8 +26,9 @@ use Rattle.ends.specs.Heads.{countIn}
 use Rattle.ends.specs.Runs as runs
 use Rattle.ends.specs.Answers.{answerOf}
 use Rattle.ends.specs.declared.State.{State}
+use Rattle.ends.specs.declared.State.the-variants.{Closed, Enabled, Open, Failing}
 use Rattle.ends.specs.declared.EndPoint.{EndPoint}
-use Rattle.ends.specs.States.{isSends}
+use Rattle.ends.specs.States.{isSends, isClosed, isOpen}
 use Rattle.ends.specs.declared.Run.{Run}
 use Rattle.slots.specs.Slots.{slotFor, past}
 use Rattle.handing.specs.Handing.{slotIn}
@@ -40,7 +41,7 @@ use Rattle.good.proofs.Known.{stated-as}
 use Rattle.good.proofs.Offsets.{id-owner, number-at}
 use Rattle.good.proofs.Turns.{turnedTo}
 use Rattle.machine.specs.Machine.{End, Machine, Outcome, listed, anew, answers, judged, onEntry, step}
-use Rattle.refinement.specs.Standing.{endFor, endAt, slotItem, standsFor, Stands, Follows}
+use Rattle.refinement.specs.Standing.{Reading, stateFor, endFor, endAt, slotItem, standsFor, Stands, Follows}
 use Rattle.machine.proofs.Listed.{elem-listed, elem-none}
 use Rattle.refinement.proofs.Elsewhere.{none-held, Leaves, still}
 
@@ -79,6 +80,20 @@ follows {t} {n} {l} g room i {c} tests o f steps same refused passed = sides (de
         refuses NoEntry (rw (le-leb (countIn (n .node)) i (omega arith)))
         (steps ∙ rw (elem-none (countOf t) (endAt n) i (omega (arith, g .tabled .count))))
 
+-- ---- a state, however its timer is read
+
+pub closed-for : (L : Reading) (s : State) → isClosed (stateFor L s) ≡ isClosed s
+closed-for L Closed = refl
+closed-for L (Enabled d sent) = refl
+closed-for L Open = refl
+closed-for L (Failing n) = refl
+
+pub open-for : (L : Reading) (s : State) → isOpen (stateFor L s) ≡ isOpen s
+open-for L Closed = refl
+open-for L (Enabled d sent) = refl
+open-for L Open = refl
+open-for L (Failing n) = refl
+
 -- ---- the entry then, as Good states it
 
 pub stated-then : {t : List ℕ} {n m : Memory} {l : Lists} {i : ℕ} (k : Leaves t n m l i) → i < countIn (n .node)
@@ -91,10 +106,10 @@ stated-then {n = n} {m = m} {i = i} k li z kind s {r} e =
 
 -- ---- a window begun anew
 
-pub begun-end : (st b st₀ b₀ : List ℕ) (i : ℕ) (e : EndPoint) (s : State)
-    → endFor st b i (turnedTo e s (runs.anew (e .run))) ≡ anew s (endFor st₀ b₀ i e)
+pub begun-end : (L L₀ : Reading) (st b st₀ b₀ : List ℕ) (i : ℕ) (e : EndPoint) (s : State)
+    → endFor L st b i (turnedTo e s (runs.anew (e .run))) ≡ anew (stateFor L s) (endFor L₀ st₀ b₀ i e)
 unfolding endFor runs.anew listed
-begun-end st b st₀ b₀ i e s = rw (none-held st b i (turnedTo e s (runs.anew (e .run))) (new-held (e .run .window .size)))
+begun-end L L₀ st b st₀ b₀ i e s = rw (none-held st b i (turnedTo e s (runs.anew (e .run))) (new-held (e .run .window .size)))
 
 -- ---- a payload that waits
 

@@ -9,7 +9,7 @@ use native.Mathlib.Decide.{decLt}
 use native.Mathlib.Omega.{arith}
 use lib.ListN.{length, getD, set, drop}
 use lib.Seq.{sets, getD-set-other}
-use lib.Dec.{leb, ltb}
+use lib.Dec.{leb, ltb, eqb}
 use borrow.Author.Tests.{ne-eqb, leb-false, ltb-false, le-ltb, lt-ltb}
 use Rattle.units.specs.Refusals.{pick}
 use Rattle.units.specs.declared.refusals.Refusal.the-variants.{TooShort}
@@ -30,14 +30,17 @@ use Rattle.frame.specs.Types.{typeNumber}
 use Rattle.frame.specs.declared.FrameType.{FrameType}
 use Rattle.frame.specs.declared.FrameType.the-variants as type
 use Rattle.ends.specs.Ends.{endOf}
-use Rattle.ends.specs.Heads.{needIn}
+use Rattle.ends.specs.Heads.{countIn, needIn}
 use Rattle.ends.specs.Runs.{urgentGone}
+use Rattle.ends.specs.States.{isSends}
 use Rattle.ends.specs.Lent.{Lent}
 use Rattle.ends.specs.declared.State.{State}
 use Rattle.ends.specs.declared.State.the-variants.{Enabled, Open}
 use Rattle.ends.specs.declared.EndPoint.{EndPoint}
 use Rattle.ends.specs.declared.answers.HandedOut.the-variants as handed
 use Rattle.slots.specs.Slots.{cell, past, numberIn, retriesIn}
+use Rattle.timing.specs.Timing.{clockIn, later, leftOf}
+use Rattle.timing.proofs.Falling.{left-zero, left-starts}
 use Rattle.handing.specs.Handing.{nextOut, cellOf, slotEntry, slotIn, fieldsTo, ackFrame, resetFrame, slotPayload}
 use Rattle.handing.specs.Handing.{urgentFrame, dataFrame, frameOut, fitted, handAnswer, handedRun, outNode, outBook}
 use Rattle.handing.specs.Handing.{handedOut, handAfter, urgentPayload}
@@ -48,9 +51,9 @@ use Rattle.good.specs.Calls.{Memory, lent, kept, answer, after}
 use Rattle.machine.specs.Calls.{Call, hands-out}
 use Rattle.good.proofs.Lined.{less, unlink-lines, unlink-cells, set-lines}
 use Rattle.good.proofs.Offsets.{reset-owner, urgent-owner, id-owner}
-use Rattle.good.proofs.Framing.{cell-low}
+use Rattle.good.proofs.Framing.{Apart, cell-low}
 use Rattle.good.proofs.Turns.{turnedTo}
-use Rattle.good.proofs.Senders.{Timed, timed-set, timed-after}
+use Rattle.good.proofs.Senders.{Timed, timed-set, timed-after, sender-timeout, timeout-fits}
 use Rattle.good.proofs.Handed as was
 use Rattle.good.proofs.Handed.{Alone, AckOut, ResetOut, UrgentOut, SlotOut, ResendOut, DataOut, Handed, HandKept}
 use Rattle.good.proofs.HandFirst.{Says, next-says, First, first-of, first-in}
@@ -60,7 +63,7 @@ use Rattle.machine.specs.Machine as machine
 use Rattle.machine.specs.Machine.{Number, Item, Sort, acks, resets, urgents, resends, datas, Machine, Outcome, stated}
 use Rattle.machine.specs.Machine.{urging, numberAt, turned, rank, only, waitingAs, answers, unless, frameOf, goingOut}
 use Rattle.machine.specs.Machine.{inOrder, handing, step}
-use Rattle.refinement.specs.Standing.{endFor, endAt, ackItem, slotItem, waitingFor, standsFor, Follows}
+use Rattle.refinement.specs.Standing.{Reading, readAt, endFor, endAt, ackItem, slotItem, waitingFor, standsFor, Follows}
 use Rattle.machine.proofs.Listed.{elem-listed}
 use Rattle.refinement.proofs.Elsewhere.{cells-same, Leaves, still, turned-stands}
 use Rattle.refinement.proofs.Waiting.{itemOf, waiting-is, queue-of, window-steady, waits-only, waits-less, lists-are}
@@ -104,6 +107,22 @@ module _ (t : List ℕ) (n : Memory) (l : Lists) (g : Good t (n .node) (n .book)
   abbrev M : Machine
   M = standsFor t n l
 
+  abbrev L : Reading
+  L = readAt n
+
+  zero-left : (d : ℕ) → eqb (L d) 0 ≡ eqb d 0
+  zero-left = left-zero (clockIn (n .node))
+
+  -- the number of the tick at which a timer of entry i that starts now runs out
+  abbrev over : ℕ → ℕ
+  over i = later (clockIn (n .node)) (endOf (n .node) i .entry .timeout)
+
+  -- T is left of it
+  starts : (i : ℕ) → i < countIn (n .node) → isSends (endOf (n .node) i .entry .kind) ≡ true → L (over i) ≡ endOf (n .node) i .entry .timeout
+  starts i li s =
+      left-starts (clockIn (n .node)) (endOf (n .node) i .entry .timeout) (omega arith) (sender-timeout t (n .node) (n .book) l g i li s)
+      (omega (arith, timeout-fits (n .node) i))
+
   -- lent a buffer that the frame fits
   abbrev X : Next → Lent
   X d = lent n (frameOut (lent n []) d)
@@ -139,6 +158,12 @@ module _ (t : List ℕ) (n : Memory) (l : Lists) (g : Good t (n .node) (n .book)
 
     knows : OutAs (X d) (Y d) l (keeps .lists) d
     knows = out-as (X d) (Y d) l (keeps .lists) d (length (frameOut (lent n []) d)) is fits (keeps .what)
+
+    -- its end then, read as it was: no tick has passed
+    end-out : {i : ℕ} → Apart i (n .node) (Y d .node) → {e : EndPoint} → endOf (Y d .node) i ≡ e
+        → endAt (kept (Y d)) i ≡ endFor L (n .store) (Y d .book) i e
+    end-out {i} a end =
+        ap (λ (c : ℕ). endFor (leftOf c) (n .store) (Y d .book) i (endOf (Y d .node) i)) (a .clock) ∙ ap (endFor L (n .store) (Y d .book) i) end
 
     says : Says (n .node) (n .book) d
     says = subst (Says (n .node) (n .book)) is (next-says (n .node) (n .book))
@@ -205,8 +230,8 @@ module _ (t : List ℕ) (n : Memory) (l : Lists) (g : Good t (n .node) (n .book)
               λ buffer. ap (λ (z : Ack). frameBytes
               (fieldsTo (n .node) (endOf (n .node) (z .entry) .entry) type.Acknowledge (z .seq .0)) []) (ack .1)
               ∙ fields-are i type.Acknowledge (ackOf (ack .0) .seq .0) [];
-          end = ap (endFor (n .store) (Y (next.Ack a) .book) i) (O .ends i)
-              ∙ ap (λ (b : List ℕ). endFor (n .store) b i (endOf (n .node) i)) (O .book);
+          end = end-out (next.Ack a) is (O .alone .apart) (O .ends i)
+              ∙ ap (λ (b : List ℕ). endFor L (n .store) b i (endOf (n .node) i)) (O .book);
           waits = waits-only (O .alone .apart) (window-steady (ap (λ (e : EndPoint). e .run .window) (O .ends i)))
               acks (drop 1) (sym (ap (λ (xs : List ℕ). drop 1 (map ackItem xs)) (O .acks))) (λ z. absurd (z refl))
               (λ k h z. lists-are (O .book) (K .good .lines) (g .lines) k h);
@@ -218,9 +243,9 @@ module _ (t : List ℕ) (n : Memory) (l : Lists) (g : Good t (n .node) (n .book)
     plain-lines : Lines (unlinked (n .book) k) (less l k)
     plain-lines = unlink-lines (n .book) l (g .lines) j k hj (first-in k (l j) f)
 
-    plain-end : (i : ℕ) (e : EndPoint) → endFor (n .store) (unlinked (n .book) k) i e ≡ endFor (n .store) (n .book) i e
+    plain-end : (i : ℕ) (e : EndPoint) → endFor L (n .store) (unlinked (n .book) k) i e ≡ endFor L (n .store) (n .book) i e
     plain-end i e =
-        cells-same (n .store) (n .book) (unlinked (n .book) k) i e (unlink-cells (n .book) l (g .lines) j k hj (first-in k (l j) f))
+        cells-same L (n .store) (n .book) (unlinked (n .book) k) i e (unlink-cells (n .book) l (g .lines) j k hj (first-in k (l j) f))
 
   module _ (k : ℕ) (is : nextOut (n .node) (n .book) ≡ next.Reset k) where
     abbrev reset : ResetOut (X (next.Reset k)) (Y (next.Reset k)) l (keeps (next.Reset k) is .lists) k
@@ -236,7 +261,9 @@ module _ (t : List ℕ) (n : Memory) (l : Lists) (g : Good t (n .node) (n .book)
         (reset .acks) (plain-lines 0 k (omega arith) f) (ap (λ (e : EndPoint). e .run .window) (reset .ends))
         (λ buffer. ap (λ (z : ℕ). frameBytes (fieldsTo (n .node) (endOf (n .node) z .entry) type.Reset 0) [])
         (reset .entry) ∙ fields-are i type.Reset 0 [])
-        (ap (endFor (n .store) (unlinked (n .book) k) i) (reset .ends)
+        (end-out (next.Reset k) is (reset .alone .apart) (reset .ends)
+        ∙ ap (λ (z : ℕ). stated (Enabled z true) (endFor L (n .store) (unlinked (n .book) k) i (endOf (n .node) i)))
+        (starts i (reset .alone .known) (reset .sends))
         ∙ ap (stated (Enabled (endOf (n .node) i .entry .timeout) true)) (plain-end 0 k (omega arith) f i (endOf (n .node) i)))
 
   module _ (k : ℕ) (is : nextOut (n .node) (n .book) ≡ next.Urgent k) where
@@ -255,7 +282,7 @@ module _ (t : List ℕ) (n : Memory) (l : Lists) (g : Good t (n .node) (n .book)
         (λ buffer. ap (λ (z : ℕ). frameBytes (fieldsTo (n .node) (endOf (n .node) z .entry) type.Urgent 0)
         (urgentPayload (n .store) (endOf (n .node) z))) (urgent .entry)
         ∙ fields-are i type.Urgent 0 (urgentPayload (n .store) e) ∙ rw (ne-eqb (e .run .urgent) 0 (urgent .waits)))
-        (ap (endFor (n .store) (unlinked (n .book) k) i) (urgent .ends
+        (end-out (next.Urgent k) is (urgent .alone .apart) (urgent .ends
         ∙ ap (λ (z : State). turnedTo e z (urgentGone (e .run))) (sym (urgent .opened)))
         ∙ ap (urging none) (plain-end 1 k (omega arith) f i e))
 
@@ -270,7 +297,7 @@ module _ (t : List ℕ) (n : Memory) (l : Lists) (g : Good t (n .node) (n .book)
     w = e .run .window
 
     abbrev slot-book : List ℕ
-    slot-book = set (unlinked (n .book) k) (timerAt (cellOf k)) (endOf (n .node) (slotEntry k) .entry .timeout)
+    slot-book = set (unlinked (n .book) k) (timerAt (cellOf k)) (over (slotEntry k))
 
     low : i < 16
     low = low-at g (S .alone .known)
@@ -287,27 +314,27 @@ module _ (t : List ℕ) (n : Memory) (l : Lists) (g : Good t (n .node) (n .book)
     slot-lines : Lines slot-book (less l k)
     slot-lines =
         set-lines (unlinked (n .book) k) (less l k) (plain-lines v k hv f) (timerAt (cellOf k))
-        (endOf (n .node) (slotEntry k) .entry .timeout) (omega arith)
+        (over (slotEntry k)) (omega arith)
 
-    book-is : slot-book ≡ set (unlinked (n .book) k) (timerAt (cell i w (past w j))) (e .entry .timeout)
+    book-is : slot-book ≡ set (unlinked (n .book) k) (timerAt (cell i w (past w j))) (over i)
     book-is =
-        ap (λ (c : ℕ). set (unlinked (n .book) k) (timerAt c) (endOf (n .node) (slotEntry k) .entry .timeout)) (S .here)
-        ∙ ap (λ (z : ℕ). set (unlinked (n .book) k) (timerAt (cell i w (past w j))) (endOf (n .node) z .entry .timeout)) (S .entry)
+        ap (λ (c : ℕ). set (unlinked (n .book) k) (timerAt c) (over (slotEntry k))) (S .here)
+        ∙ ap (λ (z : ℕ). set (unlinked (n .book) k) (timerAt (cell i w (past w j))) (over z)) (S .entry)
 
     inside : j < w .size
     inside = omega (arith, S .taken, O .sending .taken)
 
-    timer : Timed (n .book) slot-book i w j (e .entry .timeout)
+    timer : Timed (n .book) slot-book i w j (over i)
     timer =
         rw book-is
-        (timed-after i low w window j inside (e .entry .timeout) (n .book) (unlinked (n .book) k)
-        (set (unlinked (n .book) k) (timerAt (cell i w (past w j))) (e .entry .timeout)) cells
-        (timed-set i low w window j inside (e .entry .timeout) (unlinked (n .book) k) (plain-lines v k hv f .long)))
+        (timed-after i low w window j inside (over i) (n .book) (unlinked (n .book) k)
+        (set (unlinked (n .book) k) (timerAt (cell i w (past w j))) (over i)) cells
+        (timed-set i low w window j inside (over i) (unlinked (n .book) k) (plain-lines v k hv f .long)))
 
     retries : (c : ℕ) → c < 2048 → retriesIn slot-book c ≡ retriesIn (n .book) c
     retries c h =
         ap (λ (b : List ℕ). retriesIn b c) book-is
-        ∙ getD-set-other (unlinked (n .book) k) (timerAt (cell i w (past w j))) (retriesAt c) (e .entry .timeout) 0
+        ∙ getD-set-other (unlinked (n .book) k) (timerAt (cell i w (past w j))) (retriesAt c) (over i) 0
         (λ z. let y = cell-low i low w window (past w j) in omega arith)
         ∙ cells (retriesAt c) (omega arith)
 
@@ -316,16 +343,16 @@ module _ (t : List ℕ) (n : Memory) (l : Lists) (g : Good t (n .node) (n .book)
 
     -- its number is handed out, the h-th or one before it
     slot-end : (h : ℕ) → j < h → held w j ≡ false → ((m : ℕ) → m ≢ j → ltb m h ≡ ltb m (e .run .handed))
-        → endFor (n .store) slot-book i (handedTo e h) ≡ machine.handed datas (endAt n i) (past w j)
+        → endFor L (n .store) slot-book i (handedTo e h) ≡ machine.handed datas (endAt n i) (past w j)
     unfolding endFor
     slot-end h out missing others =
-        timed-end (n .store) (n .book) i e window j (S .taken) (O .sending .taken) slot-book low (S .sends) h
-        (e .entry .timeout) timer retries out missing others
+        timed-end L zero-left (n .store) (n .book) i e window j (S .taken) (O .sending .taken) slot-book low (S .sends) h
+        (e .entry .timeout) (over i) (starts i (S .alone .known) (S .sends)) timer retries out missing others
 
     slot-payload : slotPayload (n .book) (n .store) e k ≡ numberAt (endAt n i) (past w j) .payload
     slot-payload =
         rw (S .slot, S .here)
-        (sym (ap (λ (x : Number). x .payload) (number-is (n .store) (n .book) i e window j (S .taken) (O .sending .taken))))
+        (sym (ap (λ (x : Number). x .payload) (number-is L zero-left (n .store) (n .book) i e window j (S .taken) (O .sending .taken))))
 
     slot-frame : dataFrame (n .node) (n .book) (n .store) k ≡ frameOf M datas (endAt n i) (past w j)
     unfolding dataFrame frameOf endFor
@@ -357,8 +384,10 @@ module _ (t : List ℕ) (n : Memory) (l : Lists) (g : Good t (n .node) (n .book)
         let j = resend .offset in
         let S = resend .slot in
         let f = first-of (n .book) l (g .lines) 2 (omega arith) k (says d is .0) (says d is .1) in
-        slot-went d is k i j S 2 (omega arith) f resends refl (λ buffer. refl) refl refl refl refl
-        (slot-end d is k i j S 2 (omega arith) f (endOf (n .node) i .run .handed) (resend .handed) (resend .missing) (λ m d. refl))
+        slot-went d is k i j S 2 (omega arith) f resends refl (λ buffer. refl) refl refl refl
+        (ap (λ (e : EndPoint). e .run .window) (resend .ends i))
+        (end-out d is (S .alone .apart) (resend .ends i)
+        ∙ slot-end d is k i j S 2 (omega arith) f (endOf (n .node) i .run .handed) (resend .handed) (resend .missing) (λ m d. refl))
 
   module _ (k : ℕ) (is : nextOut (n .node) (n .book) ≡ next.Data k) where
     abbrev data₁ : DataOut (X (next.Data k)) (Y (next.Data k)) l (keeps (next.Data k) is .lists) k
@@ -395,7 +424,7 @@ module _ (t : List ℕ) (n : Memory) (l : Lists) (g : Good t (n .node) (n .book)
         let O₁ = O d is k i j₁ S 3 (omega arith) f in
         slot-went d is k i j₁ S 3 (omega arith) f datas refl (λ buffer. refl) refl refl refl
         (ap (λ (e : EndPoint). e .run .window) (data₁ .ends))
-        (ap (endFor (n .store) (slot-book d is k i j₁ S 3 (omega arith) f) i) (data₁ .ends ∙ one-more (O₁ .sending .taken))
+        (end-out d is (S .alone .apart) (data₁ .ends ∙ one-more (O₁ .sending .taken))
         ∙ slot-end d is k i j₁ S 3 (omega arith) f (suc j₁) (omega arith) (unheld (O₁ .sending) j₁ (omega arith)) others)
 
   -- ---- the call

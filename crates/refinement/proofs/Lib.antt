@@ -6,6 +6,7 @@ pub mod OpenStands
 pub mod SendStands
 pub mod Passing
 pub mod Numbers
+pub mod Readings
 pub mod AckStands
 pub mod Places
 pub mod ReceiveStands
@@ -14,6 +15,7 @@ pub mod HandStands
 pub mod SetupStands
 pub mod TickNumbers
 pub mod TickStands
+pub mod TickQuiet
 pub mod TickAllStands
 pub mod Refining
 pub mod Sounding

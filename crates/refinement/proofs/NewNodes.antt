@@ -1,13 +1,14 @@
--- A new node, all zeros, is the blank machine: no entry, nothing waits, and every call but setup leaves both as they were. Assumes nothing.
+-- A new node, all zeros but for its clock, is the blank machine: no entry, nothing waits, and no call but setup alters more than the clock.
+-- Assumes nothing.
 use Prim.Native.Nat.{ℕ}
-use mathlib.Core.Path.{_≡_, refl}
-use mathlib.Core.Bool.{true}
-use mathlib.Core.List.{List}
+use mathlib.Core.Path.{_≡_, refl, ap}
+use mathlib.Core.Bool.{Bool, true, false}
+use mathlib.Core.List.{List, [], _∷_}
 use lib.ListN.{length}
 use native.Mathlib.Omega.{arith}
-use lib.Dec.{leb}
+use lib.Dec.{leb, eqb}
 use borrow.Author.Tests.{le-leb, le-ltb}
-use Rattle.units.specs.Refusals.{verdict}
+use Rattle.units.specs.Refusals.{pick, verdict}
 use Rattle.units.specs.declared.refusals.Verdict.{Verdict}
 use Rattle.units.specs.declared.refusals.Verdict.the-variants.{Passed, Refused}
 use Rattle.frame.specs.Layout.{payloadOf}
@@ -21,24 +22,28 @@ use Rattle.opening.specs.Opening.{openAnswer, closeAnswer, countsAnswer}
 use Rattle.sending.specs.Sending.{sendAnswer, urgentAnswer}
 use Rattle.arriving.specs.Arriving as memory
 use Rattle.handing.specs.Handing.{nextOut, frameOut, handAnswer, handAfter, outNode, outBook}
-use Rattle.ticking.specs.Ticking.{tickAnswer, tickBoth, recoverAll, tickEntries}
-use Rattle.good.specs.Calls.{lent, answer}
-use Rattle.good.specs.NewNode.{newNode, NewStays}
+use Rattle.timing.specs.Timing.{clockIn, later}
+use Rattle.ticking.specs.Ticking.{tickAnswer, tickBoth, scanAfter, scanBoth, stillAfter, recoverAll, tickEntries}
+use Rattle.good.specs.Calls.{Memory, lent, bare, answer}
+use Rattle.good.specs.NewNode.{newAt}
 use Rattle.good.proofs.NewStays.{new-stays}
 use Rattle.machine.specs.Calls.{Call, opens, closes, counts, sends, urges, arrives, hands-out, ticks, Answer}
 use Rattle.machine.specs.Machine.{Machine, Outcome, blank, opening, closing, counting, sending, urgentSending, reading, arriving, goingOut, inOrder, handing, each, bitsFrom, ticking, judged, step}
 use Rattle.refinement.specs.Standing.{NewIsBlank}
 
-module _ (store : List ℕ) where
+module _ (store : List ℕ) (c q : ℕ) where
   abbrev M : Machine
   M = blank (length store)
 
+  abbrev new : Memory
+  new = newAt store c q
+
   abbrev same : Call → Type 0
-  same c = (answer (newNode store) c ≡ step M c .answer) × (step M c .machine ≡ M)
+  same k = (answer new k ≡ step M k .answer) × (step M k .machine ≡ M)
 
   -- there is no entry
-  none : (i : ℕ) → leb (countIn (newNode store .node)) i ≡ true
-  none i = le-leb (countIn (newNode store .node)) i (omega arith)
+  none : (i : ℕ) → leb (countIn (new .node)) i ≡ true
+  none i = le-leb (countIn (new .node)) i (omega arith)
 
   opens-same : (i : ℕ) → same (opens i)
   unfolding answer step opening openAnswer
@@ -66,14 +71,22 @@ module _ (store : List ℕ) where
       let long = le-ltb (length store) 0 (omega arith) in
       (rw (long, le-ltb (length buffer) 0 (omega arith)), rw long)
 
+  -- a tick that passes, and one that goes through no entries
+  abbrev d : ℕ
+  d = later (clockIn (new .node)) 1
+
   ticks-same : same ticks
-  unfolding answer step ticking each bitsFrom tickAnswer tickBoth recoverAll tickEntries
-  ticks-same = (refl, refl)
+  unfolding answer step ticking each bitsFrom tickAnswer tickBoth scanAfter scanBoth recoverAll tickEntries
+  ticks-same = (ap (λ (k : ℕ). record { numbers = k ∷ []; out = [] }) (sides (eqb q 0)), refl)
+    where
+      sides : (z : Bool) → pick z (scanAfter d (bare new)) (stillAfter d (bare new)) .bits ≡ 0
+      sides true = refl
+      sides false = refl
 
   -- an arrival is refused: by the same tests of the frame, or since no entry is there
   module _ (block f : List ℕ) where
     abbrev x : Lent
-    x = lent (newNode store) block
+    x = lent new block
 
     abbrev answered : Verdict → Read → Answer
     answered v r =
@@ -93,9 +106,9 @@ module _ (store : List ℕ) where
 
     arrives-same : same (arrives block f)
     unfolding answer step arriving memory.arrivalAnswer memory.arrivalAfter
-    arrives-same = refused (verdict (memory.frameTests (newNode store .node) f)) (headerOf f)
+    arrives-same = refused (verdict (memory.frameTests (new .node) f)) (headerOf f)
 
-  all-same : (c : Call) → same c
+  all-same : (k : Call) → same k
   all-same (opens i) = opens-same i
   all-same (closes i) = closes-same i
   all-same (counts i) = counts-same i
@@ -106,5 +119,9 @@ module _ (store : List ℕ) where
   all-same ticks = ticks-same
 
 pub new-is-blank : NewIsBlank
-unfolding NewIsBlank NewStays
-new-is-blank store c = let s = all-same store c in record { answers = s .0; node = new-stays store c; machine = s .1 }
+new-is-blank =
+    record {
+      begins = new-stays .begins;
+      stays = λ store c q small k. let s = all-same store c q k in record { answers = s .0; node = new-stays .stays store c q small k; machine = s .1 };
+      small = new-stays .small;
+    }

@@ -9,7 +9,7 @@ use native.Mathlib.Omega.{arith}
 use lib.ListN.{length, getD, drop, length-set, length-drop, List·getD-eq-default}
 use lib.Seq.{ext-getD, getD-set-same, getD-set-other, getD-drop}
 use lib.Dec.{ltb, eqb}
-use borrow.Author.Tests.{lt-ltb, le-ltb}
+use borrow.Author.Tests.{lt-ltb, le-ltb, eqb-true}
 use Rattle.units.specs.Refusals.{pick}
 use Rattle.window.specs.Windows.{offsetOf, held, acceptOf, withHeld, Good as GoodWindow}
 use Rattle.window.specs.declared.Found.the-variants.{New, Held}
@@ -31,7 +31,7 @@ use Rattle.good.proofs.Turns.{turnedTo}
 use Rattle.good.proofs.Senders.{Timed}
 use Rattle.good.proofs.AckRuns.{Passes, Counts, passes, passed-le}
 use Rattle.machine.specs.Machine.{Number, End, listed, numberAt, timed, ackedRun, number, numbered, running}
-use Rattle.refinement.specs.Standing.{payloadFor, numberFor, endFor}
+use Rattle.refinement.specs.Standing.{Reading, payloadFor, numberFor, endFor}
 use Rattle.machine.proofs.Listed.{length-listed, getD-listed, set-listed}
 use Rattle.refinement.proofs.Listing.{beyond, count-snoc}
 use Rattle.refinement.proofs.Elsewhere.{no-places}
@@ -73,7 +73,7 @@ handedTo e h =
     turnedTo e (e .state)
     (record { window = r .window; taken = r .taken; handed = h; accepted = r .accepted; confirmed = r .confirmed; urgent = r .urgent })
 
-module _ (st b : List ℕ) (i : ℕ) (e : EndPoint) where
+module _ (L : Reading) (zero-left : (d : ℕ) → eqb (L d) 0 ≡ eqb d 0) (st b : List ℕ) (i : ℕ) (e : EndPoint) where
   abbrev r : Run
   r = e .run
 
@@ -81,17 +81,20 @@ module _ (st b : List ℕ) (i : ℕ) (e : EndPoint) where
   w = r .window
 
   abbrev E : End
-  E = endFor st b i e
+  E = endFor L st b i e
 
   abbrev N : ℕ → Number
-  N = numberFor st b i e
+  N = numberFor L st b i e
+
+  none-left : L 0 ≡ 0
+  none-left = eqb-true (L 0) 0 (zero-left 0)
 
   -- ---- how many timers run, in the machine as in the book
 
   under : (n : ℕ) → n ≤ r .handed → running (listed n N) ≡ good.running b i w n
   unfolding listed running good.running
   under zero h = refl
-  under (suc n) h = running-snoc (listed n N) (N n) ∙ rw (lt-ltb n (r .handed) (omega arith), under n (omega arith))
+  under (suc n) h = running-snoc (listed n N) (N n) ∙ rw (lt-ltb n (r .handed) (omega arith), zero-left (timerIn b (cell i w (past w n))), under n (omega arith))
 
   pub running-is : (n : ℕ) → r .handed ≤ n → running (listed n N) ≡ good.running b i w (r .handed)
   unfolding listed
@@ -111,7 +114,7 @@ module _ (st b : List ℕ) (i : ℕ) (e : EndPoint) where
     number-is = rw back (getD-listed (r .taken) N k _ hk)
 
     -- in another book its timer starts at v, and no other number alters
-    module _ (b′ : List ℕ) (low : i < 16) (sends : isSends (e .entry .kind) ≡ true) (h v : ℕ) (T : Timed b b′ i w k v)
+    module _ (b′ : List ℕ) (low : i < 16) (sends : isSends (e .entry .kind) ≡ true) (h v d : ℕ) (starts : L d ≡ v) (T : Timed b b′ i w k d)
         (R : (c : ℕ) → c < 2048 → retriesIn b′ c ≡ retriesIn b c) (out : k < h) (missing : held w k ≡ false)
         (others : (j : ℕ) → j ≢ k → ltb j h ≡ ltb j (r .handed)) where
       abbrev then : EndPoint
@@ -120,17 +123,17 @@ module _ (st b : List ℕ) (i : ℕ) (e : EndPoint) where
       payload-stays : (j : ℕ) → payloadFor st b′ i then j ≡ payloadFor st b i e j
       payload-stays j = rw (T .lengths (cell i w (past w j)) (cell-low i low w g (past w j)))
 
-      here : numberFor st b′ i then k ≡ number (numberAt E (past w k) .payload) (numberAt E (past w k) .retries) true false v
-      here = rw (number-is, payload-stays k, R (cell i w (past w k)) (cell-low i low w g (past w k)), lt-ltb k h out, missing, T .here)
+      here : numberFor L st b′ i then k ≡ number (numberAt E (past w k) .payload) (numberAt E (past w k) .retries) true false v
+      here = rw (number-is, payload-stays k, R (cell i w (past w k)) (cell-low i low w g (past w k)), lt-ltb k h out, missing, T .here, starts)
 
-      there : (j : ℕ) → j < r .taken → j ≢ k → numberFor st b′ i then j ≡ N j
+      there : (j : ℕ) → j < r .taken → j ≢ k → numberFor L st b′ i then j ≡ N j
       there j hj d = rw (payload-stays j, R (cell i w (past w j)) (cell-low i low w g (past w j)), others j d, T .there j (omega arith) d)
 
-      numbers : listed (r .taken) (numberFor st b′ i then) ≡ timed v false E (past w k)
+      numbers : listed (r .taken) (numberFor L st b′ i then) ≡ timed v false E (past w k)
       unfolding endFor
-      numbers = set-listed (r .taken) N (numberFor st b′ i then) k _ hk here there ∙ rw back
+      numbers = set-listed (r .taken) N (numberFor L st b′ i then) k _ hk here there ∙ rw back
 
-      pub timed-end : endFor st b′ i then ≡ numbered (E .start) (timed v false E (past w k)) E
+      pub timed-end : endFor L st b′ i then ≡ numbered (E .start) (timed v false E (past w k)) E
       unfolding endFor
       timed-end = rw (numbers, no-places st b′ i then sends, no-places st b i e sends)
 
@@ -242,7 +245,7 @@ module _ (st b : List ℕ) (i : ℕ) (e : EndPoint) where
           sides (inr z) = sym z
       held-there j d false q = sym (P .none j q .1)
 
-      later : (z : State) (j : ℕ) → j < r .taken - p → Dec (p + j ≡ at) → getD ns (p + j) nobody ≡ numberFor st b′ i (e′ z) j
+      later : (z : State) (j : ℕ) → j < r .taken - p → Dec (p + j ≡ at) → getD ns (p + j) nobody ≡ numberFor L st b′ i (e′ z) j
       unfolding acking.ackedRun
       later z j h (yes q) =
           rw (q, ns-here)
@@ -255,6 +258,7 @@ module _ (st b : List ℕ) (i : ℕ) (e : EndPoint) where
             ap (timerIn b′) (P .cells j),
             q,
             T .here,
+            none-left,
           )))
       later z j h (no d) =
           ns-there (p + j) (omega arith) d
@@ -267,10 +271,10 @@ module _ (st b : List ℕ) (i : ℕ) (e : EndPoint) where
             T .there (p + j) (omega (arith, S .taken)) d,
           ))
 
-      pub numbers-then : (z : State) → drop p ns ≡ listed (r .taken - p) (numberFor st b′ i (e′ z))
+      pub numbers-then : (z : State) → drop p ns ≡ listed (r .taken - p) (numberFor L st b′ i (e′ z))
       numbers-then z =
-          ext-getD nobody (drop p ns) (listed (r .taken - p) (numberFor st b′ i (e′ z)))
-          (length-drop p ns ∙ ap (λ (m : ℕ). m - p) long ∙ sym (length-listed (r .taken - p) (numberFor st b′ i (e′ z))))
+          ext-getD nobody (drop p ns) (listed (r .taken - p) (numberFor L st b′ i (e′ z)))
+          (length-drop p ns ∙ ap (λ (m : ℕ). m - p) long ∙ sym (length-listed (r .taken - p) (numberFor L st b′ i (e′ z))))
           (λ j h. let hj : j < r .taken - p = omega (arith, length-drop p ns, long) in
           getD-drop p ns j nobody ∙ later z j hj (ℕ-discrete (p + j) at)
-          ∙ sym (getD-listed (r .taken - p) (numberFor st b′ i (e′ z)) j nobody hj))
+          ∙ sym (getD-listed (r .taken - p) (numberFor L st b′ i (e′ z)) j nobody hj))

@@ -1,6 +1,6 @@
 -- Open, close and counts are the machine's. Assumes nothing.
 use Prim.Native.Nat.{ℕ, _≤_, _<_}
-use mathlib.Core.Path.{_≡_, refl, ap, _∙_, sym}
+use mathlib.Core.Path.{_≡_, refl, _∙_, sym}
 use mathlib.Core.Bool.{Bool, true, false, not}
 use mathlib.Core.List.{List, [], _∷_}
 use lib.ListN.{length}
@@ -31,10 +31,10 @@ use Rattle.good.proofs.Known.{silent-nil}
 use Rattle.good.proofs.CloseKeeps.{close-keeps, close-passed}
 use Rattle.machine.specs.Machine.{resets, Machine, anew, turned, waits, enabled, done, node, opening, step, silent}
 use Rattle.machine.specs.Machine.{answers, closing, counting}
-use Rattle.refinement.specs.Standing.{endFor, endAt, standsFor, Stands, Follows}
-use Rattle.refinement.proofs.Elsewhere.{Leaves, leaves, turned-stands, still}
+use Rattle.refinement.specs.Standing.{readAt, endFor, endAt, standsFor, Stands, Follows}
+use Rattle.refinement.proofs.Elsewhere.{Leaves, leaves, end-at, turned-stands, still}
 use Rattle.refinement.proofs.Waiting.{silent-steady, waits-still, waits-reset, sender-acks, silent-stands}
-use Rattle.refinement.proofs.Following.{low-at, stated-at, follows, begun-end, stated-then}
+use Rattle.refinement.proofs.Following.{closed-for, low-at, stated-at, follows, begun-end, stated-then}
 
 module _ (t : List ℕ) (n : Memory) (l : Lists) (g : Good t (n .node) (n .book) l) (room : storeOf t ≤ length (n .store)) (i : ℕ) where
   abbrev M : Machine
@@ -57,8 +57,8 @@ module _ (t : List ℕ) (n : Memory) (l : Lists) (g : Good t (n .node) (n .book)
 
     here : endAt now i ≡ anew (Enabled 0 false) (endAt n i)
     here =
-        ap (endFor (n .store) (now .book) i) (open-passed t (bare n) l i g h .1)
-        ∙ begun-end (n .store) (now .book) (n .store) (n .book) i e (Enabled 0 false)
+        end-at left (open-passed t (bare n) l i g h .1)
+        ∙ begun-end (readAt n) (readAt n) (n .store) (now .book) (n .store) (n .book) i e (Enabled 0 false)
 
     acks-stay : acksIn (now .node) ≡ acksIn (n .node)
     unfolding openAfter
@@ -80,7 +80,7 @@ module _ (t : List ℕ) (n : Memory) (l : Lists) (g : Good t (n .node) (n .book)
   pub open-follows : Follows t n M (opens i)
   unfolding answer after step opening openAnswer openAfter endFor
   open-follows =
-      follows g room i ((not (isClosed (e .state)), WrongState) ∷ []) (done (enabled i (endAt n i) M)) _ refl (λ li. refl)
+      follows g room i ((not (isClosed (e .state)), WrongState) ∷ []) (done (enabled i (endAt n i) M)) _ refl (λ li. rw (closed-for (readAt n) (e .state)))
       (λ w h. (rw h, rw h)) (λ li h. (rw h, opened li h))
 
   -- ---- close
@@ -111,12 +111,13 @@ module _ (t : List ℕ) (n : Memory) (l : Lists) (g : Good t (n .node) (n .book)
     closed : Stands t now-c (silent i (turned i (anew Closed (endAt n i)) M))
     closed =
         silent-stands g room li left-c gone acks-gone
-        (ap (endFor (n .store) (now-c .book) i) end ∙ begun-end (n .store) (now-c .book) (n .store) (n .book) i e Closed)
+        (end-at left-c end ∙ begun-end (readAt n) (readAt n) (n .store) (now-c .book) (n .store) (n .book) i e Closed)
 
   pub close-follows : Follows t n M (closes i)
   unfolding answer after step closing closeAnswer closeAfter endFor
   close-follows =
-      follows g room i ((isClosed (e .state), WrongState) ∷ []) (done (silent i (turned i (anew Closed (endAt n i)) M))) _ refl (λ li. refl)
+      follows g room i ((isClosed (e .state), WrongState) ∷ []) (done (silent i (turned i (anew Closed (endAt n i)) M))) _ refl
+      (λ li. rw (closed-for (readAt n) (e .state)))
       (λ w h. (rw h, rw h)) (λ li h. (rw h, closed li h))
 
   -- ---- counts: nothing alters

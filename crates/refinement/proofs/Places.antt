@@ -28,7 +28,7 @@ use Rattle.good.proofs.Turns.{turnedTo}
 use Rattle.good.proofs.AckRuns.{Passes}
 use Rattle.machine.specs.Machine as machine
 use Rattle.machine.specs.Machine.{listed, isSome, heldRun}
-use Rattle.refinement.specs.Standing.{payloadFor, placeFor, endFor}
+use Rattle.refinement.specs.Standing.{Reading, payloadFor, placeFor, endFor}
 use Rattle.machine.proofs.Listed.{length-listed, getD-listed}
 use Rattle.refinement.proofs.Listing.{count-snoc}
 use Rattle.refinement.proofs.Passing.{payload-past}
@@ -77,7 +77,7 @@ payloads-listed store b i e (suc q) = rw (payloads-listed store b i e q)
 
 -- ---- of an end point that receives
 
-module _ (st b : List ℕ) (i : ℕ) (e : EndPoint) (k : isSends (e .entry .kind) ≡ false) (g : GoodWindow (e .run .window))
+module _ (L : Reading) (st b : List ℕ) (i : ℕ) (e : EndPoint) (k : isSends (e .entry .kind) ≡ false) (g : GoodWindow (e .run .window))
     (size : e .run .window .size ≡ e .entry .window) where
   abbrev w : Window
   w = e .run .window
@@ -95,20 +95,20 @@ module _ (st b : List ℕ) (i : ℕ) (e : EndPoint) (k : isSends (e .entry .kind
       sides true = omega arith
       sides false = omega arith
 
-  pub count-is : heldCount w ≡ machine.heldCount (endFor st b i e .places)
+  pub count-is : heldCount w ≡ machine.heldCount (endFor L st b i e .places)
   unfolding endFor
   count-is = count-below w g ∙ ap (holding.heldBelow w) size ∙ sym (below (e .entry .window))
 
   place-at : (j : ℕ) (d : Place) → j < e .entry .window
-      → getD (endFor st b i e .places) j d ≡ pick (held w j) (some (payloadFor st b i e j)) none
+      → getD (endFor L st b i e .places) j d ≡ pick (held w j) (some (payloadFor st b i e j)) none
   unfolding endFor
   place-at j d h = getD-listed (e .entry .window) (placeFor st b i e) j d h ∙ place-is j
 
-  long : length (endFor st b i e .places) ≡ e .entry .window
+  long : length (endFor L st b i e .places) ≡ e .entry .window
   unfolding endFor
   long = length-listed (e .entry .window) (placeFor st b i e)
 
-  pub new-is : (s : ℕ) → machine.isNew (endFor st b i e) s ≡ isNew (acceptOf w s .found)
+  pub new-is : (s : ℕ) → machine.isNew (endFor L st b i e) s ≡ isNew (acceptOf w s .found)
   unfolding acceptOf endFor
   new-is s = sides (decLt (offsetOf w s) (w .size))
     where
@@ -118,16 +118,16 @@ module _ (st b : List ℕ) (i : ℕ) (e : EndPoint) (k : isSends (e .entry .kind
       found true = refl
       found false = refl
 
-      sides : Dec (offsetOf w s < w .size) → machine.isNew (endFor st b i e) s ≡ isNew (acceptOf w s .found)
+      sides : Dec (offsetOf w s < w .size) → machine.isNew (endFor L st b i e) s ≡ isNew (acceptOf w s .found)
       sides (yes h) =
           rw (lt-ltb (offsetOf w s) (w .size) h, place-at (offsetOf w s) (some []) (rw (← size) h)) (found (held w (offsetOf w s)))
       sides (no h) =
-          let far : length (endFor st b i e .places) ≤ offsetOf w s = omega (arith, long, size) in
-          rw (le-ltb (offsetOf w s) (w .size) (omega arith), List·getD-eq-default (endFor st b i e .places) (some []) far)
+          let far : length (endFor L st b i e .places) ≤ offsetOf w s = omega (arith, long, size) in
+          rw (le-ltb (offsetOf w s) (w .size) (omega arith), List·getD-eq-default (endFor L st b i e .places) (some []) far)
 
 -- ---- once the number s is put, with payload p, into another store and book
 
-module _ (st b st′ b′ : List ℕ) (i : ℕ) (e : EndPoint) (k : isSends (e .entry .kind) ≡ false)
+module _ (L : Reading) (st b st′ b′ : List ℕ) (i : ℕ) (e : EndPoint) (k : isSends (e .entry .kind) ≡ false)
     (g : GoodWindow (e .run .window)) (size : e .run .window .size ≡ e .entry .window)
     (s : ℕ) (p : List ℕ) (inside : offsetOf (e .run .window) s < e .run .window .size) (q : ℕ) (u : Window)
     (P : Passes i (e .run .window) (offsetOf (e .run .window) s) q u) (few : q ≤ e .run .window .size)
@@ -141,16 +141,16 @@ module _ (st b st′ b′ : List ℕ) (i : ℕ) (e : EndPoint) (k : isSends (e .
   at = offsetOf v s
 
   abbrev ps : List Place
-  ps = set (endFor st b i e .places) at (some p)
+  ps = set (endFor L st b i e .places) at (some p)
 
   long-ps : length ps ≡ v .size
-  long-ps = length-set (endFor st b i e .places) at (some p) ∙ long st b i e k g size ∙ sym size
+  long-ps = length-set (endFor L st b i e .places) at (some p) ∙ long L st b i e k g size ∙ sym size
 
   ps-here : getD ps at none ≡ some p
-  ps-here = getD-set-same (endFor st b i e .places) at (some p) none (rw (long st b i e k g size, ← size) inside)
+  ps-here = getD-set-same (endFor L st b i e .places) at (some p) none (rw (long L st b i e k g size, ← size) inside)
 
   ps-there : (j : ℕ) → j < v .size → j ≢ at → getD ps j none ≡ pick (held v j) (some (payloadFor st b i e j)) none
-  ps-there j h d = getD-set-other (endFor st b i e .places) at j (some p) none d ∙ place-at st b i e k g size j none (rw (← size) h)
+  ps-there j h d = getD-set-other (endFor L st b i e .places) at j (some p) none d ∙ place-at L st b i e k g size j none (rw (← size) h)
 
   -- held then: it, and those held before
   ps-held : (j : ℕ) → j < v .size → (j ≡ at) ⊎ (held v j ≡ true) → getD ps j none ≡ some (payloadFor st′ b′ i e j)

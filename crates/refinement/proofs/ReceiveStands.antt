@@ -50,9 +50,9 @@ use Rattle.good.proofs.Payloads.{payload-apart, r-filled, Stored, unaltered, pu
 use Rattle.machine.specs.Machine as machine
 use Rattle.machine.specs.Machine.{End, Sort, acks, Machine, Outcome, listed, anew, turned, waits, silent, heldRun}
 use Rattle.machine.specs.Machine.{delivering, handing-on, receiving, taken}
-use Rattle.refinement.specs.Standing.{payloadFor, endFor, endAt, ackItem, waitingFor, standsFor, Stands}
+use Rattle.refinement.specs.Standing.{readAt, payloadFor, endFor, endAt, ackItem, waitingFor, standsFor, Stands}
 use Rattle.machine.proofs.Listed.{length-listed}
-use Rattle.refinement.proofs.Elsewhere.{no-urgent, none-taken, put-read, Leaves, leaves, still, turned-same, turned-stands}
+use Rattle.refinement.proofs.Elsewhere.{no-urgent, none-taken, put-read, Leaves, leaves, end-at, still, turned-same, turned-stands}
 use Rattle.refinement.proofs.Waiting.{silent-steady, waits-only, lists-are, not-map, silent-then}
 use Rattle.refinement.proofs.Following.{low-at, stated-at, begun-end, size-is}
 use Rattle.refinement.proofs.Passing.{start-past}
@@ -119,8 +119,8 @@ module _ (t : List ℕ) (n : Memory) (l : Lists) (g : Good t (n .node) (n .book)
 
     E-is : endAt (kept now) i ≡ anew Open (endAt n i)
     E-is =
-        ap (endFor (now .store) (now .book) i) (reset-end t x l g i li kind)
-        ∙ begun-end (now .store) (now .book) (n .store) (n .book) i e Open
+        end-at left (reset-end t x l g i li kind)
+        ∙ begun-end (readAt n) (readAt n) (now .store) (now .book) (n .store) (n .book) i e Open
 
     waiting : (q : Sort) → waitingFor (now .node) (left .lists) q ≡ waits acks i 0 (silent i M) .waiting q
     unfolding waitingFor
@@ -134,7 +134,7 @@ module _ (t : List ℕ) (n : Memory) (l : Lists) (g : Good t (n .node) (n .book)
     unfolding taken machine.resetting resetAnswer resetAfter
     reset-takes s p =
         record {
-          numbers = ap (λ (k : ℕ). 0 ∷ 3 ∷ k ∷ []) (count-is (n .store) (n .book) i e kind window (size-is g li));
+          numbers = ap (λ (k : ℕ). 0 ∷ 3 ∷ k ∷ []) (count-is (readAt n) (n .store) (n .book) i e kind window (size-is g li));
           out = refl;
           stands = turned-stands g room li left E-is waiting;
         }
@@ -171,13 +171,19 @@ module _ (t : List ℕ) (n : Memory) (l : Lists) (g : Good t (n .node) (n .book)
       unfolding dataAfter
       now-old = rw old
 
+      old-stored : Stored t n (now-d .store) i
+      old-stored = unaltered (ap (λ (y : Lent). y .store) now-old)
+
+      old-end : endOf (now-d .node) i ≡ e
+      old-end =
+          ap (λ (y : Lent). endOf (y .node) i) now-old ∙ push-end i (n .node) (i * 256 + s) (ring-of t (n .node) (n .book) l g)
+
       old-stands : Stands t (kept now-d) (waits acks i s M)
       old-stands =
           subst (λ (m : Machine). Stands t (kept now-d) (waits acks i s m)) (sym (turned-same n g li))
-          (data-stands (unaltered (ap (λ (y : Lent). y .store) now-old)) (n .book) (ap (λ (y : Lent). y .book) now-old) (g .lines)
+          (data-stands old-stored (n .book) (ap (λ (y : Lent). y .book) now-old) (g .lines)
           (ap (λ (y : Lent). acksIn (y .node)) now-old) (endAt n i)
-          (ap (λ (y : Lent). endAt (kept y) i) now-old
-          ∙ ap (endFor (n .store) (n .book) i) (push-end i (n .node) (i * 256 + s) (ring-of t (n .node) (n .book) l g))))
+          (end-at (left-d (now-d .store) old-stored) old-end ∙ ap (λ (y : Lent). endFor (readAt n) (y .store) (y .book) i e) now-old))
 
     -- in the window and new
     module _ (new : isNew (acceptOf w s .found) ≡ true) where
@@ -243,7 +249,7 @@ module _ (t : List ℕ) (n : Memory) (l : Lists) (g : Good t (n .node) (n .book)
       ps = set (endAt n i .places) at (some p)
 
       run-is : heldRun ps ≡ listed q (payloadFor st′ b′ i e)
-      run-is = delivered-is (n .store) (n .book) st′ b′ i e kind window size s p inside q u P q-few here there
+      run-is = delivered-is (readAt n) (n .store) (n .book) st′ b′ i e kind window size s p inside q u P q-few here there
 
       given-is : heldRun ps ≡ delivered x i e s p
       given-is = run-is ∙ sym (payloads-listed st′ b′ i e q)
@@ -258,22 +264,25 @@ module _ (t : List ℕ) (n : Memory) (l : Lists) (g : Good t (n .node) (n .book)
           ∙ data-end t x l g i li kind o s hs p some-p most-p few
           ∙ ap (λ (z : State). turnedTo e z (withWindow (e .run) u)) (sym o)
 
+      new-stored : Stored t n (now-d .store) i
+      new-stored = put (slotFor w s) p li r-low most-p (ap (λ (y : Lent). y .store) now-new)
+
       E-new : endAt (kept now-d) i ≡ handing-on (length (heldRun ps)) ps (endAt n i)
       unfolding endFor withWindow listed
       E-new =
-          ap (endFor (now-d .store) (now-d .book) i) end
-          ∙ ap (λ (y : Lent). endFor (y .store) (y .book) i (turnedTo e (e .state) (withWindow (e .run) u))) now-new
+          end-at (left-d (now-d .store) new-stored) end
+          ∙ ap (λ (y : Lent). endFor (readAt n) (y .store) (y .book) i (turnedTo e (e .state) (withWindow (e .run) u))) now-new
           ∙ rw (
             run-long,
             none-taken g li kind,
             no-urgent g li kind,
             start-past w s,
-            places-then (n .store) (n .book) st′ b′ i e kind window size s p inside q u P q-few here there (e .state),
+            places-then (readAt n) (n .store) (n .book) st′ b′ i e kind window size s p inside q u P q-few here there (e .state),
           )
 
       new-stands : Stands t (kept now-d) (waits acks i s (turned i (handing-on (length (heldRun ps)) ps (endAt n i)) M))
       new-stands =
-          data-stands (put (slotFor w s) p li r-low most-p (ap (λ (y : Lent). y .store) now-new)) b′ (ap (λ (y : Lent). y .book) now-new)
+          data-stands new-stored b′ (ap (λ (y : Lent). y .book) now-new)
           (set-lines (n .book) l (g .lines) (lengthAt (cell i w s)) (length p) (omega arith))
           (ap (λ (y : Lent). acksIn (y .node)) now-new ∙ saved-acks (acknowledged (n .node) i s) i (e .state) (withWindow (e .run) u) .1)
           (handing-on (length (heldRun ps)) ps (endAt n i)) E-new
@@ -291,7 +300,7 @@ module _ (t : List ℕ) (n : Memory) (l : Lists) (g : Good t (n .node) (n .book)
 
     receiving-as : receiving M block i (endAt n i) s p ≡ received (isNew (acceptOf w s .found))
     unfolding receiving endFor
-    receiving-as = ap received (new-is (n .store) (n .book) i e kind window (size-is g li) s)
+    receiving-as = ap received (new-is (readAt n) (n .store) (n .book) i e kind window (size-is g li) s)
 
     pub data-takes : Takes t (receiving M block i (endAt n i) s p) (dataAnswer x i e s p) (dataAfter x i e s p)
     unfolding dataAnswer given

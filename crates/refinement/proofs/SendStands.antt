@@ -22,6 +22,7 @@ use Rattle.waiting.specs.Queues.{appended}
 use Rattle.order.specs.Order.{acksIn}
 use Rattle.window.specs.Windows.{Good as GoodWindow}
 use Rattle.window.specs.declared.Window.{Window}
+use Rattle.window.proofs.Sizes.{size-le}
 use Rattle.table.specs.Layout.{entryOf}
 use Rattle.table.specs.Areas.{slotsOf, storeOf}
 use Rattle.ends.specs.Ends.{endOf}
@@ -40,7 +41,8 @@ use Rattle.machine.specs.Calls.{sends, urges}
 use Rattle.good.proofs.Lined.{append-cells, append-lines}
 use Rattle.good.proofs.Offsets.{cell-inj, slot-inj, urgent-owner}
 use Rattle.good.proofs.Framing.{cell-low, slot-lt}
-use Rattle.good.proofs.Turns.{turnedTo, saved-acks}
+use Rattle.good.proofs.Turns.{turnedTo, run-fits, saved-acks}
+use Rattle.good.proofs.Sent.{sent-acks}
 use Rattle.good.proofs.SendKeeps.{next-waits, SendPassed, send-passed, send-keeps}
 use Rattle.good.proofs.Stores.{slot-low, urgent-low, slots-stay}
 use Rattle.good.proofs.Payloads.{payload-apart, s-filled, put}
@@ -49,12 +51,12 @@ use Rattle.good.proofs.UrgentKeeps.{UrgentPassed, urgent-passed, urgent-keeps}
 use Rattle.machine.specs.Machine.{number, End, datas, Machine, listed, taking, turned, waits, done, judged, sendTests}
 use Rattle.machine.specs.Machine.{sending, step, senderTests, urgents, urging, isSome, tooShort, urgentSending}
 use Rattle.machine.specs.Machine as machine
-use Rattle.refinement.specs.Standing.{payloadFor, numberFor, endFor, endAt, slotItem, standsFor, Stands, Follows}
+use Rattle.refinement.specs.Standing.{readAt, payloadFor, numberFor, endFor, endAt, slotItem, standsFor, Stands, Follows}
 use Rattle.machine.proofs.Listed.{length-listed, listed-ext}
 use Rattle.refinement.proofs.Listing.{Put, put-both}
-use Rattle.refinement.proofs.Elsewhere.{numbers-same, no-places, urgent-most, put-read, Leaves, leaves, turned-stands}
+use Rattle.refinement.proofs.Elsewhere.{numbers-same, no-places, urgent-most, put-read, Leaves, leaves, end-at, turned-stands}
 use Rattle.refinement.proofs.Waiting.{waits-more, window-steady}
-use Rattle.refinement.proofs.Following.{follows, low-at, stated-at, unheld, item-for, size-is}
+use Rattle.refinement.proofs.Following.{follows, open-for, low-at, stated-at, unheld, item-for, size-is}
 
 module _ (t : List ℕ) (n : Memory) (l : Lists) (g : Good t (n .node) (n .book) l) (room : storeOf t ≤ length (n .store))
     (i : ℕ) (p : List ℕ) where
@@ -72,7 +74,7 @@ module _ (t : List ℕ) (n : Memory) (l : Lists) (g : Good t (n .node) (n .book)
 
   long : length (E .numbers) ≡ e .run .taken
   unfolding endFor
-  long = length-listed (e .run .taken) (numberFor (n .store) (n .book) i e)
+  long = length-listed (e .run .taken) (numberFor (readAt n) (n .store) (n .book) i e)
 
   -- ---- send, where it went through
 
@@ -131,7 +133,7 @@ module _ (t : List ℕ) (n : Memory) (l : Lists) (g : Good t (n .node) (n .book)
         (λ c. let z = slot-inj w good k (e .run .taken) (omega (arith, went .room)) (went .room) c in omega arith)
         (went .others k hk))
 
-    new-number : numberFor (now .store) (now .book) i e (e .run .taken) ≡ number p 0 false false 0
+    new-number : numberFor (readAt n) (now .store) (now .book) i e (e .run .taken) ≡ number p 0 false false 0
     new-number =
         rw (
           new-payload,
@@ -140,23 +142,23 @@ module _ (t : List ℕ) (n : Memory) (l : Lists) (g : Good t (n .node) (n .book)
           unheld (was .sending) (e .run .taken) (was .sending .handed),
         )
 
-    old-number : (k : ℕ) → k < e .run .taken → numberFor (now .store) (now .book) i e k ≡ numberFor (n .store) (n .book) i e k
+    old-number : (k : ℕ) → k < e .run .taken → numberFor (readAt n) (now .store) (now .book) i e k ≡ numberFor (readAt n) (n .store) (n .book) i e k
     old-number k hk =
         let c = cell i w (past w k) in
         let hc = cell-low i low w good (past w k) in
         let ha = cell-low i low w good (past w (e .run .taken)) in
         let apart : c ≢ at = (λ z. let y = cell-inj w good i k (e .run .taken) (omega (arith, went .room)) (went .room) z in omega arith) in
-        numbers-same (n .store) (now .store) (n .book) (now .book) i e k (old-payload k hk)
+        numbers-same (readAt n) (n .store) (now .store) (n .book) (now .book) i e k (old-payload k hk)
         (ap (λ (b : List ℕ). retriesIn b c) book ∙ put-s .others (retriesAt c) (omega arith) (λ z. omega arith) (λ z. apart (omega arith)))
         (ap (λ (b : List ℕ). timerIn b c) book ∙ put-s .others (timerAt c) (omega arith) (λ z. omega arith) (λ z. omega arith))
 
-    numbers : listed (e .run .taken + 1) (numberFor (now .store) (now .book) i e)
-        ≡ listed (e .run .taken) (numberFor (n .store) (n .book) i e) ++ (number p 0 false false 0 ∷ [])
+    numbers : listed (e .run .taken + 1) (numberFor (readAt n) (now .store) (now .book) i e)
+        ≡ listed (e .run .taken) (numberFor (readAt n) (n .store) (n .book) i e) ++ (number p 0 false false 0 ∷ [])
     unfolding listed
     numbers =
         rw (
           add-one (e .run .taken),
-          listed-ext (e .run .taken) (numberFor (now .store) (now .book) i e) (numberFor (n .store) (n .book) i e) old-number,
+          listed-ext (e .run .taken) (numberFor (readAt n) (now .store) (now .book) i e) (numberFor (readAt n) (n .store) (n .book) i e) old-number,
           new-number,
         )
 
@@ -171,7 +173,7 @@ module _ (t : List ℕ) (n : Memory) (l : Lists) (g : Good t (n .node) (n .book)
     here : endAt now i ≡ taking p E
     unfolding endFor sentRun
     here =
-        ap (endFor (now .store) (now .book) i) end
+        end-at left end
         ∙ rw (numbers, no-places (now .store) (now .book) i e (went .sends), no-places (n .store) (n .book) i e (went .sends), urgent)
 
     -- what waits: one more, last of the data
@@ -181,7 +183,10 @@ module _ (t : List ℕ) (n : Memory) (l : Lists) (g : Good t (n .node) (n .book)
     window-stays = ap (λ (x : EndPoint). x .run .window) end
 
     acks-stay : acksIn (now .node) ≡ acksIn (n .node)
-    acks-stay = rw (went .is) (saved-acks (n .node) i (e .state) (sentRun (e .run)) .1)
+    acks-stay =
+        let y = size-le (w .size) (good .sized) in
+        let z = run-fits (n .node) i .accepted in
+        rw (went .is) (sent-acks (n .node) i (g .long) low (omega (arith, went .room)) (omega (arith, went .counted)) .1)
 
     abbrev next : ℕ
     next = machine.past E (length (E .numbers))
@@ -201,7 +206,7 @@ module _ (t : List ℕ) (n : Memory) (l : Lists) (g : Good t (n .node) (n .book)
   -- the tests are the same: the window in force, how many numbers are taken, the store that is needed
   same : i < countIn (n .node) → verdict (sendTests M E p) ≡ verdict (memory.sendTests e (length p) (length (n .store)) (needIn (n .node)))
   unfolding endFor
-  same li = rw (long, size-is g li, g .tabled .need)
+  same li = rw (open-for (readAt n) (e .state), long, size-is g li, g .tabled .need)
 
   abbrev then : Machine
   then = waits datas i (machine.past E (length (E .numbers))) (turned i (taking p E) M)
@@ -264,10 +269,10 @@ module _ (t : List ℕ) (n : Memory) (l : Lists) (g : Good t (n .node) (n .book)
         (λ z. let y = slot-lt w (past w k) (g .entered i li .window) in omega arith)
         (cells-u (lengthAt (cell i w (past w k))) (omega arith)))
 
-    numbers-u : (k : ℕ) → k < e .run .taken → numberFor (now-u .store) (now-u .book) i e k ≡ numberFor (n .store) (n .book) i e k
+    numbers-u : (k : ℕ) → k < e .run .taken → numberFor (readAt n) (now-u .store) (now-u .book) i e k ≡ numberFor (readAt n) (n .store) (n .book) i e k
     numbers-u k hk =
         let c = cell i w (past w k) in
-        numbers-same (n .store) (now-u .store) (n .book) (now-u .book) i e k (payload-u k hk)
+        numbers-same (readAt n) (n .store) (now-u .store) (n .book) (now-u .book) i e k (payload-u k hk)
         (cells-u (retriesAt c) (omega arith)) (cells-u (timerAt c) (omega arith))
 
     urgent-new : take (length p) (drop (spot (e .place) (e .entry .largest) (w .size)) (now-u .store)) ≡ p
@@ -276,9 +281,9 @@ module _ (t : List ℕ) (n : Memory) (l : Lists) (g : Good t (n .node) (n .book)
     here-u : endAt now-u i ≡ urging (some p) E
     unfolding endFor urgentRun
     here-u =
-        ap (endFor (now-u .store) (now-u .book) i) end-u
+        end-at left-u end-u
         ∙ rw (
-          listed-ext (e .run .taken) (numberFor (now-u .store) (now-u .book) i e) (numberFor (n .store) (n .book) i e) numbers-u,
+          listed-ext (e .run .taken) (numberFor (readAt n) (now-u .store) (now-u .book) i e) (numberFor (readAt n) (n .store) (n .book) i e) numbers-u,
           no-places (now-u .store) (now-u .book) i e (went-u .sends),
           no-places (n .store) (n .book) i e (went-u .sends),
           ne-eqb (length p) 0 (λ z. omega (arith, went-u .some)),
@@ -309,7 +314,7 @@ module _ (t : List ℕ) (n : Memory) (l : Lists) (g : Good t (n .node) (n .book)
   -- the tests are the same: an Urgent waits, and the store that is needed
   same-u : verdict (asks E) ≡ verdict (memory.urgentTests e (length p) (length (n .store)) (needIn (n .node)))
   unfolding endFor
-  same-u = rw (waits-is (eqb (e .run .urgent) 0), g .tabled .need)
+  same-u = rw (open-for (readAt n) (e .state), waits-is (eqb (e .run .urgent) 0), g .tabled .need)
     where
       waits-is : (b : Bool) → isSome (pick b none (some (urgentPayload (n .store) e))) ≡ not b
       waits-is true = refl

@@ -13,13 +13,13 @@ use Rattle.good.proofs.Entering.{closedAt}
 use Rattle.good.proofs.SetupGood.{setup-good, setup-ends}
 use Rattle.good.proofs.ReachGood.{setup-holds}
 use Rattle.machine.specs.Machine.{Sort, acks, resets, urgents, resends, datas, listed, first, begun}
-use Rattle.refinement.specs.Standing.{endFor, endAt, ackItem, waitingFor, standsFor, Stands, Begins, SetupAnswers}
+use Rattle.refinement.specs.Standing.{Reading, readAt, endFor, endAt, ackItem, waitingFor, standsFor, Stands, Begins, SetupAnswers}
 use Rattle.machine.proofs.Listed.{listed-ext}
 use Rattle.refinement.proofs.Elsewhere.{none-held}
 
-closed-end : (t st b : List ℕ) (i : ℕ) → endFor st b i (closedAt t i) ≡ first (entryOf t i)
+closed-end : (L : Reading) (t st b : List ℕ) (i : ℕ) → endFor L st b i (closedAt t i) ≡ first (entryOf t i)
 unfolding endFor listed
-closed-end t st b i = rw (none-held st b i (closedAt t i) (new-held (entryOf t i .window)))
+closed-end L t st b i = rw (none-held st b i (closedAt t i) (new-held (entryOf t i .window)))
 
 module _ (t : List ℕ) (n : Memory) (s : SetUp t n) where
   abbrev done : Memory
@@ -27,8 +27,8 @@ module _ (t : List ℕ) (n : Memory) (s : SetUp t n) where
 
   ends : (i : ℕ) → i < countOf t → endAt done i ≡ first (entryOf t i)
   ends i h =
-      ap (endFor (done .store) (done .book) i) (setup-ends (s .before) t (s .node) (s .bytes) (s .passed) .0 i h)
-      ∙ closed-end t (done .store) (done .book) i
+      ap (endFor (readAt done) (done .store) (done .book) i) (setup-ends (s .before) t (s .node) (s .bytes) (s .passed) .0 i h)
+      ∙ closed-end (readAt done) t (done .store) (done .book) i
 
   none-waits : (q : Sort) → waitingFor (done .node) (λ r. []) q ≡ []
   unfolding waitingFor

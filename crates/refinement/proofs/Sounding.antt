@@ -42,7 +42,7 @@ use Rattle.good.proofs.Stores.{end-entry, end-size, slot-low, slot-room, urgent
 use Rattle.good.proofs.Payloads.{s-filled, s-narrow, r-filled}
 use Rattle.machine.specs.Machine.{Number, Item, Sort, acks, resets, urgents, resends, datas, Machine, listed}
 use Rattle.machine.specs.Sound.{Sized, Receives, Bounded, WaitsData, Waits, Owned, Sound}
-use Rattle.refinement.specs.Standing.{payloadFor, numberFor, placeFor, endFor, endAt, ackItem, plainItem, slotItem, waitingFor, standsFor, StandsSound}
+use Rattle.refinement.specs.Standing.{Reading, readAt, stateFor, payloadFor, numberFor, placeFor, endFor, endAt, ackItem, plainItem, slotItem, waitingFor, standsFor, StandsSound}
 use Rattle.machine.proofs.Listed.{length-listed, getD-listed, elem-listed, elem-none}
 use Rattle.refinement.proofs.Elsewhere.{no-urgent, none-taken, urgent-most}
 use Rattle.refinement.proofs.Following.{item-at}
@@ -88,6 +88,13 @@ not-true : (a : Bool) → not a ≡ true → a ≡ false
 not-true true h = absurd (let z : _≡_ {A = ℕ} 0 1 = cc in omega arith)
 not-true false h = refl
 
+-- a state is Failing where it reads so
+failing-for : (L : Reading) (s : State) (k : ℕ) → stateFor L s ≡ Failing k → s ≡ Failing k
+failing-for L Closed k h = absurd (let z : _≡_ {A = ℕ} 0 1 = cc in omega arith)
+failing-for L (Enabled d sent) k h = absurd (let z : _≡_ {A = ℕ} 0 1 = cc in omega arith)
+failing-for L Open k h = absurd (let z : _≡_ {A = ℕ} 0 1 = cc in omega arith)
+failing-for L (Failing m) k h = h
+
 module _ (t : List ℕ) (n : Memory) (l : Lists) (g : Good t (n .node) (n .book) l) (room : storeOf t ≤ length (n .store)) where
   abbrev M : Machine
   M = standsFor t n l
@@ -125,9 +132,9 @@ module _ (t : List ℕ) (n : Memory) (l : Lists) (g : Good t (n .node) (n .book)
 
     number-sized : (x : Number) → List·Memᴰ x (endAt n i .numbers) → Sized (e .entry) (x .payload)
     unfolding endFor
-    number-sized x m = sides (isSends (e .entry .kind)) refl (mem-listed (e .run .taken) (numberFor (n .store) (n .book) i e) x m)
+    number-sized x m = sides (isSends (e .entry .kind)) refl (mem-listed (e .run .taken) (numberFor (readAt n) (n .store) (n .book) i e) x m)
       where
-        sides : (s : Bool) → isSends (e .entry .kind) ≡ s → (k : ℕ) × (k < e .run .taken) × (x ≡ numberFor (n .store) (n .book) i e k) → Sized (e .entry) (x .payload)
+        sides : (s : Bool) → isSends (e .entry .kind) ≡ s → (k : ℕ) × (k < e .run .taken) × (x ≡ numberFor (readAt n) (n .store) (n .book) i e k) → Sized (e .entry) (x .payload)
         sides true s (k, h, q) = rw q (filled-sized k (s-filled t (n .node) (n .book) l g i li s k h))
         sides false s (k, h, q) = absurd (omega (arith, h, none-taken g li s))
 
@@ -158,8 +165,8 @@ module _ (t : List ℕ) (n : Memory) (l : Lists) (g : Good t (n .node) (n .book)
     unfolding endFor listed
     receiver-still s =
         record {
-          numbers = ap (λ (k : ℕ). listed k (numberFor (n .store) (n .book) i e)) (none-taken g li s);
-          runs = λ k h. stated-as (n .book) l i e (g .entered i li) false s (Failing k) h;
+          numbers = ap (λ (k : ℕ). listed k (numberFor (readAt n) (n .store) (n .book) i e)) (none-taken g li s);
+          runs = λ k h. stated-as (n .book) l i e (g .entered i li) false s (Failing k) (failing-for (readAt n) (e .state) k h);
         }
 
     narrow : e .run .taken ≤ entryOf t i .window
@@ -176,7 +183,7 @@ module _ (t : List ℕ) (n : Memory) (l : Lists) (g : Good t (n .node) (n .book)
         (record {
           entry = refl;
           start = g .entered i li .window .byte;
-          taken = rw (length-listed (e .run .taken) (numberFor (n .store) (n .book) i e), entry) narrow;
+          taken = rw (length-listed (e .run .taken) (numberFor (readAt n) (n .store) (n .book) i e), entry) narrow;
           places = length-listed (e .entry .window) (placeFor (n .store) (n .book) i e);
           payloads = number-sized;
           held = held-sized;
@@ -197,12 +204,12 @@ module _ (t : List ℕ) (n : Memory) (l : Lists) (g : Good t (n .node) (n .book)
         let small = size-le (w .size) (g .entered i li .window .sized) in
         let byte = g .entered i li .window .byte in
         let d : distanceOf (w .start .0) (past w k) ≡ k = omega (arith, size, small, byte, h) in
-        let far : k < length (listed (e .run .taken) (numberFor (n .store) (n .book) i e)) = rw (length-listed (e .run .taken) (numberFor (n .store) (n .book) i e)) h in
+        let far : k < length (listed (e .run .taken) (numberFor (readAt n) (n .store) (n .book) i e)) = rw (length-listed (e .run .taken) (numberFor (readAt n) (n .store) (n .book) i e)) h in
         record {
           sends = s;
-          opened = o;
+          opened = ap (stateFor (readAt n)) o;
           taken = rw d far;
-          missing = rw d (ap (λ (x : Number). x .acked) (getD-listed (e .run .taken) (numberFor (n .store) (n .book) i e) k _ h) ∙ m);
+          missing = rw d (ap (λ (x : Number). x .acked) (getD-listed (e .run .taken) (numberFor (readAt n) (n .store) (n .book) i e) k _ h) ∙ m);
         }
 
     -- what stands for it in a queue, y, waits as its number
@@ -237,7 +244,7 @@ module _ (t : List ℕ) (n : Memory) (l : Lists) (g : Good t (n .node) (n .book)
           sides : isSends (e .entry .kind) ≡ true → (u : State) → e .state ≡ u → Stated (n .book) l i e true u → Own resets 0
           sides s Closed q a = absurd (empty 0 m (a .silent .share .resets))
           sides s (Enabled timer sent) q a =
-              record { end = endAt n i; there = there; byte = omega arith; waits = record { sends = s; zero = refl; timer = timer; sent = sent; enabled = q } }
+              record { end = endAt n i; there = there; byte = omega arith; waits = record { sends = s; zero = refl; timer = readAt n timer; sent = sent; enabled = ap (stateFor (readAt n)) q } }
           sides s Open q a = absurd (empty 0 m (a .share .resets))
           sides s (Failing k) q a = absurd (empty 0 m (a .silent .share .resets))
 
@@ -308,7 +315,7 @@ module _ (t : List ℕ) (n : Memory) (l : Lists) (g : Good t (n .node) (n .book)
         end = endAt n (v / 256);
         there = rw same (there (v / 256) (a .known));
         byte = omega arith;
-        waits = record { receives = a .receives; opened = a .opened };
+        waits = record { receives = a .receives; opened = ap (stateFor (readAt n)) (a .opened) };
       }
 
   of-queue : (q : Sort) (k : ℕ) → k < 4 → (f : ℕ → Item) → ((y : ℕ) → (i : ℕ) → i < countIn (n .node) → ownerOf y ≡ i → List·Memᴰ y (l k) → Owned M q (f y))

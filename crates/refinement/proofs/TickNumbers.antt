@@ -10,7 +10,7 @@ use native.Mathlib.Omega.{arith}
 use lib.ListN.{length, getD, set}
 use lib.Seq.{getD-set-same, getD-set-other}
 use lib.Dec.{eqb, leb, ltb}
-use borrow.Author.Tests.{lt-ltb, le-ltb, le-leb, lt-leb, eqb-true, ltb-true, ltb-false}
+use borrow.Author.Tests.{lt-ltb, le-ltb, le-leb, lt-leb, eqb-true, eqb-false, eq-eqb, ne-eqb, ltb-true, ltb-false}
 use Rattle.units.specs.Refusals.{pick}
 use Rattle.memory.specs.Layout as layout
 use Rattle.memory.specs.Layout.{timerAt, retriesAt, slotId}
@@ -21,16 +21,18 @@ use Rattle.ends.specs.declared.State.{State}
 use Rattle.ends.specs.declared.Run.{Run}
 use Rattle.ends.specs.declared.EndPoint.{EndPoint}
 use Rattle.slots.specs.Slots.{cell, past, timerIn, retriesIn, idled}
+use Rattle.timing.specs.Timing.{leftOf, later, soonest}
+use Rattle.timing.proofs.Falling.{left-one, left-ticks}
 use Rattle.ticking.specs.Ticking.{Ticked, expired, tickSlot, tickSlots}
 use Rattle.good.specs.Good.{Lists, Lines, OpenSender, idAt}
 use Rattle.good.proofs.Turns.{turnedTo}
-use Rattle.good.proofs.Lined.{added, set-lines}
+use Rattle.good.proofs.Lined.{added}
 use Rattle.good.proofs.Offsets.{id-high, cell-inj}
 use Rattle.good.proofs.Framing.{cell-low}
 use Rattle.good.proofs.Idling.{idle}
 use Rattle.good.proofs.TickSlots.{Lives, runs-alone, Slots, slots-first}
 use Rattle.machine.specs.Machine.{Number, listed, isSpent, fallen, tickedAll, anySpent}
-use Rattle.refinement.specs.Standing.{payloadFor, numberFor}
+use Rattle.refinement.specs.Standing.{Reading, payloadFor, numberFor}
 use Rattle.machine.proofs.Listed.{listed-ext}
 use Rattle.refinement.proofs.Listing.{beyond, Put, put-both}
 use Rattle.refinement.proofs.Waiting.{lists-are}
@@ -82,7 +84,19 @@ module _ (M : ℕ) (a : Bool) (N : ℕ → Number) where
 -- ---- the book's, as far as it has come
 
 module _ (st b : List ℕ) (l : Lists) (L : Lines b l) (i : ℕ) (low : i < 16) (e : EndPoint)
-    (g : GoodWindow (e .run .window)) (f : Bool) (lives : Lives f b l i e) (wide : e .run .handed ≤ e .run .window .size) where
+    (g : GoodWindow (e .run .window)) (f : Bool) (lives : Lives f b l i e) (wide : e .run .handed ≤ e .run .window .size)
+    (c : ℕ) (clock : c ≤ 65535) (m₀ : ℕ)
+    (round : (k : ℕ) → k < e .run .handed → timerIn b (cell i (e .run .window) (past (e .run .window) k)) ≤ 65535) where
+  -- before the tick what is left is read by the tick before, and afterwards by this one
+  abbrev was : Reading
+  was = leftOf c
+
+  abbrev now : ℕ
+  now = later c 1
+
+  abbrev stays : ℕ → ℕ
+  stays d = pick (eqb d now) 0 d
+
   abbrev w : Window
   w = e .run .window
 
@@ -93,28 +107,28 @@ module _ (st b : List ℕ) (l : Lists) (L : Lines b l) (i : ℕ) (low : i < 16) 
   M = e .entry .retries
 
   abbrev N : ℕ → Number
-  N = numberFor st b i e
+  N = numberFor was st b i e
 
   abbrev good-to : ℕ → Bool
   good-to = on M (not f) N
 
   abbrev turns : ℕ → Ticked
-  turns k = tickSlots i e k (record { book = b; failing = f; running = 0 })
+  turns k = tickSlots now i e k (record { book = b; failing = f; running = 0; least = m₀ })
 
   slots : (k : ℕ) → k ≤ e .run .handed → Slots i low e g b l k (turns k)
-  slots k h = slots-first i low e g b l L f lives k h
+  slots k h = slots-first i low e g now b l L f m₀ lives k h
 
   -- those tried again so far
   unfoldable pub again : ℕ → List ℕ
   again zero = []
-  again (suc k) = pick (eqb (timerIn b (at k)) 1) (again k ++ (idAt i w k ∷ [])) (again k)
+  again (suc k) = pick (eqb (was (timerIn b (at k))) 1) (again k ++ (idAt i w k ∷ [])) (again k)
 
   pub record Come (k : ℕ) (t : Ticked) : Type 0 where
     pub failing : t .failing ≡ not (good-to k)
-    pub fell : (j : ℕ) → j < k → timerIn (t .book) (at j) ≡ timerIn b (at j) - 1
+    pub fell : (j : ℕ) → j < k → timerIn (t .book) (at j) ≡ stays (timerIn b (at j))
     pub stands : (j : ℕ) → k ≤ j → j < w .size → timerIn (t .book) (at j) ≡ timerIn b (at j)
     pub tried : (j : ℕ) → j < k
-        → retriesIn (t .book) (at j) ≡ pick (good-to (suc j) && eqb (timerIn b (at j)) 1) (retriesIn b (at j) + 1) (retriesIn b (at j))
+        → retriesIn (t .book) (at j) ≡ pick (good-to (suc j) && eqb (was (timerIn b (at j))) 1) (retriesIn b (at j) + 1) (retriesIn b (at j))
     pub untried : (j : ℕ) → k ≤ j → j < w .size → retriesIn (t .book) (at j) ≡ retriesIn b (at j)
     pub queued : good-to k ≡ true → Lines (t .book) (λ r. pick (eqb r layout.resends) (l r ++ again k) (l r))
 
@@ -124,8 +138,11 @@ module _ (st b : List ℕ) (l : Lists) (L : Lines b l) (i : ℕ) (low : i < 16) 
     abbrev t : Ticked
     t = turns k
 
+    abbrev d : ℕ
+    d = timerIn b (at k)
+
     abbrev v : ℕ
-    v = timerIn b (at k)
+    v = was d
 
     abbrev r : ℕ
     r = retriesIn b (at k)
@@ -133,8 +150,8 @@ module _ (st b : List ℕ) (l : Lists) (L : Lines b l) (i : ℕ) (low : i < 16) 
     abbrev Next : Ticked → Type 0
     Next t′ = Come (suc k) t′
 
-    abbrev come-to : List ℕ → Bool → ℕ → Ticked
-    come-to b′ f′ x = record { book = b′; failing = f′; running = x }
+    abbrev come-to : List ℕ → Bool → ℕ → ℕ → Ticked
+    come-to b′ f′ x u = record { book = b′; failing = f′; running = x; least = u }
 
     S : Slots i low e g b l k t
     S = slots k (omega arith)
@@ -145,7 +162,7 @@ module _ (st b : List ℕ) (l : Lists) (L : Lines b l) (i : ℕ) (low : i < 16) 
     inside : k < w .size
     inside = omega arith
 
-    here : timerIn (t .book) (at k) ≡ v
+    here : timerIn (t .book) (at k) ≡ d
     here = C .stands k (omega arith) inside
 
     r-here : retriesIn (t .book) (at k) ≡ r
@@ -162,7 +179,7 @@ module _ (st b : List ℕ) (l : Lists) (L : Lines b l) (i : ℕ) (low : i < 16) 
 
     -- a book in which only this number's timer and retries are others
     record Moved (b′ : List ℕ) : Type 0 where
-      timer : timerIn b′ (at k) ≡ v - 1
+      timer : timerIn b′ (at k) ≡ stays d
       timers : (j : ℕ) → j < w .size → j ≢ k → timerIn b′ (at j) ≡ timerIn (t .book) (at j)
       retries : retriesIn b′ (at k) ≡ pick (good-to (suc k) && eqb v 1) (r + 1) r
       others : (j : ℕ) → j < w .size → j ≢ k → retriesIn b′ (at j) ≡ retriesIn (t .book) (at j)
@@ -179,12 +196,12 @@ module _ (st b : List ℕ) (l : Lists) (L : Lines b l) (i : ℕ) (low : i < 16) 
           queued = q;
         }
       where
-        fell : (j : ℕ) → j < suc k → Dec (j ≡ k) → timerIn (t′ .book) (at j) ≡ timerIn b (at j) - 1
+        fell : (j : ℕ) → j < suc k → Dec (j ≡ k) → timerIn (t′ .book) (at j) ≡ stays (timerIn b (at j))
         fell j h (yes z) = rw z (m .timer)
         fell j h (no z) = m .timers j (omega arith) z ∙ C .fell j (omega arith)
 
         tried : (j : ℕ) → j < suc k → Dec (j ≡ k)
-            → retriesIn (t′ .book) (at j) ≡ pick (good-to (suc j) && eqb (timerIn b (at j)) 1) (retriesIn b (at j) + 1) (retriesIn b (at j))
+            → retriesIn (t′ .book) (at j) ≡ pick (good-to (suc j) && eqb (was (timerIn b (at j))) 1) (retriesIn b (at j) + 1) (retriesIn b (at j))
         tried j h (yes z) = rw z (m .retries)
         tried j h (no z) = m .others j (omega arith) z ∙ C .tried j (omega arith)
 
@@ -194,7 +211,7 @@ module _ (st b : List ℕ) (l : Lists) (L : Lines b l) (i : ℕ) (low : i < 16) 
     quiet z = (on-next ∙ rw z (and-true (good-to k)), rw z, rw z (ap (λ (y : Bool). pick y (r + 1) r) (and-false (good-to (suc k)))))
 
     -- a timer put anew, and nothing else
-    timer-moved : (c : List ℕ) → ((x : ℕ) → 4224 ≤ x → getD c x 0 ≡ getD (t .book) x 0) → length c ≡ 10368 → (y : ℕ) → y ≡ v - 1
+    timer-moved : (c : List ℕ) → ((x : ℕ) → 4224 ≤ x → getD c x 0 ≡ getD (t .book) x 0) → length c ≡ 10368 → (y : ℕ) → y ≡ stays d
         → pick (good-to (suc k) && eqb v 1) (r + 1) r ≡ r → Moved (set c (timerAt (at k)) y)
     timer-moved c same c-long y is none =
         record {
@@ -210,31 +227,41 @@ module _ (st b : List ℕ) (l : Lists) (L : Lines b l) (i : ℕ) (low : i < 16) 
             getD-set-other c (timerAt (at k)) (retriesAt (at j)) y 0 (λ z. let u = at-small k in omega arith)
             ∙ same (retriesAt (at j)) (omega arith)
 
+    -- what is due runs out, and nothing else does
+    due-one : d ≢ 0 → d ≡ now → eqb v 1 ≡ true
+    due-one n z = left-one c d clock (round k hk) n ∙ eq-eqb d now z
+
+    due-stops : d ≡ now → 0 ≡ stays d
+    due-stops z = sym (rw (eq-eqb d now z))
+
+    zero-stays : (a : Bool) → _≡_ {A = ℕ} 0 (pick a 0 0)
+    zero-stays true = refl
+    zero-stays false = refl
+
     -- it does not run
-    rests : v ≡ 0 → Next t
+    rests : d ≡ 0 → Next t
     rests z =
         let q = quiet (rw z refl) in
-        let y : v ≡ v - 1 = omega arith in
+        let y : d ≡ stays d = rw z (zero-stays (eqb 0 now)) in
         further t (C .failing ∙ ap not (sym (q .0)))
         (record { timer = here ∙ y; timers = λ j h d. refl; retries = r-here ∙ sym (q .2); others = λ j h d. refl })
         (λ y. rw (q .1) (C .queued (sym (q .0) ∙ y)))
 
     -- it runs on
-    runs : eqb v 1 ≡ false → (x : ℕ) → Next (come-to (set (t .book) (timerAt (at k)) (timerIn (t .book) (at k) - 1)) (t .failing) x)
-    runs z x =
-        let q = quiet z in
-        let y = timerIn (t .book) (at k) - 1 in
-        further (come-to (set (t .book) (timerAt (at k)) y) (t .failing) x) (C .failing ∙ ap not (sym (q .0)))
-        (timer-moved (t .book) (λ y h. refl) long y (ap (λ (y : ℕ). y - 1) here) (q .2))
-        (λ u. rw (q .1) (set-lines (t .book) _ (C .queued (sym (q .0) ∙ u)) (timerAt (at k)) y (omega arith)))
+    runs : d ≢ 0 → d ≢ now → (x u : ℕ) → Next (come-to (t .book) (t .failing) x u)
+    runs n z x u =
+        let q = quiet (left-one c d clock (round k hk) n ∙ ne-eqb d now z) in
+        let y : d ≡ stays d = sym (rw (ne-eqb d now z)) in
+        further (come-to (t .book) (t .failing) x u) (C .failing ∙ ap not (sym (q .0)))
+        (record { timer = here ∙ y; timers = λ j h d. refl; retries = r-here ∙ sym (q .2); others = λ j h d. refl })
+        (λ y. rw (q .1) (C .queued (sym (q .0) ∙ y)))
 
     -- it comes to zero, and the end is Failing then: nothing is tried again, in a book c that differs in links at most
-    fails : v ≡ 1 → good-to (suc k) ≡ false → (c : List ℕ) → ((x : ℕ) → 4224 ≤ x → getD c x 0 ≡ getD (t .book) x 0)
-        → length c ≡ 10368 → (x : ℕ)
-        → Next (come-to (set c (timerAt (at k)) 0) true x)
-    fails z o c same c-long x =
-        let y : 0 ≡ v - 1 = omega arith in
-        further (come-to (set c (timerAt (at k)) 0) true x) (sym (rw o)) (timer-moved c same c-long 0 y (rw o))
+    fails : d ≡ now → good-to (suc k) ≡ false → (c : List ℕ) → ((x : ℕ) → 4224 ≤ x → getD c x 0 ≡ getD (t .book) x 0)
+        → length c ≡ 10368 → (x u : ℕ)
+        → Next (come-to (set c (timerAt (at k)) 0) true x u)
+    fails z o c same c-long x u =
+        further (come-to (set c (timerAt (at k)) 0) true x u) (sym (rw o)) (timer-moved c same c-long 0 (due-stops z) (rw o))
         (λ u. absurd (let p : _≡_ {A = ℕ} 0 1 = cc in omega arith))
 
     -- at an end that is not: tried again
@@ -247,14 +274,15 @@ module _ (st b : List ℕ) (l : Lists) (L : Lines b l) (i : ℕ) (low : i < 16) 
     abbrev tried-book : List ℕ
     tried-book = set timer-book (retriesAt (at k)) (retriesIn (t .book) (at k) + 1)
 
-    tries : v ≡ 1 → good-to k ≡ true → leb M r ≡ false → (x : ℕ)
-        → Next (come-to (appended tried-book layout.resends (slotId (at k))) false x)
+    tries : d ≢ 0 → d ≡ now → good-to k ≡ true → leb M r ≡ false → (x u : ℕ)
+        → Next (come-to (appended tried-book layout.resends (slotId (at k))) false x u)
     unfolding again
-    tries z y u x =
+    tries n due y u x least =
+        let z = due-one n due in
         let o : good-to (suc k) ≡ true = on-next ∙ rw (y, u) (ap not (and-false (eqb v 1))) in
-        let q : 0 ≡ v - 1 = omega arith in
+        let q = due-stops due in
         let s = at-small k in
-        further (come-to (appended tried-book layout.resends (slotId (at k))) false x) (sym (rw o))
+        further (come-to (appended tried-book layout.resends (slotId (at k))) false x least) (sym (rw o))
         (record {
           timer = P .first ∙ q;
           timers = λ j h d. let a = at-small j in P .others (timerAt (at j)) (omega arith)
@@ -269,7 +297,7 @@ module _ (st b : List ℕ) (l : Lists) (L : Lines b l) (i : ℕ) (low : i < 16) 
 
         none : (q : ℕ) → q < 4 → List·Memᴰ (slotId (at k)) (so-far q) → ⊥
         none q h m =
-            runs-alone i low e g (t .book) (S .lists) (open-now y) k hk (λ u. omega (arith, here)) q h
+            runs-alone i low e g (t .book) (S .lists) (open-now y) k hk (λ u. n (sym here ∙ u)) q h
             (subst (λ (xs : List ℕ). List·Memᴰ (slotId (at k)) xs) (lists-are refl (C .queued y) (S .within .lines) q h) m)
 
         r′ : ℕ
@@ -309,28 +337,30 @@ module _ (st b : List ℕ) (l : Lists) (L : Lines b l) (i : ℕ) (low : i < 16) 
     good-is a h = not-flips a (good-to k) (sym h ∙ C .failing)
 
     -- Failing before; tried again; or spent, so that the end is Failing and what of it waits goes
-    by-end : v ≡ 1 → (a : Bool) → t .failing ≡ a → (c : Bool) → ltb r₁ M ≡ c
-        → Next (pick a (come-to timer-book true (t .running))
-        (pick c (come-to (appended tried-book layout.resends (slotId (at k))) false (t .running))
-        (come-to (set (idled i w (e .run .handed) (e .run .taken) (e .run .urgent) (t .book)) (timerAt (at k)) 0) true (t .running))))
-    by-end z true h c q = fails z (on-next ∙ rw (good-is true h)) (t .book) (λ u h. refl) long (t .running)
-    by-end z false h true q = tries z (good-is false h) (lt-leb M r (let y = ltb-true r₁ M q in let u = r-here in omega arith)) (t .running)
-    by-end z false h false q =
+    by-end : d ≢ 0 → d ≡ now → (a : Bool) → t .failing ≡ a → (c : Bool) → ltb r₁ M ≡ c
+        → Next (pick a (come-to timer-book true (t .running) (t .least))
+        (pick c (come-to (appended tried-book layout.resends (slotId (at k))) false (t .running) (t .least))
+        (come-to (set (idled i w (e .run .handed) (e .run .taken) (e .run .urgent) (t .book)) (timerAt (at k)) 0) true (t .running) (t .least))))
+    by-end n z true h c q = fails z (on-next ∙ rw (good-is true h)) (t .book) (λ u h. refl) long (t .running) (t .least)
+    by-end n z false h true q = tries n z (good-is false h) (lt-leb M r (let y = ltb-true r₁ M q in let u = r-here in omega arith)) (t .running) (t .least)
+    by-end n z false h false q =
         let y = ltb-false r₁ M q in
         let s : leb M r ≡ true = le-leb M r (omega (arith, r-here)) in
         let I = idle (t .book) (S .lists) i low (S .within .lines) e g (open-now (good-is false h)) in
-        fails z (on-next ∙ rw (good-is false h, s, z))
-        (idled i w (e .run .handed) (e .run .taken) (e .run .urgent) (t .book)) (I .cells) (I .within .lines .long) (t .running)
+        fails z (on-next ∙ rw (good-is false h, s, due-one n z))
+        (idled i w (e .run .handed) (e .run .taken) (e .run .urgent) (t .book)) (I .cells) (I .within .lines .long) (t .running) (t .least)
 
-    by-timer : (a : Bool) → eqb n₁ 0 ≡ a → (c : Bool) → eqb n₁ 1 ≡ c
-        → Next (pick a t (pick c (expired i e (at k) t) (come-to (set (t .book) (timerAt (at k)) (n₁ - 1)) (t .failing) (t .running + 1))))
+    by-timer : (a : Bool) → eqb n₁ 0 ≡ a → (c : Bool) → eqb n₁ now ≡ c
+        → Next (pick a t (pick c (expired i e (at k) t) (come-to (t .book) (t .failing) (t .running + 1) (soonest (t .least) now n₁))))
     by-timer true h c q = rests (sym here ∙ eqb-true n₁ 0 h)
-    by-timer false h true q = by-end (sym here ∙ eqb-true n₁ 1 q) (t .failing) refl (ltb r₁ M) refl
-    by-timer false h false q = runs (ap (λ (y : ℕ). eqb y 1) (sym here) ∙ q) (t .running + 1)
+    by-timer false h true q =
+        by-end (λ z. eqb-false n₁ 0 h (here ∙ z)) (sym here ∙ eqb-true n₁ now q) (t .failing) refl (ltb r₁ M) refl
+    by-timer false h false q =
+        runs (λ z. eqb-false n₁ 0 h (here ∙ z)) (λ z. eqb-false n₁ now q (here ∙ z)) (t .running + 1) (soonest (t .least) now n₁)
 
-    step : Next (tickSlot i e k t)
+    step : Next (tickSlot now i e k t)
     unfolding tickSlot
-    step = by-timer (eqb n₁ 0) refl (eqb n₁ 1) refl
+    step = by-timer (eqb n₁ 0) refl (eqb n₁ now) refl
 
   pub come : (k : ℕ) → k ≤ e .run .handed → Come k (turns k)
   unfolding tickSlots flag listed again
@@ -373,9 +403,9 @@ module _ (st b : List ℕ) (l : Lists) (L : Lines b l) (i : ℕ) (low : i < 16) 
     payload-stays : (j : ℕ) → payloadFor st b′ i e′ j ≡ payloadFor st b i e j
     payload-stays j = rw (same-window, slots (e .run .handed) (omega arith) .lengths (at j) (cell-low i low w g (past w j)))
 
-    number-falls : (j : ℕ) → j < e .run .taken → Dec (j < e .run .handed) → numberFor st b′ i e′ j ≡ fallen (good-to (suc j)) (N j)
+    number-falls : (j : ℕ) → j < e .run .taken → Dec (j < e .run .handed) → numberFor (leftOf now) st b′ i e′ j ≡ fallen (good-to (suc j)) (N j)
     number-falls j h (yes d) =
-        rw (payload-stays j, same-window, same-handed, lt-ltb j (e .run .handed) d, C′ .tried j d, C′ .fell j d)
+        rw (payload-stays j, same-window, same-handed, lt-ltb j (e .run .handed) d, C′ .tried j d, C′ .fell j d, left-ticks c (timerIn b (at j)) clock (round j d))
     number-falls j h (no d) =
         rw (
           payload-stays j,
@@ -386,8 +416,8 @@ module _ (st b : List ℕ) (l : Lists) (L : Lines b l) (i : ℕ) (low : i < 16) 
           and-false (good-to (suc j)),
         )
 
-    pub numbers-fall : listed (e .run .taken) (numberFor st b′ i e′) ≡ tickedAll M (not f) (listed (e .run .taken) N)
+    pub numbers-fall : listed (e .run .taken) (numberFor (leftOf now) st b′ i e′) ≡ tickedAll M (not f) (listed (e .run .taken) N)
     numbers-fall =
-        listed-ext (e .run .taken) (numberFor st b′ i e′) (λ j. fallen (good-to (suc j)) (N j))
+        listed-ext (e .run .taken) (numberFor (leftOf now) st b′ i e′) (λ j. fallen (good-to (suc j)) (N j))
         (λ j h. number-falls j h (decLt j (e .run .handed)))
         ∙ sym (ticked-listed M (not f) N (e .run .taken))

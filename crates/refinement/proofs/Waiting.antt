@@ -270,7 +270,7 @@ module _ (i : ℕ) (ws ws′ b b′ : List ℕ) (l l′ : Lists) (a : Apart i ws
   silent-then f e resends = slotted 2 (omega arith)
   silent-then f e datas = slotted 3 (omega arith)
 
-  silent-waits : acksIn ws′ ≡ notOf i (acksIn ws) → (q : Sort) → waitingFor ws′ l′ q ≡ without (ofEntry i) (waitingFor ws l q)
+  pub silent-waits : acksIn ws′ ≡ notOf i (acksIn ws) → (q : Sort) → waitingFor ws′ l′ q ≡ without (ofEntry i) (waitingFor ws l q)
   silent-waits e q = silent-then (λ xs. xs) (ap (map ackItem) e ∙ not-map i (acksIn ws)) q ∙ either (eqb (rank q) 0)
     where
       either : (z : Bool) → pick z (without (ofEntry i) (waitingFor ws l q)) (without (ofEntry i) (waitingFor ws l q))

@@ -17,14 +17,17 @@ use Rattle.table.specs.Areas.{storeOf}
 use Rattle.ends.specs.Ends.{endOf}
 use Rattle.ends.specs.Lent.{Lent}
 use Rattle.ends.specs.States.{isSends}
+use Rattle.ends.specs.declared.State.{State}
+use Rattle.ends.specs.declared.State.the-variants.{Closed, Enabled, Open, Failing}
 use Rattle.ends.specs.declared.EndPoint.{EndPoint}
+use Rattle.timing.specs.Timing.{clockIn, later, leftOf}
 use Rattle.slots.specs.Slots.{cell, past, numberIn, timerIn, retriesIn}
 use Rattle.opening.specs.Setup.{setupAnswer}
 use Rattle.blocks.specs.Payloads.{payloadAt}
 use Rattle.handing.specs.Handing.{slotIn, urgentPayload}
 use Rattle.good.specs.Good.{Lists, Good, ownerOf}
 use Rattle.good.specs.Calls.{Memory, answer, after, SetUp, Reach}
-use Rattle.good.specs.NewNode.{newNode}
+use Rattle.good.specs.NewNode.{newNode, newAt, newAfter}
 use Rattle.machine.specs.Calls.{Call, Fed}
 use Rattle.machine.specs.Sound.{Sound}
 use Rattle.machine.specs.Machine.{Number, End, Item, Sort, acks, resets, urgents, resends, datas}
@@ -35,36 +38,51 @@ use Rattle.machine.specs.Machine.{Machine, listed, begun, blank, setupTests, st
 abbrev pub payloadFor : List ℕ → List ℕ → ℕ → EndPoint → ℕ → List ℕ
 payloadFor st b i e k = payloadAt st b i (e .place) (e .entry .largest) (e .run .window) k
 
+-- how the number of the tick at which a timer runs out reads: what is left of it
+abbrev pub Reading : Type 0
+Reading = ℕ → ℕ
+
 -- the number k past the start
-abbrev pub numberFor : List ℕ → List ℕ → ℕ → EndPoint → ℕ → Number
-numberFor st b i e k =
+abbrev pub numberFor : Reading → List ℕ → List ℕ → ℕ → EndPoint → ℕ → Number
+numberFor L st b i e k =
     record {
       payload = payloadFor st b i e k;
       retries = retriesIn b (cell i (e .run .window) (past (e .run .window) k));
       handed = ltb k (e .run .handed);
       acked = held (e .run .window) k;
-      timer = pick (ltb k (e .run .handed)) (timerIn b (cell i (e .run .window) (past (e .run .window) k))) 0;
+      timer = pick (ltb k (e .run .handed)) (L (timerIn b (cell i (e .run .window) (past (e .run .window) k)))) 0;
     }
 
 abbrev pub placeFor : List ℕ → List ℕ → ℕ → EndPoint → ℕ → Option (List ℕ)
 placeFor st b i e k =
     pick (not (isSends (e .entry .kind)) && held (e .run .window) k) (some (payloadFor st b i e k)) none
 
-unfoldable pub endFor : List ℕ → List ℕ → ℕ → EndPoint → End
-endFor st b i e =
+-- a Reset's timer reads as a number's does
+abbrev pub stateFor : Reading → State → State
+stateFor L Closed = Closed
+stateFor L (Enabled d sent) = Enabled (L d) sent
+stateFor L Open = Open
+stateFor L (Failing n) = Failing n
+
+unfoldable pub endFor : Reading → List ℕ → List ℕ → ℕ → EndPoint → End
+endFor L st b i e =
     record {
       entry = e .entry;
-      state = e .state;
+      state = stateFor L (e .state);
       accepted = e .run .accepted .0;
       confirmed = e .run .confirmed .0;
       start = e .run .window .start .0;
-      numbers = listed (e .run .taken) (numberFor st b i e);
+      numbers = listed (e .run .taken) (numberFor L st b i e);
       places = listed (e .entry .window) (placeFor st b i e);
       urgent = pick (eqb (e .run .urgent) 0) none (some (urgentPayload st e));
     }
 
+-- after the last tick
+abbrev pub readAt : Memory → Reading
+readAt n = leftOf (clockIn (n .node))
+
 abbrev pub endAt : Memory → ℕ → End
-endAt n i = endFor (n .store) (n .book) i (endOf (n .node) i)
+endAt n i = endFor (readAt n) (n .store) (n .book) i (endOf (n .node) i)
 
 -- ---- what waits
 
@@ -132,11 +150,14 @@ OneMachine = (t u : List ℕ) (n : Memory) (m k : Machine) → Stands t n m → 
 unfoldable pub StandsSound : Type 0
 StandsSound = (t : List ℕ) (n : Memory) (m : Machine) → Stands t n m → Sound t m
 
--- a new node, before its first setup, answers as the blank machine does, and both stay as they are
-pub record Blank (store : List ℕ) (c : Call) : Type 0 where
-  pub answers : answer (newNode store) c ≡ step (blank (length store)) c .answer
-  pub node : after (newNode store) c ≡ newNode store
-  pub machine : step (blank (length store)) c .machine ≡ blank (length store)
+-- a new node, before its first setup, answers as the blank machine does, whatever ticks have passed. The machine stays
+-- as it is, and of the node a tick moves the clock alone.
+pub record Blank (store : List ℕ) (c q : ℕ) (k : Call) : Type 0 where
+  pub answers : answer (newAt store c q) k ≡ step (blank (length store)) k .answer
+  pub node : after (newAt store c q) k ≡ newAfter store c q k
+  pub machine : step (blank (length store)) k .machine ≡ blank (length store)
 
-unfoldable pub NewIsBlank : Type 0
-NewIsBlank = (store : List ℕ) (c : Call) → Blank store c
+pub record NewIsBlank : Type 0 where
+  pub begins : (store : List ℕ) → newNode store ≡ newAt store 0 0
+  pub stays : (store : List ℕ) (c q : ℕ) → c ≤ 65535 → (k : Call) → Blank store c q k
+  pub small : (c : ℕ) → c ≤ 65535 → later c 1 ≤ 65535

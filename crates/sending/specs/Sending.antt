@@ -11,7 +11,7 @@ use Rattle.units.specs.declared.refusals.Refusal.{Refusal}
 use Rattle.units.specs.declared.refusals.Refusal.the-variants as refusal
 use Rattle.units.specs.declared.refusals.Verdict.{Verdict}
 use Rattle.units.specs.declared.refusals.Verdict.the-variants.{Passed, Refused}
-use Rattle.memory.specs.Layout.{datas, urgents, urgentId, slotId, lengthAt, retriesAt}
+use Rattle.memory.specs.Layout.{entryAt, datas, urgents, urgentId, slotId, lengthAt, retriesAt}
 use Rattle.waiting.specs.Queues.{appended}
 use Rattle.ends.specs.Ends.{endOf, saved}
 use Rattle.ends.specs.Heads.{countIn, needIn}
@@ -69,11 +69,15 @@ sentRun r =
 unfoldable pub sentBook : List ℕ → ℕ → ℕ → List ℕ
 sentBook b g n = appended (set (set b (lengthAt g) n) (retriesAt g) 0) datas (slotId g)
 
+-- of the node only how many are taken and accepted alters: the run that is loaded then is `sentRun` of the one before
+abbrev pub sentNode : List ℕ → ℕ → Run → List ℕ
+sentNode ws i r = set (set ws (entryAt i + 14) (r .taken + 1)) (entryAt i + 16) (r .accepted .0 + 1)
+
 -- the payload lies in its slot; its number waits
 abbrev pub sent : Lent → ℕ → EndPoint → List ℕ → Lent
 sent x i e p =
     record {
-      node = saved (x .node) i (e .state) (sentRun (e .run));
+      node = sentNode (x .node) i (e .run);
       book = sentBook (x .book) (cell i (e .run .window) (nextNumber (e .run))) (length p);
       store = sets (x .store) (spot (e .place) (e .entry .largest) (slotFor (e .run .window) (nextNumber (e .run)))) p;
       out = x .out;

@@ -18,11 +18,11 @@ use ends::save;
 use judging::judge_send;
 use judging::judge_urgent;
 use memory::put_half;
+use memory::put_word;
 use slots::cell_of;
 use slots::slot_for;
 use slots::spot_of;
 use units::Seq;
-use units::Unfolded;
 use units::bytes::put_all;
 use units::refusals::Refusal;
 use units::refusals::Verdict;
@@ -34,7 +34,8 @@ ghost use mathlib.Core.List.{[]};
 ghost use Prim.Native.Nat.{_<_};
 ghost use Rattle.ends.specs.Ends.{endOf};
 ghost use Rattle.slots.specs.Slots.{cell};
-ghost use Rattle.sending.specs.Sending.{sendAnswer, sendAfter, sentRun, sentBook, urgentAnswer, urgentAfter, urgentRun};
+ghost use Rattle.sending.specs.Sending.{sendAnswer, sendAfter, sentNode, sentBook, urgentAnswer, urgentAfter};
+ghost use Rattle.sending.specs.Sending.{urgentRun};
 
 // End point i as `load` reads it. It has one caller, so that the compiler reads there what the caller uses and no more: `load` has
 // many, and hands over the whole by way of memory.
@@ -78,7 +79,7 @@ pub fn send(
         wait_as_data(book, index as u8, window, s, payload.len() as u16);
         let at = spot_of(e.place, e.entry.largest, slot_for(window, s));
         put_all(store, at, payload);
-        save(node, index, State::Open, sent_run(run));
+        put_sent(node, index, run);
         return Verdict::Passed;
     };
     Verdict::Refused(why)
@@ -117,15 +118,14 @@ pub fn urgent(
     Verdict::Refused(why)
 }
 
-// The run with one payload more taken and accepted.
-fn sent_run(mut r: Run) -> Run
-    requires { ⌜ (r .taken < 255) × (r .accepted .0 < 4294967295) ⌝ }
-    ensures { λ n. ⌜ n ≡ sentRun r ⌝ }
+// One payload more is taken and accepted: of the run's words two alter, and no other is written.
+fn put_sent(node: &mut [u64], i: usize, r: Run)
+    requires { ⌜ (i < 4096) × (r .taken < 255) × (r .accepted .0 < 4294967295) ⌝ }
+    ensures { λ _. ⌜ now (node .exit) ≡ sentNode (now (node .entry)) i r ⌝ }
 {
-    let accepted = Unfolded(r.accepted.0 + 1);
-    r.taken += 1;
-    r.accepted = accepted;
-    r
+    let at = 320 + 32 * i;
+    put_word(node, at + 14, (r.taken + 1) as u64);
+    put_word(node, at + 16, (r.accepted.0 + 1) as u64)
 }
 
 // The run with an Urgent of n bytes waiting.

@@ -19,7 +19,7 @@ use Rattle.ends.specs.declared.EndPoint.{EndPoint}
 use Rattle.ends.specs.declared.Run.{Run}
 use Rattle.ends.specs.declared.State.{State}
 use Rattle.ends.specs.declared.State.the-variants.{Closed, Enabled, Open, Failing}
-use Rattle.ticking.specs.Ticking.{ticked, tickState, tickEntry, tickEntries, Recovered, again, recover, recoverAll, entries, tickBoth, tickAfter}
+use Rattle.ticking.specs.Ticking.{ticked, Scanned, tickState, tickEntry, tickEntries, Recovered, again, recover, recoverAll, entries, scanned, scanBoth}
 use Rattle.ends.specs.States.{isOver}
 
 -- ---- two nodes that agree outside the state and the run of entry i
@@ -87,20 +87,22 @@ pick-only : {i : ℕ} {a : List ℕ} (t : Bool) {b c : List ℕ} → Only i a b 
 pick-only true p q = p
 pick-only false p q = q
 
-pick-lent : {i : ℕ} {a : List ℕ} (t : Bool) (x y : Lent) → Only i a (x .node) → Only i a (y .node) → Only i a (pick t x y .node)
-pick-lent true x y p q = p
-pick-lent false x y p q = q
+pick-scanned : {i : ℕ} {a : List ℕ} (t : Bool) (x y : Scanned) → Only i a (x .lent .node) → Only i a (y .lent .node) → Only i a (pick t x y .lent .node)
+pick-scanned true x y p q = p
+pick-scanned false x y p q = q
 
-state-only : (x : Lent) (i : ℕ) (e : EndPoint) (s : State) → Only i (x .node) (tickState x i e s .node)
+state-only : (c : ℕ) (y : Scanned) (i : ℕ) (e : EndPoint) (s : State) → Only i (y .lent .node) (tickState c y i e s .lent .node)
 unfolding tickState
-state-only x i e Closed = only-same i (x .node)
-state-only x i e (Enabled n sent) = pick-lent (eqb n 0) _ _ (only-same i (x .node)) (only-saved (x .node) i _ _)
-state-only x i e Open = pick-only (ticked i e false (x .book) .failing) (only-saved (x .node) i _ _) (only-same i (x .node))
-state-only x i e (Failing n) = only-saved (x .node) i _ _
+state-only c y i e Closed = only-same i (y .lent .node)
+state-only c y i e (Enabled d sent) =
+    pick-scanned (eqb d 0) _ _ (only-same i (y .lent .node))
+    (pick-scanned (eqb d c) _ _ (only-saved (y .lent .node) i _ _) (only-same i (y .lent .node)))
+state-only c y i e Open = pick-only (ticked c i e false (y .lent .book) (y .least) .failing) (only-saved (y .lent .node) i _ _) (only-same i (y .lent .node))
+state-only c y i e (Failing n) = only-saved (y .lent .node) i _ _
 
-pub tick-only : (i : ℕ) (x : Lent) → Only i (x .node) (tickEntry i x .node)
+pub tick-only : (c i : ℕ) (y : Scanned) → Only i (y .lent .node) (tickEntry c i y .lent .node)
 unfolding tickEntry
-tick-only i x = state-only x i (endOf (x .node) i) (endOf (x .node) i .state)
+tick-only c i y = state-only c y i (endOf (y .lent .node) i) (endOf (y .lent .node) i .state)
 
 pick-recovered : {i : ℕ} {a : List ℕ} (t : Bool) (x y : Recovered) → Only i a (x .lent .node) → Only i a (y .lent .node) → Only i a (pick t x y .lent .node)
 pick-recovered true x y p q = p
@@ -148,76 +150,80 @@ module _ (S : Type 0) (node : S → List ℕ) (step : ℕ → S → S) (only : (
 
 -- ---- the two passes of a tick
 
-tick-turns : (n : ℕ) (x : Lent) → tickEntries n x ≡ turns tickEntry n x
+tick-turns : (c n : ℕ) (y : Scanned) → tickEntries c n y ≡ turns (tickEntry c) n y
 unfolding tickEntries
-tick-turns zero x = refl
-tick-turns (suc n) x = ap (tickEntry n) (tick-turns n x)
+tick-turns c zero y = refl
+tick-turns c (suc n) y = ap (tickEntry c n) (tick-turns c n y)
 
 recover-turns : (n : ℕ) (r : Recovered) → recoverAll n r ≡ turns recover n r
 unfolding recoverAll
 recover-turns zero r = refl
 recover-turns (suc n) r = ap (recover n) (recover-turns n r)
 
-abbrev nodeOf : Lent → List ℕ
-nodeOf x = x .node
+abbrev nodeOf : Scanned → List ℕ
+nodeOf y = y .lent .node
 
 abbrev lentNode : Recovered → List ℕ
 lentNode r = r .lent .node
 
--- all timers have ticked
-abbrev pub timed : Lent → Recovered
-timed x = record { lent = tickEntries (entries x) x; bits = 0 }
+abbrev pub begun : Lent → Scanned
+begun x = record { lent = x; least = 65535 }
 
-after-turns : (x : Lent) → tickAfter x .node ≡ lentNode (turns recover (entries x) (timed x))
-unfolding tickAfter tickBoth
-after-turns x = ap lentNode (recover-turns (entries x) (timed x))
+-- all timers have ticked
+abbrev pub timed : ℕ → Lent → Recovered
+timed c x = record { lent = scanned c x .lent; bits = 0 }
+
+after-turns : (c : ℕ) (x : Lent) → scanBoth c x .lent .node ≡ lentNode (turns recover (entries x) (timed c x))
+unfolding scanBoth
+after-turns c x = ap lentNode (recover-turns (entries x) (timed c x))
 
 -- the head and the waiting acknowledgements stay, and what the table says
-pub after-head : (x : Lent) (k : ℕ) → k < 64 → getD (tickAfter x .node) k 0 ≡ getD (x .node) k 0
-after-head x k h =
-    ap (λ (l : List ℕ). getD l k 0) (after-turns x)
-    ∙ turns-head Recovered lentNode recover recover-only (entries x) (timed x) k h
-    ∙ ap (λ (y : Lent). getD (y .node) k 0) (tick-turns (entries x) x)
-    ∙ turns-head Lent nodeOf tickEntry tick-only (entries x) x k h
+pub scan-head : (c : ℕ) (x : Lent) (k : ℕ) → k < 64 → getD (scanBoth c x .lent .node) k 0 ≡ getD (x .node) k 0
+scan-head c x k h =
+    ap (λ (l : List ℕ). getD l k 0) (after-turns c x)
+    ∙ turns-head Recovered lentNode recover recover-only (entries x) (timed c x) k h
+    ∙ ap (λ (y : Scanned). getD (y .lent .node) k 0) (tick-turns c (entries x) (begun x))
+    ∙ turns-head Scanned nodeOf (tickEntry c) (tick-only c) (entries x) (begun x) k h
 
-pub after-long : (x : Lent) → length (tickAfter x .node) ≡ length (x .node)
-after-long x =
-    ap length (after-turns x)
-    ∙ turns-long Recovered lentNode recover recover-only (entries x) (timed x)
-    ∙ ap (λ (y : Lent). length (y .node)) (tick-turns (entries x) x)
-    ∙ turns-long Lent nodeOf tickEntry tick-only (entries x) x
+pub scan-long : (c : ℕ) (x : Lent) → length (scanBoth c x .lent .node) ≡ length (x .node)
+scan-long c x =
+    ap length (after-turns c x)
+    ∙ turns-long Recovered lentNode recover recover-only (entries x) (timed c x)
+    ∙ ap (λ (y : Scanned). length (y .lent .node)) (tick-turns c (entries x) (begun x))
+    ∙ turns-long Scanned nodeOf (tickEntry c) (tick-only c) (entries x) (begun x)
 
-pub after-table : (x : Lent) (j : ℕ) → loadEntry (tickAfter x .node) j ≡ loadEntry (x .node) j
-after-table x j =
-    ap (λ (l : List ℕ). loadEntry l j) (after-turns x)
-    ∙ turns-table Recovered lentNode recover recover-only (entries x) j (timed x)
-    ∙ ap (λ (y : Lent). loadEntry (y .node) j) (tick-turns (entries x) x)
-    ∙ turns-table Lent nodeOf tickEntry tick-only (entries x) j x
+pub scan-table : (c : ℕ) (x : Lent) (j : ℕ) → loadEntry (scanBoth c x .lent .node) j ≡ loadEntry (x .node) j
+scan-table c x j =
+    ap (λ (l : List ℕ). loadEntry l j) (after-turns c x)
+    ∙ turns-table Recovered lentNode recover recover-only (entries x) j (timed c x)
+    ∙ ap (λ (y : Scanned). loadEntry (y .lent .node) j) (tick-turns c (entries x) (begun x))
+    ∙ turns-table Scanned nodeOf (tickEntry c) (tick-only c) (entries x) j (begun x)
 
 -- an end point past the last entry stays
-pub after-later : (x : Lent) (j : ℕ) → entries x ≤ j → endOf (tickAfter x .node) j ≡ endOf (x .node) j
-after-later x j h =
-    ap (λ (l : List ℕ). endOf l j) (after-turns x)
-    ∙ turns-later Recovered lentNode recover recover-only (entries x) j (timed x) h
-    ∙ ap (λ (y : Lent). endOf (y .node) j) (tick-turns (entries x) x)
-    ∙ turns-later Lent nodeOf tickEntry tick-only (entries x) j x h
+pub scan-later : (c : ℕ) (x : Lent) (j : ℕ) → entries x ≤ j → endOf (scanBoth c x .lent .node) j ≡ endOf (x .node) j
+scan-later c x j h =
+    ap (λ (l : List ℕ). endOf l j) (after-turns c x)
+    ∙ turns-later Recovered lentNode recover recover-only (entries x) j (timed c x) h
+    ∙ ap (λ (y : Scanned). endOf (y .lent .node) j) (tick-turns c (entries x) (begun x))
+    ∙ turns-later Scanned nodeOf (tickEntry c) (tick-only c) (entries x) j (begun x) h
 
 -- what an entry's timers find of its end point is what the tick found
-pub tick-finds : (x : Lent) (j : ℕ) → endOf (tickEntries j x .node) j ≡ endOf (x .node) j
-tick-finds x j = rw (tick-turns j x) (turns-later Lent nodeOf tickEntry tick-only j j x (omega arith))
+pub tick-finds : (c : ℕ) (x : Lent) (j : ℕ) → endOf (tickEntries c j (begun x) .lent .node) j ≡ endOf (x .node) j
+tick-finds c x j = rw (tick-turns c j (begun x)) (turns-later Scanned nodeOf (tickEntry c) (tick-only c) j j (begun x) (omega arith))
 
 -- what its recovery finds is what its timers left
-pub recover-finds : (x : Lent) (j : ℕ) → j < entries x → endOf (recoverAll j (timed x) .lent .node) j ≡ endOf (tickEntry j (tickEntries j x) .node) j
-recover-finds x j h =
-    ap (λ (r : Recovered). endOf (lentNode r) j) (recover-turns j (timed x))
-    ∙ turns-later Recovered lentNode recover recover-only j j (timed x) (omega arith)
-    ∙ ap (λ (y : Lent). endOf (y .node) j) (tick-turns (entries x) x)
-    ∙ turns-own Lent nodeOf tickEntry tick-only (entries x) j x h
-    ∙ ap (λ (y : Lent). endOf (tickEntry j y .node) j) (sym (tick-turns j x))
+pub recover-finds : (c : ℕ) (x : Lent) (j : ℕ) → j < entries x
+    → endOf (recoverAll j (timed c x) .lent .node) j ≡ endOf (tickEntry c j (tickEntries c j (begun x)) .lent .node) j
+recover-finds c x j h =
+    ap (λ (r : Recovered). endOf (lentNode r) j) (recover-turns j (timed c x))
+    ∙ turns-later Recovered lentNode recover recover-only j j (timed c x) (omega arith)
+    ∙ ap (λ (y : Scanned). endOf (y .lent .node) j) (tick-turns c (entries x) (begun x))
+    ∙ turns-own Scanned nodeOf (tickEntry c) (tick-only c) (entries x) j (begun x) h
+    ∙ ap (λ (y : Scanned). endOf (tickEntry c j y .lent .node) j) (sym (tick-turns c j (begun x)))
 
 -- and the tick leaves what its recovery left
-pub after-own : (x : Lent) (j : ℕ) → j < entries x → endOf (tickAfter x .node) j ≡ endOf (recover j (recoverAll j (timed x)) .lent .node) j
-after-own x j h =
-    ap (λ (l : List ℕ). endOf l j) (after-turns x)
-    ∙ turns-own Recovered lentNode recover recover-only (entries x) j (timed x) h
-    ∙ ap (λ (r : Recovered). endOf (lentNode (recover j r)) j) (sym (recover-turns j (timed x)))
+pub scan-own : (c : ℕ) (x : Lent) (j : ℕ) → j < entries x → endOf (scanBoth c x .lent .node) j ≡ endOf (recover j (recoverAll j (timed c x)) .lent .node) j
+scan-own c x j h =
+    ap (λ (l : List ℕ). endOf l j) (after-turns c x)
+    ∙ turns-own Recovered lentNode recover recover-only (entries x) j (timed c x) h
+    ∙ ap (λ (r : Recovered). endOf (lentNode (recover j r)) j) (sym (recover-turns j (timed c x)))

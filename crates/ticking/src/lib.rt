@@ -1,7 +1,8 @@
-// A tick of the driver's: every running timer falls by one, entries in table order, an entry's timers in window
-// order; then each Failing end with no timer running becomes Enabled.
-// Proved: `tick` is the definition of specs/Ticking.antt, for every memory; it refuses nothing.
-// proofs/Apart.antt: what a tick makes of an entry leaves every other entry as it was.
+// A tick of the driver's: every running timer falls by one, entries in table order, an entry's timers in window order;
+// then each Failing end with no timer running becomes Enabled. A timer falls by the clock, and a tick in which none can
+// run out does no more than move that.
+// Proved: `tick` is the definition of specs/Ticking.antt, for every memory; it refuses nothing. proofs/Apart.antt: what
+// a tick makes of an entry leaves every other entry as it was.
 mod timers; // timers.rt: an entry's timers
 
 use ends::State;
@@ -11,128 +12,106 @@ use ends::load_state;
 use ends::save;
 use ends::states::anew_run;
 use ends::states::without_urgent;
-use memory::word_at;
 use timers::tick_slots;
+use timing::clock;
+use timing::later;
+use timing::one_less;
+use timing::pass;
+use timing::quiet;
+use timing::soonest;
 use waiting::queues::append;
 ghost use mathlib.Core.Path.{_≡_};
 ghost use mathlib.Core.List.{[]};
-ghost use mathlib.Core.Bool.{true, false, _&&_, _||_};
-ghost use Prim.Native.Nat.{ℕ, _<_, _≤_, _%_, _^_};
-ghost use lib.Dec.{eqb};
-ghost use Rattle.ends.specs.Ends.{word, endOf};
-ghost use Rattle.ticking.specs.Ticking.{ticked, tickEnabled, tickOpen, tickFailing, tickEntry, tickEntries, recover as recovered, recoverAll, entries as entriesOf, tickAnswer, tickAfter};
+ghost use mathlib.Core.Bool.{true, false};
+ghost use Prim.Native.Nat.{_<_, _≤_, _^_};
+ghost use Rattle.ends.specs.Ends.{endOf};
+ghost use Rattle.ticking.specs.Ticking.{ticked, tickEnabled, tickOpen, tickFailing, tickEntry, tickEntries};
+ghost use Rattle.ticking.specs.Ticking.{recover as recovered, recoverAll, entries as entriesOf, scanAfter};
+ghost use Rattle.ticking.specs.Ticking.{scanOf, tickAnswer, tickAfter};
 ghost use Rattle.ends.specs.States.{isOver};
 
-// Entry i at Enabled, with its Reset's timer at n: where that comes to zero the Reset waits again. Answers whether the node altered.
-fn tick_enabled(node: &mut [u64], book: &mut [u16], i: u8, n: u16, sent: bool) -> bool
-    ensures after { λ _. ⌜ record { node = now (node .exit); book = now (book .exit); store = []; out = [] }
-        ≡ tickEnabled (record { node = now (node .entry); book = now (book .entry); store = []; out = [] }) i (endOf (now (node .entry)) i) n sent ⌝ }
-    ensures same { λ r. ⌜ (r ≡ false → now (node .exit) ≡ now (node .entry)) ⌝ }
+// In tick c entry i at Enabled, with its Reset's timer running out at tick d: then the Reset waits again. Answers the
+// least that is left of a timer, as each of these does.
+fn tick_enabled(
+    node: &mut [u64],
+    book: &mut [u16],
+    i: u8,
+    c: u16,
+    d: u16,
+    sent: bool,
+    least: u16,
+) -> u16
+    ensures { λ r. ⌜ scanOf (now (node .exit)) (now (book .exit)) r
+        ≡ tickEnabled c (scanOf (now (node .entry)) (now (book .entry)) least) i (endOf (now (node .entry)) i)
+        d sent ⌝ }
 {
-    if n == 0 {
-        return false;
+    if d == 0 {
+        return least;
+    }
+    if d != c {
+        return soonest(least, c, d);
     }
     let run = load(node, i as usize).run;
-    save(node, i as usize, State::Enabled(n - 1, sent), run);
-    if n == 1 {
-        append(book, 0, 16 + i as u16);
-    }
-    true
+    save(node, i as usize, State::Enabled(0, sent), run);
+    append(book, 0, 16 + i as u16);
+    least
 }
 
-// Entry i at Open: it is Failing from now on where a number's retries are spent, and only then does the node alter. Answers whether.
-fn tick_open(node: &mut [u64], book: &mut [u16], i: u8) -> bool
-    ensures after { λ _. ⌜ record { node = now (node .exit); book = now (book .exit); store = []; out = [] }
-        ≡ tickOpen (record { node = now (node .entry); book = now (book .entry); store = []; out = [] }) i (endOf (now (node .entry)) i)
-        (ticked i (endOf (now (node .entry)) i) false (now (book .entry))) ⌝ }
-    ensures same { λ r. ⌜ (r ≡ false → now (node .exit) ≡ now (node .entry)) ⌝ }
+// Entry i at Open: it is Failing from now on where a number's retries are spent, and only then does the node alter.
+fn tick_open(node: &mut [u64], book: &mut [u16], i: u8, c: u16, least: u16) -> u16
+    ensures { λ r. ⌜ scanOf (now (node .exit)) (now (book .exit)) r
+        ≡ tickOpen (scanOf (now (node .entry)) (now (book .entry)) least) i (endOf (now (node .entry)) i)
+        (ticked c i (endOf (now (node .entry)) i) false (now (book .entry)) least) ⌝ }
 {
     let e = load(node, i as usize);
-    let t = tick_slots(book, i, e, false);
+    let t = tick_slots(book, i, e, c, false, least);
     if t.failing {
         let run = without_urgent(e.run);
         save(node, i as usize, State::Failing(t.running as u16), run);
-        return true;
+        return t.least;
     }
-    false
+    t.least
 }
 
 // Entry i at Failing.
-fn tick_failing(node: &mut [u64], book: &mut [u16], i: u8)
-    ensures { λ _. ⌜ record { node = now (node .exit); book = now (book .exit); store = []; out = [] }
-        ≡ tickFailing (record { node = now (node .entry); book = now (book .entry); store = []; out = [] }) i (endOf (now (node .entry)) i)
-        (ticked i (endOf (now (node .entry)) i) true (now (book .entry))) ⌝ }
+fn tick_failing(node: &mut [u64], book: &mut [u16], i: u8, c: u16, least: u16) -> u16
+    ensures { λ r. ⌜ scanOf (now (node .exit)) (now (book .exit)) r
+        ≡ tickFailing (scanOf (now (node .entry)) (now (book .entry)) least) i (endOf (now (node .entry)) i)
+        (ticked c i (endOf (now (node .entry)) i) true (now (book .entry)) least) ⌝ }
 {
     let e = load(node, i as usize);
-    let t = tick_slots(book, i, e, true);
+    let t = tick_slots(book, i, e, c, true, least);
     let run = e.run;
-    save(node, i as usize, State::Failing(t.running as u16), run)
+    save(node, i as usize, State::Failing(t.running as u16), run);
+    t.least
 }
 
-// The timers of entry i. Answers whether there may be an end to recover: where not, the node is as it was.
-fn tick_entry(node: &mut [u64], book: &mut [u16], i: u8) -> bool
-    ensures after { λ _. ⌜ record { node = now (node .exit); book = now (book .exit); store = []; out = [] }
-        ≡ tickEntry i (record { node = now (node .entry); book = now (book .entry); store = []; out = [] }) ⌝ }
-    ensures none { λ r. ⌜ (r ≡ false → (now (node .exit) ≡ now (node .entry)) × (isOver (endOf (now (node .entry)) i .state) ≡ false)) ⌝ }
+// The timers of entry i.
+fn tick_entry(node: &mut [u64], book: &mut [u16], i: u8, c: u16, least: u16) -> u16
+    ensures { λ r. ⌜ scanOf (now (node .exit)) (now (book .exit)) r
+        ≡ tickEntry c i (scanOf (now (node .entry)) (now (book .entry)) least) ⌝ }
 {
     let state = load_state(node, i as usize);
     match state {
-        State::Closed => false,
-        State::Enabled(n, sent) => tick_enabled(node, book, i, n, sent),
-        State::Open => tick_open(node, book, i),
-        State::Failing(_) => {
-            tick_failing(node, book, i);
-            true
-        }
+        State::Closed => least,
+        State::Enabled(d, sent) => tick_enabled(node, book, i, c, d, sent, least),
+        State::Open => tick_open(node, book, i, c, least),
+        State::Failing(_) => tick_failing(node, book, i, c, least),
     }
 }
 
-// One or the other, both worked out beforehand.
-fn either(a: bool, b: bool) -> bool
-    ensures { λ r. ⌜ r ≡ (a || b) ⌝ }
+// Those of the first n entries, in table order.
+fn tick_entries(node: &mut [u64], book: &mut [u16], n: u8, c: u16) -> u16
+    ensures { λ r. ⌜ scanOf (now (node .exit)) (now (book .exit)) r
+        ≡ tickEntries c n (scanOf (now (node .entry)) (now (book .entry)) 65535) ⌝ }
 {
-    if a {
-        return true;
-    }
-    b
-}
-
-// Whether entry i is Open with nothing handed out: none of its timers runs.
-fn is_idle(node: &[u64], i: u8) -> bool
-    ensures { λ r. ⌜ r ≡ eqb (word (now (node .entry)) i 8 % 4) 2 && eqb (word (now (node .entry)) i 15 % 256) 0 ⌝ }
-{
-    let at = 320 + 32 * i as usize;
-    if word_at(node, at + 8) % 4 == 2 {
-        return word_at(node, at + 15) % 256 == 0;
-    }
-    false
-}
-
-// The turn of entry i, after turns that left `over`. Most entries are idle, so that is asked first.
-fn turn(node: &mut [u64], book: &mut [u16], i: u8, over: bool) -> bool
-    ensures after { λ _. ⌜ record { node = now (node .exit); book = now (book .exit); store = []; out = [] }
-        ≡ tickEntry i (record { node = now (node .entry); book = now (book .entry); store = []; out = [] }) ⌝ }
-    ensures none { λ r. ⌜ (r ≡ false → (over ≡ false) × (now (node .exit) ≡ now (node .entry)) × (isOver (endOf (now (node .entry)) i .state) ≡ false)) ⌝ }
-{
-    if is_idle(node, i) {
-        return over;
-    }
-    either(tick_entry(node, book, i), over)
-}
-
-// Those of the first n entries, in table order. Answers whether there may be an end to recover.
-fn tick_entries(node: &mut [u64], book: &mut [u16], n: u8) -> bool
-    ensures after { λ _. ⌜ record { node = now (node .exit); book = now (book .exit); store = []; out = [] }
-        ≡ tickEntries n (record { node = now (node .entry); book = now (book .entry); store = []; out = [] }) ⌝ }
-    ensures none { λ r. ⌜ (r ≡ false → (now (node .exit) ≡ now (node .entry)) × ((j : ℕ) → j < n → isOver (endOf (now (node .entry)) j .state) ≡ false)) ⌝ }
-{
-    let mut over = false;
+    let mut least: u16 = 65535;
     let mut i: u8 = 0;
     while i < n {
-        over = turn(node, book, i, over);
+        least = tick_entry(node, book, i, c, least);
         i += 1;
     }
-    over
+    least
 }
 
 // Whether a state is Failing with no timer running.
@@ -188,16 +167,29 @@ fn entries(node: &[u64]) -> u8
     16
 }
 
+// Tick c, where a timer can run out.
+fn scan(node: &mut [u64], book: &mut [u16], c: u16) -> u16
+    ensures { λ r. ⌜ record { lent = record { node = now (node .exit); book = now (book .exit); store = []; out = [] }; bits = r }
+        ≡ scanAfter c (record { node = now (node .entry); book = now (book .entry); store = []; out = [] }) ⌝ }
+{
+    let n = entries(node);
+    let least = tick_entries(node, book, n, c);
+    let bits = recover_all(node, book, n);
+    pass(node, c, one_less(least));
+    bits
+}
+
 // A tick. Answers 16 bits, entry 0 lowest: the entries that became Enabled in it.
 pub fn tick(node: &mut [u64], book: &mut [u16]) -> u16
     ensures { λ r. ⌜ r ≡ tickAnswer (record { node = now (node .entry); book = now (book .entry); store = []; out = [] }) ⌝ }
     ensures { λ _. ⌜ record { node = now (node .exit); book = now (book .exit); store = []; out = [] }
         ≡ tickAfter (record { node = now (node .entry); book = now (book .entry); store = []; out = [] }) ⌝ }
 {
-    let n = entries(node);
-    // Most ticks leave no end to recover: then the entries are not gone through again.
-    if tick_entries(node, book, n) {
-        return recover_all(node, book, n);
+    let c = later(clock(node), 1);
+    let left = quiet(node);
+    if left != 0 {
+        pass(node, c, left - 1);
+        return 0;
     }
-    0
+    scan(node, book, c)
 }

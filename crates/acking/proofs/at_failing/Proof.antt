@@ -36,6 +36,9 @@ put-half-requires c κs = search needs
 save-requires : tie.Need-save-requires
 save-requires c κs = search needs
 
+rouse-requires : tie.Need-rouse-requires
+rouse-requires c κs = search needs
+
 returns : tie.Need-returns
 unfolding ackAnswer ackNode ackBook
 returns c = rw (ignored _ _ (sym (c .before .before .tally-of .ensures) ∙ c .enum-told .given .1)) (refl, (refl, refl))
@@ -49,8 +52,8 @@ same-length-2 c = search needs
 returns-2 : tie.Need-returns-2
 unfolding ackAnswer ackNode ackBook
 returns-2 c =
-    let h = counted _ _ _ _ (sym (c .before .before .before .before .before .before .before .before .before .before .before .before .before .before .before .tally-of .ensures) ∙ c .before .before .before .before .before .before .before .before .before .before .before .before .before .next .given .1) in
-    rw (h .0) (rw (h .1 .1), (rw (c .before .before .save .ensures, c .before .before .before .before .before .before .before .before .fewer-of .ensures, c .before .before .before .before .before .before .before .before .before .half-at .ensures, c .before .before .before .before .before .before .before .before .before .before .before .cell-of .ensures, h .1 .0), rw (c .before .before .before .before .before .before .put-half .ensures, c .before .before .before .before .before .before .before .before .before .before .before .cell-of .ensures)))
+    let h = counted _ _ _ _ (sym (c .before .before .before .before .before .before .before .before .before .before .before .before .before .before .before .before .before .before .before .tally-of .ensures) ∙ c .before .before .before .before .before .before .before .before .before .before .before .before .before .before .before .before .before .next .given .1) in
+    rw (h .0) (rw (h .1 .1), (rw (c .before .before .rouse .ensures, c .before .before .before .before .before .before .save .ensures, c .before .before .before .before .before .before .before .before .before .before .before .before .fewer-of .ensures, c .before .before .before .before .before .before .before .before .before .before .before .before .before .half-at .ensures, c .before .before .before .before .before .before .before .before .before .before .before .before .before .before .before .cell-of .ensures, h .1 .0), rw (c .before .before .before .before .before .before .before .before .before .before .put-half .ensures, c .before .before .before .before .before .before .before .before .before .before .before .before .before .before .before .cell-of .ensures)))
 
 pub at-failing-spec : {M : Type 1} → statement M
 at-failing-spec =
@@ -66,6 +69,7 @@ at-failing-spec =
     fewer-of-requires
     put-half-requires
     save-requires
+    rouse-requires
     returns
     same-length
     same-length-2

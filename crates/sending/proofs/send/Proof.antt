@@ -68,15 +68,12 @@ spot-of-requires c κs = search needs
 put-all-requires : tie.Need-put-all-requires
 put-all-requires c κs = search needs
 
-sent-run-requires : tie.Need-sent-run-requires
-sent-run-requires c κs =
+put-sent-requires : tie.Need-put-sent-requires
+put-sent-requires c κs =
     let t = c .before .before .before .before .before .before .before .before .before .before .before .before .before .before in
-    omega (arith, passed t, t .before .before .before .before .before .read-end .ok)
-
-save-requires : tie.Need-save-requires
-save-requires c κs =
-    let u = c .before .before .before .before .before .before .before .before .before .before .before .before .before .before .before .before .before .before .before .before .before .before in
-    omega (arith, u .if1 .left, u .before .count .ok)
+    let u = c .before .before .before .before .before .before .before .before .before .before .before .before .before .before .before .before .before .before .before .before .before in
+    let m = passed t in
+    (omega (arith, u .if1 .left, u .before .count .ok), omega (arith, m, t .before .before .before .before .before .read-end .ok), omega (arith, m, t .before .before .before .before .before .read-end .ok))
 
 same-length-2 : tie.Need-same-length-2
 same-length-2 c = search needs
@@ -90,11 +87,11 @@ same-length-4 c = search needs
 returns-2 : tie.Need-returns-2
 unfolding sendAnswer sendAfter
 returns-2 c =
-    let t = c .before .before .before .before .before .before .before .before .before .before .before .before .before .before .before .before .before .before in
+    let t = c .before .before .before .before .before .before .before .before .before .before .before .before .before .before .before .before .before in
     let j = t .before .before in
     let l = j .before .before .before in (
       rw (lt-leb _ _ (rw (l .before .before .before .count .ensures) at (l .before .before .if1 .left)), ← l .read-end .ensures, ← j .before .need .ensures) (rw (t .enum-told .given .1) at (j .judge-send .ensures)),
-      rw (c .before .before .save .ensures, c .before .before .before .sent-run .ensures, c .before .before .before .before .before .before .before .put-all .ensures, c .before .before .before .before .before .before .before .before .before .spot-of .ensures, c .before .before .before .before .before .before .before .before .before .before .slot-for .ensures, c .before .before .before .before .before .before .before .before .before .before .before .before .before .wait-as-data .ensures, c .before .before .before .before .before .before .before .before .before .before .before .before .before .before .before .advance .ensures, ← l .read-end .ensures, passed t .opened),
+      rw (c .before .before .put-sent .ensures, c .before .before .before .before .before .before .put-all .ensures, c .before .before .before .before .before .before .before .before .spot-of .ensures, c .before .before .before .before .before .before .before .before .before .slot-for .ensures, c .before .before .before .before .before .before .before .before .before .before .before .before .wait-as-data .ensures, c .before .before .before .before .before .before .before .before .before .before .before .before .before .before .advance .ensures, ← l .read-end .ensures),
     )
 
 same-length-5 : tie.Need-same-length-5
@@ -127,8 +124,7 @@ send-spec =
     slot-for-requires
     spot-of-requires
     put-all-requires
-    sent-run-requires
-    save-requires
+    put-sent-requires
     same-length-2
     same-length-3
     same-length-4

@@ -3,10 +3,19 @@ use Rattle.handing.specs.Handing.{fitted, once, dataFrame}
 use lib.Seq.{sets}
 use denote.Ref.{now}
 use mathlib.Core.Path.{_≡_, refl}
+use native.Mathlib.Omega.{arith}
 use Rattle.ends.specs.Ends.{endOf}
 use borrow.Author.Needs.{needs}
 use Rattle.handing.proofs.sorts.put_again.Statement.{statement}
 use Rattle.handing.proofs.sorts.put_again.Tie as tie
+
+-- the frame that is put is the slot's data
+data-put :
+    (c : tie.After-put-frame) →
+    (c .put-frame .result ≡ fitted (now (c .before .before .before .before .before .before .before .before .before .before .before .before .before .before .before .before .before .before .before .before .before .args .frame)) (dataFrame (now (c .before .before .before .before .before .before .before .before .before .before .before .before .before .before .before .before .before .before .before .before .before .args .node)) (now (c .before .before .before .before .before .before .before .before .before .before .before .before .before .before .before .before .before .before .before .before .before .args .book)) (now (c .before .before .before .before .before .before .before .before .before .before .before .before .before .before .before .before .before .before .before .before .before .args .store)) (c .before .before .before .before .before .before .before .before .before .before .before .before .before .before .before .before .before .before .before .before .before .args .x))) × (c .put-frame .last .0 ≡ once (c .put-frame .result) (now (c .before .before .before .before .before .before .before .before .before .before .before .before .before .before .before .before .before .before .before .before .before .args .frame)) (sets (now (c .before .before .before .before .before .before .before .before .before .before .before .before .before .before .before .before .before .before .before .before .before .args .frame)) 0 (dataFrame (now (c .before .before .before .before .before .before .before .before .before .before .before .before .before .before .before .before .before .before .before .before .before .args .node)) (now (c .before .before .before .before .before .before .before .before .before .before .before .before .before .before .before .before .before .before .before .before .before .args .book)) (now (c .before .before .before .before .before .before .before .before .before .before .before .before .before .before .before .before .before .before .before .before .before .args .store)) (c .before .before .before .before .before .before .before .before .before .before .before .before .before .before .before .before .before .before .before .before .before .args .x))))
+unfolding dataFrame endOf
+data-put c =
+    rw (c .before .part .ensures, c .before .before .before .spot-of .ensures, c .before .before .before .before .load-place .ensures, c .before .before .before .before .before .before .half-at .ensures, c .before .before .before .before .before .before .before .before .fields-to .ensures, c .before .before .before .before .before .before .before .before .before .before .number-in .ensures, c .before .before .before .before .before .before .before .before .before .before .before .run-of .ensures, c .before .before .before .before .before .before .before .before .before .before .before .before .before .load-entry .ensures, c .before .before .before .before .before .before .before .before .before .before .before .before .before .before .before .less .ensures, c .before .before .before .before .before .before .before .before .before .before .before .before .before .before .before .before .entry-of .ensures) at (c .put-frame .ensures)
 
 entry-of-requires : tie.Need-entry-of-requires
 entry-of-requires c κs = search needs
@@ -63,13 +72,22 @@ unlink-requires : tie.Need-unlink-requires
 unlink-requires c κs = search needs
 
 cast-put-half : tie.Need-cast-put-half
-cast-put-half c = search needs
+cast-put-half c = omega (arith, c .before .before .before .before .before .before .before .before .before .before .before .before .before .before .before .before .before .before .before .before .before .before .before .before .before .less .ok)
 
 add-put-half : tie.Need-add-put-half
-add-put-half c = search needs
+add-put-half c = omega (arith, c .before .before .before .before .before .before .before .before .before .before .before .before .before .before .before .before .before .before .before .before .before .before .before .before .before .less .ok)
+
+clock-requires : tie.Need-clock-requires
+clock-requires c κs = search needs
+
+later-requires : tie.Need-later-requires
+later-requires c κs = search needs
 
 put-half-requires : tie.Need-put-half-requires
 put-half-requires c κs = search needs
+
+heed-requires : tie.Need-heed-requires
+heed-requires c κs = search needs
 
 same-length : tie.Need-same-length
 same-length c = search needs
@@ -77,30 +95,30 @@ same-length c = search needs
 same-length-2 : tie.Need-same-length-2
 same-length-2 c = search needs
 
--- the frame that is put is the slot's data
-data-put :
-    (c : tie.After-put-frame) →
-    (c .put-frame .result ≡ fitted (now (c .before .before .before .before .before .before .before .before .before .before .before .before .before .before .before .before .before .args .frame)) (dataFrame (now (c .before .before .before .before .before .before .before .before .before .before .before .before .before .before .before .before .before .args .node)) (now (c .before .before .before .before .before .before .before .before .before .before .before .before .before .before .before .before .before .args .book)) (now (c .before .before .before .before .before .before .before .before .before .before .before .before .before .before .before .before .before .args .store)) (c .before .before .before .before .before .before .before .before .before .before .before .before .before .before .before .before .before .args .x))) × (c .put-frame .last .0 ≡ once (c .put-frame .result) (now (c .before .before .before .before .before .before .before .before .before .before .before .before .before .before .before .before .before .args .frame)) (sets (now (c .before .before .before .before .before .before .before .before .before .before .before .before .before .before .before .before .before .args .frame)) 0 (dataFrame (now (c .before .before .before .before .before .before .before .before .before .before .before .before .before .before .before .before .before .args .node)) (now (c .before .before .before .before .before .before .before .before .before .before .before .before .before .before .before .before .before .args .book)) (now (c .before .before .before .before .before .before .before .before .before .before .before .before .before .before .before .before .before .args .store)) (c .before .before .before .before .before .before .before .before .before .before .before .before .before .before .before .before .before .args .x))))
-unfolding dataFrame endOf
-data-put c =
-    rw (c .before .part .ensures, c .before .before .before .spot-of .ensures, c .before .before .before .before .load-place .ensures, c .before .before .before .before .before .half-at .ensures, c .before .before .before .before .before .before .before .fields-to .ensures, c .before .before .before .before .before .before .before .before .number-in .ensures, c .before .before .before .before .before .before .before .before .before .run-of .ensures, c .before .before .before .before .before .before .before .before .before .before .load-entry .ensures, c .before .before .before .before .before .before .before .before .before .before .before .less .ensures, c .before .before .before .before .before .before .before .before .before .before .before .before .entry-of .ensures) at (c .put-frame .ensures)
+same-length-3 : tie.Need-same-length-3
+same-length-3 c = search needs
 
 returns : tie.Need-returns
 returns c =
     let p = rw (c .before .w .given .1) at (data-put (c .before .before .before .before .before)) in
-    (p .0, (refl, p .1))
-
-same-length-3 : tie.Need-same-length-3
-same-length-3 c = search needs
+    (p .0, (refl, (refl, p .1)))
 
 same-length-4 : tie.Need-same-length-4
 same-length-4 c = search needs
 
+same-length-5 : tie.Need-same-length-5
+same-length-5 c = search needs
+
+same-length-6 : tie.Need-same-length-6
+same-length-6 c = search needs
+
 returns-2 : tie.Need-returns-2
 unfolding endOf
 returns-2 c =
-    let p = rw (c .before .before .before .before .before .before .before .before .before .n .given .1) at (data-put (c .before .before .before .before .before .before .before .before .before .before .before .before .before)) in
-    (p .0, (rw (c .before .before .put-half .ensures, c .before .before .before .before .before .before .unlink .ensures, c .before .before .before .before .before .before .before .before .before .before .before .before .before .before .before .before .before .before .before .before .before .before .before .load-entry .ensures, c .before .before .before .before .before .before .before .before .before .before .before .before .before .before .before .before .before .before .before .before .before .before .before .before .less .ensures, c .before .before .before .before .before .before .before .before .before .before .before .before .before .before .before .before .before .before .before .before .before .before .before .before .before .entry-of .ensures), p .1))
+    let p = rw (c .before .before .before .before .before .before .before .before .before .before .before .before .before .before .before .before .n .given .1) at (data-put (c .before .before .before .before .before .before .before .before .before .before .before .before .before .before .before .before .before .before .before .before)) in
+    let l = c .before .before .before .before .before .before .before .before .before .before .before .before .before .before .before .before .before .before .before .before .before .before .before .before .before .before .before .before .before .before .before .before .before in
+    let e = l .before .before .before .entry-of .ensures in
+    (p .0, (rw (c .before .before .heed .ensures, l .load-entry .ensures, e), (rw (c .before .before .before .before .before .before .put-half .ensures, c .before .before .before .before .before .before .before .later .ensures, c .before .before .before .before .before .before .before .before .clock .ensures, c .before .before .before .before .before .before .before .before .before .before .before .before .before .unlink .ensures, l .load-entry .ensures, l .before .before .less .ensures, e), p .1)))
 
 pub put-again-spec : {M : Type 1} → statement M
 put-again-spec =
@@ -126,10 +144,15 @@ put-again-spec =
     unlink-requires
     cast-put-half
     add-put-half
+    clock-requires
+    later-requires
     put-half-requires
+    heed-requires
     same-length
     same-length-2
-    returns
     same-length-3
+    returns
     same-length-4
+    same-length-5
+    same-length-6
     returns-2)
