@@ -1,5 +1,5 @@
--- An acknowledgement taken in by a sender (01, "End points"): what it was, and what node and book hold afterwards. Cited by arrival.
--- Assumes nothing.
+-- An acknowledgement taken in by a sender (01, "End points"): what it was, and what node and book hold afterwards.
+-- Cited by arrival. Assumes nothing.
 use Prim.Native.Nat.{ℕ, _+_, _-_, _%_}
 use mathlib.Core.Bool.{Bool, _&&_}
 use mathlib.Core.List.{List}

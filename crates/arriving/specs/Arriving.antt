@@ -1,5 +1,5 @@
--- An arrival (01, "End points", "Refusal numbers"): which answer, and what all that was lent holds afterwards. Cited by the call.
--- Assumes nothing.
+-- An arrival (01, "End points", "Refusal numbers"): which answer, and what all that was lent holds afterwards. Cited by
+-- the call. Assumes nothing.
 use Prim.Native.Nat.{ℕ, _+_, _*_}
 use mathlib.Core.Bool.{Bool, true, false, not, _&&_}
 use mathlib.Core.List.{List, [], _∷_}
@@ -40,7 +40,8 @@ blockRoom e = 6 + e .run .window .size * (4 + e .entry .largest)
 
 -- ---- 13, 5, 14, 6
 
--- of a frame of type t with a payload of n bytes, for entry i of the count, which is e; with a store and a block of so many bytes
+-- of a frame of type t with a payload of n bytes, for entry i of the count, which is e; with a store and a block of so
+-- many bytes
 abbrev pub entryTests : List ℕ → ℕ → EndPoint → FrameType → ℕ → ℕ → ℕ → List (Bool × Refusal)
 entryTests ws i e t n store block =
     (leb (countIn ws) i, refusal.NoEndPoint)

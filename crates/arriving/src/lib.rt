@@ -69,8 +69,8 @@ fn take(
     }
 }
 
-// End point i as `load` reads it. It has one caller, so that the compiler reads there what the caller uses and no more: `load` has
-// many, and hands over the whole by way of memory.
+// End point i as `load` reads it. It has one caller, so that the compiler reads there what the caller uses and no more:
+// `load` has many, and hands over the whole by way of memory.
 fn read_end(node: &[u64], i: usize) -> EndPoint
     requires { ⌜ i < 4096 ⌝ }
     ensures { λ r. ⌜ r ≡ endOf (now (node .entry)) i ⌝ }
@@ -87,8 +87,8 @@ fn read_end(node: &[u64], i: usize) -> EndPoint
     }
 }
 
-// A frame of type t, with a payload of n bytes by its header and number s, comes to entry i. It is handed these and not the header: what
-// goes in one word has to be put into it and taken out again.
+// A frame of type t, with a payload of n bytes by its header and number s, comes to entry i. It is handed these and not
+// the header: what goes in one word has to be put into it and taken out again.
 fn come(
     node: &mut [u64],
     book: &mut [u16],

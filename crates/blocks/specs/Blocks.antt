@@ -1,5 +1,5 @@
--- The host's block (01, "End points"): count k in 2 bytes, k + 1 offsets of 4 bytes from the block's start, the last its end, then
--- the payloads. Cited by whatever delivers. Assumes nothing.
+-- The host's block (01, "End points"): count k in 2 bytes, k + 1 offsets of 4 bytes from the block's start, the last
+-- its end, then the payloads. Cited by whatever delivers. Assumes nothing.
 use Prim.Native.Nat.{ℕ, _+_, _*_}
 use mathlib.Core.List.{List, [], _∷_, _++_}
 use lib.ListN.{length}

@@ -1,5 +1,5 @@
--- How a host reads a block: how many payloads, and each from its offset to the next. Cited by the law that nothing is lost in a
--- block. Assumes nothing.
+-- How a host reads a block: how many payloads, and each from its offset to the next. Cited by the law that nothing is
+-- lost in a block. Assumes nothing.
 use Prim.Native.Nat.{ℕ, zero, suc, _+_, _*_, _-_}
 use mathlib.Core.List.{List, [], _∷_}
 use lib.ListN.{take, drop}

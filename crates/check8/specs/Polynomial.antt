@@ -1,5 +1,5 @@
--- The check byte, by polynomials over bits (01, "The frame"): a number's binary digits are the coefficients, bitXor adds.
--- Cited by the frame, and by whoever speaks of a good one. Assumes nothing.
+-- The check byte, by polynomials over bits (01, "The frame"): a number's binary digits are the coefficients, bitXor
+-- adds. Cited by the frame, and by whoever speaks of a good one. Assumes nothing.
 use Prim.Native.Nat.{ℕ, zero, suc, _*_}
 use mathlib.Core.Bool.{cond}
 use mathlib.Core.List.{List, [], _∷_}

@@ -1,5 +1,5 @@
--- An end point in the node's words: what is read of entry i, and the words it is put back as (Layout.antt has the places).
--- Cited by every call on an entry. Assumes nothing.
+-- An end point in the node's words: what is read of entry i, and the words it is put back as (Layout.antt has the
+-- places). Cited by every call on an entry. Assumes nothing.
 use Prim.Native.Nat.{ℕ, _+_, _%_}
 use mathlib.Core.Bool.{Bool, true, false}
 use mathlib.Core.List.{List, [], _∷_, _++_}

@@ -1,5 +1,5 @@
--- Everything that a call can be lent, as lists. What a call is not lent is the empty list. Cited by every public contract.
--- Assumes nothing.
+-- Everything that a call can be lent, as lists. What a call is not lent is the empty list. Cited by every public
+-- contract. Assumes nothing.
 use Prim.Native.Nat.{ℕ}
 use mathlib.Core.List.{List}
 

@@ -1,5 +1,5 @@
--- What a window found of a number, and an end point's run begun anew or without its Urgent (01, "End points"). Cited by the calls. Assumes
--- nothing.
+-- What a window found of a number, and an end point's run begun anew or without its Urgent (01, "End points"). Cited by
+-- the calls. Assumes nothing.
 use mathlib.Core.Bool.{Bool, true, false}
 use Rattle.window.specs.Windows.{resetOf}
 use Rattle.window.specs.declared.Found.{Found}

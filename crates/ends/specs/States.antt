@@ -1,4 +1,5 @@
--- Questions about an end point's kind and state (01, "End points"). Cited by the calls and by the machine. Assumes nothing.
+-- Questions about an end point's kind and state (01, "End points"). Cited by the calls and by the machine. Assumes
+-- nothing.
 use mathlib.Core.Bool.{Bool, true, false}
 use lib.Dec.{eqb}
 use Rattle.table.specs.declared.Kind.{Kind}

@@ -1,7 +1,7 @@
 // An end point: what the table says of it, its state, and its run. It lives in the node's words, one field a
 // word, and is taken out and put back by value.
-// Proved: `load`, `save` and `save_entry` are the definitions of specs/Ends.antt, for every memory. The crate `kept` has
-// the laws: what is saved is loaded back, and nothing else of the node alters.
+// Proved: `load`, `save` and `save_entry` are the definitions of specs/Ends.antt, for every memory. The crate `kept`
+// has the laws: what is saved is loaded back, and nothing else of the node alters.
 pub mod answers; // answers.rt: what the calls answer
 pub mod heads; // heads.rt: the node's head
 pub mod states; // states.rt: questions about kind and state, and a run begun anew
@@ -78,8 +78,8 @@ fn state_of(tag: u64, value: u64, flag: u64) -> State
     State::Failing((value % 65536) as u16)
 }
 
-// The words of entry i, as many of its 32 as there are. The length is tested once here: where it is known, as in every call of
-// the node, no read of a word below tests it again.
+// The words of entry i, as many of its 32 as there are. The length is tested once here: where it is known, as in every
+// call of the node, no read of a word below tests it again.
 fn words_of(node: &[u64], i: usize) -> &[u64]
     requires { ⌜ i < 4096 ⌝ }
     ensures { λ r. ⌜ now r ≡ take 32 (drop (entryAt i) (now (node .entry))) ⌝ }

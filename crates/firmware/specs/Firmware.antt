@@ -1,5 +1,5 @@
--- The frame reader, writer and window test in C's numbers (01, "Forms wanted by the station"). Fields are seven bytes: destination,
--- protocol, source, type, user bits, channel, sequence. Cited by the exported functions. Assumes nothing.
+-- The frame reader, writer and window test in C's numbers (01, "Forms wanted by the station"). Fields are seven bytes:
+-- destination, protocol, source, type, user bits, channel, sequence. Cited by the exported functions. Assumes nothing.
 use Prim.Native.Nat.{ℕ}
 use mathlib.Core.List.{List, [], _∷_}
 use lib.ListN.{getD}

@@ -1,5 +1,5 @@
--- An answer of the node's calls for C: the refusal by itself, and the values that come with it in a lent place. The numbers are the
--- paper's, from Answers.antt of crate ends. Cited by the exported calls. Assumes nothing.
+-- An answer of the node's calls for C: the refusal by itself, and the values that come with it in a lent place. The
+-- numbers are the paper's, from Answers.antt of crate ends. Cited by the exported calls. Assumes nothing.
 use Prim.Native.Nat.{ℕ}
 use mathlib.Core.List.{List, [], _∷_}
 use lib.ListN.{getD}
@@ -9,8 +9,8 @@ use lib.Seq.{sets}
 abbrev pub refusalIn : List ℕ → ℕ
 refusalIn a = getD a 0 0
 
--- what the place of one value, or of two, holds afterwards: the second is 0 where only one comes. A refusal has none, and leaves the
--- place as it was
+-- what the place of one value, or of two, holds afterwards: the second is 0 where only one comes. A refusal has none,
+-- and leaves the place as it was
 unfoldable pub valueIn : List ℕ → ℕ → ℕ
 valueIn [] old = old
 valueIn (n ∷ []) old = old

@@ -103,8 +103,8 @@ pub extern "C" fn shelugvar_frame_write(buffer: &mut [u8], fields: &[u8; 7], pay
     }
 }
 
-// Whether a sequence number lies in the window of a size from a start on: 1 in it, 0 outside, 2 where the size is none. A
-// size of 0 is the default.
+// Whether a sequence number lies in the window of a size from a start on: 1 in it, 0 outside, 2 where the size is none.
+// A size of 0 is the default.
 #[no_mangle]
 pub extern "C" fn shelugvar_window_test(start: u8, size: u16, seq: u8) -> u8
     ensures { λ r. ⌜ r ≡ windowNumber start size seq ⌝ }

@@ -148,8 +148,8 @@ fn arrived(values: &mut [usize; 2], a: Arrived) -> u8
     }
 }
 
-// A frame has arrived: what it was (0 ignored, 1 acknowledged, 2 opened, 3 Reset, 4 Data, 5 Urgent), and the numbers passed, the
-// payloads held or the block's length. Refuses 10, 11, 12, 13, 5, 14, 6.
+// A frame has arrived: what it was (0 ignored, 1 acknowledged, 2 opened, 3 Reset, 4 Data, 5 Urgent), and the numbers
+// passed, the payloads held or the block's length. Refuses 10, 11, 12, 13, 5, 14, 6.
 #[no_mangle]
 pub extern "C" fn shelugvar_arrival(
     node: &mut [u64; 832],

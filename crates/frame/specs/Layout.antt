@@ -1,4 +1,5 @@
--- The frame's bytes (01, "The frame"), as they are written and where each stands. Cited by reader and writer. Assumes nothing.
+-- The frame's bytes (01, "The frame"), as they are written and where each stands. Cited by reader and writer. Assumes
+-- nothing.
 use Prim.Native.Nat.{ℕ, _+_, _-_, _*_, _/_, _%_}
 use mathlib.Core.List.{List, [], _∷_, _++_}
 use lib.ListN.{length, getD, take, drop}

@@ -1,5 +1,5 @@
--- The reader (01, "The frame", "Refusal numbers"): 10, then 12. Cited by its two halves and by whoever tests 11 between them.
--- Assumes nothing.
+-- The reader (01, "The frame", "Refusal numbers"): 10, then 12. Cited by its two halves and by whoever tests 11 between
+-- them. Assumes nothing.
 use Prim.Native.Nat.{ℕ, _+_}
 use mathlib.Core.Bool.{Bool, _&&_, not}
 use mathlib.Core.List.{List, [], _∷_}

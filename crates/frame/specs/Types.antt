@@ -1,5 +1,5 @@
--- The four types of frame (01, "The frame"): their numbers, and what each asks of payload and sequence. Cited by reader and writer.
--- Assumes nothing.
+-- The four types of frame (01, "The frame"): their numbers, and what each asks of payload and sequence. Cited by reader
+-- and writer. Assumes nothing.
 use Prim.Native.Nat.{ℕ, zero, suc}
 use mathlib.Core.Bool.{Bool, true, false, _&&_}
 use lib.Dec.{eqb, leb}

@@ -1,5 +1,6 @@
--- A node with its store, and its public calls as one: what each answers, in the paper's numbers, and what it leaves, as the contracts of
--- crates/node have it; and the nodes that a setup and calls after it can give. Cited by what is proved of such nodes. Assumes nothing.
+-- A node with its store, and its public calls as one: what each answers, in the paper's numbers, and what it leaves, as
+-- the contracts of crates/node have it; and the nodes that a setup and calls after it can give. Cited by what is proved
+-- of such nodes. Assumes nothing.
 use Prim.Native.Nat.{ℕ}
 use mathlib.Core.Path.{_≡_}
 use mathlib.Core.List.{List, [], _∷_}

@@ -1,5 +1,5 @@
--- A call on one entry leaves every other entry's state, window, timers and counts (01, "End points"). What entries share is the waiting
--- acknowledgements and the order of handing out. Assumes nothing.
+-- A call on one entry leaves every other entry's state, window, timers and counts (01, "End points"). What entries
+-- share is the waiting acknowledgements and the order of handing out. Assumes nothing.
 use Prim.Native.Nat.{ℕ, _-_, _/_, _%_, _≤_, _<_}
 use mathlib.Core.Path.{_≡_}
 use mathlib.Core.Logic.{_≢_}
@@ -23,7 +23,8 @@ pub record Aside (n m : Memory) (l l′ : Lists) (i : ℕ) : Type 0 where
   pub cells : (k : ℕ) → 4224 ≤ k → cellOwner k ≡ i → getD (m .book) k 0 ≡ getD (n .book) k 0
   pub waits : (q : ℕ) → q < 4 → mine i (l′ q) ≡ mine i (l q)
 
--- the entry that a call is on: the host's choice, or that of the frame that arrives or goes out; a tick is on all of them
+-- the entry that a call is on: the host's choice, or that of the frame that arrives or goes out; a tick is on all of
+-- them
 abbrev pub On : Call → ℕ → Type 0
 On (opens i) j = i ≡ j
 On (closes i) j = i ≡ j

@@ -1,5 +1,6 @@
--- Handing out (01, "End points": one frame a call, acknowledgements first, then Resets, Urgents, retransmissions, data; each sort in the
--- order it began to wait): which answer, and what all that was lent holds afterwards. Cited by the call. Assumes nothing.
+-- Handing out (01, "End points": one frame a call, acknowledgements first, then Resets, Urgents, retransmissions, data;
+-- each sort in the order it began to wait): which answer, and what all that was lent holds afterwards. Cited by the
+-- call. Assumes nothing.
 use Prim.Native.Nat.{ℕ, _+_, _-_, _/_, _%_}
 use mathlib.Core.Bool.{true}
 use mathlib.Core.List.{List, []}

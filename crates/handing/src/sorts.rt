@@ -169,8 +169,8 @@ fn handed_run(mut r: Run) -> Run
     r
 }
 
-// The data that is x in its queue: its timer starts, and one number more is handed out. The same as `put_again` and more, but
-// not by it: with one caller each the compiler takes both in, and the end point is read once.
+// The data that is x in its queue: its timer starts, and one number more is handed out. The same as `put_again` and
+// more, but not by it: with one caller each the compiler takes both in, and the end point is read once.
 pub fn put_data(
     node: &mut [u64],
     book: &mut [u16],

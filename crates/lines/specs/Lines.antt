@@ -8,7 +8,8 @@ use lib.Seq.{sets}
 use Rattle.io.specs.Digits.{digits, Fewest}
 use Rattle.units.specs.Refusals.{pick}
 
--- where n bytes more go, in a buffer of `size` bytes of which `at` are taken: behind those, or at the start where they do not fit
+-- where n bytes more go, in a buffer of `size` bytes of which `at` are taken: behind those, or at the start where they
+-- do not fit
 abbrev pub placeOf : ℕ → ℕ → ℕ → ℕ
 placeOf size at n = pick (leb (at + n) size) at 0
 

@@ -1,5 +1,5 @@
--- An entry that fits a frame: of the fitting kind, with the frame's source as remote address and its channel (01, refusal 13). Cited by the
--- index and by the machine. Assumes nothing.
+-- An entry that fits a frame: of the fitting kind, with the frame's source as remote address and its channel (01,
+-- refusal 13). Cited by the index and by the machine. Assumes nothing.
 use Prim.Native.Nat.{ℕ}
 use mathlib.Core.Bool.{Bool, true, false, not, _&&_}
 use lib.Dec.{eqb}

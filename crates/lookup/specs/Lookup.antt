@@ -1,5 +1,6 @@
--- Which entry a frame is for: the one of the fitting kind, with the frame's source as remote address and its channel (01, refusal 13).
--- It is found by the index, so that a frame costs the same however many entries there are. Cited by setup and by arrival. Assumes nothing.
+-- Which entry a frame is for: the one of the fitting kind, with the frame's source as remote address and its channel
+-- (01, refusal 13). It is found by the index, so that a frame costs the same however many entries there are. Cited by
+-- setup and by arrival. Assumes nothing.
 use Prim.Native.Nat.{ℕ, zero, suc, _+_, _^_, _≤_, _<_}
 use mathlib.Core.Path.{_≡_}
 use mathlib.Core.Bool.{Bool, true, false, not, _&&_}
@@ -20,8 +21,8 @@ use Rattle.lookup.specs.Fitting.{same}
 
 -- ---- the index
 
--- row v of 256: binary digit i is 1 where entry i sends over channel v, digit 16 + i where it receives over channel v, digit 32 + i where
--- its remote address is v
+-- row v of 256: binary digit i is 1 where entry i sends over channel v, digit 16 + i where it receives over channel v,
+-- digit 32 + i where its remote address is v
 abbrev pub rowIn : List ℕ → ℕ → ℕ
 rowIn ws v = pick (ltb v 256) (getD ws (rowAt v) 0) 0
 

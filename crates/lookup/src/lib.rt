@@ -1,7 +1,7 @@
-// Which entry a frame is for: the one of the fitting kind, with the frame's source as remote address and its channel; and the index
-// by which it is found, at one cost however many entries there are.
-// Proved: `entry_for` and `put_in_index` are the definitions of specs/Lookup.antt, for every node. On an index that setup made, what is
-// found fits, and what fits is found (proofs/Found.antt).
+// Which entry a frame is for: the one of the fitting kind, with the frame's source as remote address and its channel;
+// and the index by which it is found, at one cost however many entries there are.
+// Proved: `entry_for` and `put_in_index` are the definitions of specs/Lookup.antt, for every node. On an index that
+// setup made, what is found fits, and what fits is found (proofs/Found.antt).
 use frame::FrameType;
 use memory::put_word;
 use memory::word_at;

@@ -1,5 +1,5 @@
--- What lies where in the node (words of 64 bits) and in the book (words of 16 bits). One field a word, nothing packed but the index.
--- Cited by whatever reads or writes either. All zeros is a new node. Assumes nothing.
+-- What lies where in the node (words of 64 bits) and in the book (words of 16 bits). One field a word, nothing packed
+-- but the index. Cited by whatever reads or writes either. All zeros is a new node. Assumes nothing.
 use Prim.Native.Nat.{ℕ, _+_, _*_}
 
 -- ---- the node

@@ -1,5 +1,5 @@
--- What the public calls are lent, as one record: node and book; these and a store; these, a store, and a block or a frame buffer. Cited by
--- their contracts and by those for C. Assumes nothing.
+-- What the public calls are lent, as one record: node and book; these and a store; these, a store, and a block or a
+-- frame buffer. Cited by their contracts and by those for C. Assumes nothing.
 use Prim.Native.Nat.{ℕ}
 use mathlib.Core.List.{List, []}
 use Rattle.ends.specs.Lent.{Lent}

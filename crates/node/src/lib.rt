@@ -1,9 +1,9 @@
-// The node: one SpaceWire port with up to 16 transport end points (01). These are all its public calls.
-// The caller lends the node's memory, two arrays of fixed length that are all zeros for a new node, and at each call the
-// store, the block or the frame buffer that the call works on; nothing is kept of them between calls.
-// Proved, for every input and every content of the memory: which answer, and what all that was lent holds afterwards, each
-// as one equation over the definitions that the layer below cites (its specs/); a refused call leaves all as it was.
-// docs/CONTRACTS.md lists the calls with their definitions.
+// The node: one SpaceWire port with up to 16 transport end points (01). These are all its public calls. The caller
+// lends the node's memory, two arrays of fixed length that are all zeros for a new node, and at each call the store,
+// the block or the frame buffer that the call works on; nothing is kept of them between calls.
+// Proved, for every input and every content of the memory: which answer, and what all that was lent holds afterwards,
+// each as one equation over the definitions that the layer below cites (its specs/); a refused call leaves all as it
+// was. docs/CONTRACTS.md lists the calls with their definitions.
 use ends::answers::Arrived;
 use ends::answers::Counted;
 use ends::answers::HandedOut;

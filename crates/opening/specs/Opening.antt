@@ -1,5 +1,5 @@
--- Open, close and counts (01, "End points", "Refusal numbers"): which answer, and what all that was lent holds afterwards. Cited by
--- these calls. Assumes nothing.
+-- Open, close and counts (01, "End points", "Refusal numbers"): which answer, and what all that was lent holds
+-- afterwards. Cited by these calls. Assumes nothing.
 use Prim.Native.Nat.{ℕ}
 use mathlib.Core.Bool.{false, not}
 use mathlib.Core.List.{List, [], _∷_}
@@ -56,7 +56,8 @@ closeAnswer x i =
     ∷ (isClosed (endOf (x .node) i .state), refusal.WrongState)
     ∷ [])
 
--- what of a sender waits, waits no more: at Enabled its Reset, where its timer does not run; at Open Urgent, data and retransmissions
+-- what of a sender waits, waits no more: at Enabled its Reset, where its timer does not run; at Open Urgent, data and
+-- retransmissions
 unfoldable pub silenced : ℕ → State → Run → List ℕ → List ℕ
 silenced i state.Closed r b = b
 silenced i (state.Enabled t sent) r b = pick (eqb t 0) (unlinked b (resetId i)) b

@@ -1,5 +1,5 @@
--- What waits, as lists: a queue of the book that holds some numbers in order, and the acknowledgements of the node, oldest first.
--- Cited by what is proved of nodes that setup and calls can give. Assumes nothing.
+-- What waits, as lists: a queue of the book that holds some numbers in order, and the acknowledgements of the node,
+-- oldest first. Cited by what is proved of nodes that setup and calls can give. Assumes nothing.
 use Prim.Native.Nat.{ℕ, zero, suc, _+_, _/_, _%_, _<_}
 use mathlib.Core.Path.{_≡_}
 use mathlib.Core.Logic.{_≢_}

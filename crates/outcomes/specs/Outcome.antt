@@ -1,6 +1,6 @@
--- Outcomes (01, "How tight the contracts are"): an outcome is an answer r with what all that may alter holds afterwards, y. What
--- a contract allows, that it allows one outcome only, and that a refused call leaves all as it was. Cited by the laws of
--- proofs/, for every public function. Assumes nothing.
+-- Outcomes (01, "How tight the contracts are"): an outcome is an answer r with what all that may alter holds
+-- afterwards, y. What a contract allows, that it allows one outcome only, and that a refused call leaves all as it was.
+-- Cited by the laws of proofs/, for every public function. Assumes nothing.
 use Prim.Native.Nat.{ℕ}
 use mathlib.Core.Path.{_≡_}
 use Rattle.units.specs.declared.refusals.Refusal.{Refusal}

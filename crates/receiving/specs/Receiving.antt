@@ -1,5 +1,5 @@
--- A Reset, Data or an Urgent taken in by a receiver (01, "End points"): what it was, and what all that was lent holds afterwards.
--- Cited by arrival. Assumes nothing.
+-- A Reset, Data or an Urgent taken in by a receiver (01, "End points"): what it was, and what all that was lent holds
+-- afterwards. Cited by arrival. Assumes nothing.
 use Prim.Native.Nat.{ℕ, _+_, _*_}
 use mathlib.Core.List.{List, [], _∷_}
 use lib.ListN.{length, set}

@@ -1,5 +1,5 @@
--- Send and Urgent (01, "End points", "Refusal numbers"): which answer, and what all that was lent holds afterwards. Cited by both
--- calls. Assumes nothing.
+-- Send and Urgent (01, "End points", "Refusal numbers"): which answer, and what all that was lent holds afterwards.
+-- Cited by both calls. Assumes nothing.
 use Prim.Native.Nat.{ℕ, _+_}
 use mathlib.Core.Bool.{Bool, not}
 use mathlib.Core.List.{List, [], _∷_, _++_}

@@ -37,8 +37,8 @@ ghost use Rattle.slots.specs.Slots.{cell};
 ghost use Rattle.sending.specs.Sending.{sendAnswer, sendAfter, sentNode, sentBook, urgentAnswer, urgentAfter};
 ghost use Rattle.sending.specs.Sending.{urgentRun};
 
-// End point i as `load` reads it. It has one caller, so that the compiler reads there what the caller uses and no more: `load` has
-// many, and hands over the whole by way of memory.
+// End point i as `load` reads it. It has one caller, so that the compiler reads there what the caller uses and no more:
+// `load` has many, and hands over the whole by way of memory.
 fn read_end(node: &[u64], i: usize) -> EndPoint
     requires { ⌜ i < 4096 ⌝ }
     ensures { λ r. ⌜ r ≡ endOf (now (node .entry)) i ⌝ }

@@ -42,8 +42,8 @@ timerIn b g = getD b (timerAt g) 0
 abbrev pub retriesIn : List ℕ → ℕ → ℕ
 retriesIn b g = getD b (retriesAt g) 0
 
--- of an open sender the number k past the start waits where it was not handed out yet, or where it was, is not acknowledged,
--- and its timer does not run
+-- of an open sender the number k past the start waits where it was not handed out yet, or where it was, is not
+-- acknowledged, and its timer does not run
 unfoldable pub waitsIn : List ℕ → ℕ → Window → ℕ → ℕ → Bool
 waitsIn b i w handed k = leb handed k || (not (held w k) && eqb (timerIn b (cell i w (past w k))) 0)
 

@@ -10,7 +10,8 @@ use Rattle.window.specs.Numbers.{seqOf}
 use Rattle.window.specs.Windows.{insideOf}
 use Rattle.window.specs.declared.Window.{Window}
 
--- what a row gives: the check byte of some bytes; a number that is in a window, or out of it; a size at which only the start is in
+-- what a row gives: the check byte of some bytes; a number that is in a window, or out of it; a size at which only the
+-- start is in
 pub data Row : Type 0 where
   check : (bytes : List ℕ) (byte : ℕ) → Row
   is-in : (start size number : ℕ) → Row

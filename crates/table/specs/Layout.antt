@@ -1,5 +1,5 @@
--- The channel table's bytes (01, "The channel table"): what its head and its entries say. A byte past the end counts as 0.
--- Cited by the table's readers and by whatever is set up from a table. Assumes nothing.
+-- The channel table's bytes (01, "The channel table"): what its head and its entries say. A byte past the end counts as
+-- 0. Cited by the table's readers and by whatever is set up from a table. Assumes nothing.
 use Prim.Native.Nat.{ℕ, _+_, _*_}
 use mathlib.Core.List.{List}
 use lib.ListN.{getD}
@@ -47,7 +47,8 @@ byteOf Receives = 1
 abbrev pub kindOf : ℕ → Kind
 kindOf b = pick (eqb b 0) Sends Receives
 
--- an entry that begins at a byte: kind, remote address, channel, retries M, window W, largest payload P, timeout T, two zeros
+-- an entry that begins at a byte: kind, remote address, channel, retries M, window W, largest payload P, timeout T, two
+-- zeros
 abbrev pub kindByteFrom : List ℕ → ℕ → ℕ
 kindByteFrom t at = getD t at 0
 

@@ -21,7 +21,8 @@ everyBelow (suc k) test = everyBelow k test && test k
 unfoldable pub isAddress : Address → Bool
 isAddress a = leb 32 (a .0) && leb (a .0) 254
 
--- at most 16 entries, no byte missing or left over, the first entry right after the head; protocol ID 1 or more, which a byte keeps to 255
+-- at most 16 entries, no byte missing or left over, the first entry right after the head; protocol ID 1 or more, which
+-- a byte keeps to 255
 unfoldable pub headGood : List ℕ → Bool
 headGood t =
     leb (countOf t) 16

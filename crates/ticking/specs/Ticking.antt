@@ -31,8 +31,8 @@ pub record Ticked : Type 0 where
   pub running : ℕ
   pub least : ℕ
 
--- the timer of cell g comes to zero: a Failing end resends nothing; data with fewer than M retries waits as a retransmission; else the
--- end is Failing at once, and what of it waits goes
+-- the timer of cell g comes to zero: a Failing end resends nothing; data with fewer than M retries waits as a
+-- retransmission; else the end is Failing at once, and what of it waits goes
 abbrev pub expired : ℕ → EndPoint → ℕ → Ticked → Ticked
 expired i e g t =
     pick (t .failing)

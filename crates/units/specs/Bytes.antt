@@ -1,4 +1,5 @@
--- Numbers in bytes, high bytes first (01, "as in all our files"). Cited by whatever reads or writes lent bytes. Assumes nothing.
+-- Numbers in bytes, high bytes first (01, "as in all our files"). Cited by whatever reads or writes lent bytes. Assumes
+-- nothing.
 use Prim.Native.Nat.{ℕ, _+_, _*_, _/_, _%_}
 use mathlib.Core.List.{List, [], _∷_, _++_}
 use lib.ListN.{getD}

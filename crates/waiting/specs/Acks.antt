@@ -1,5 +1,5 @@
--- The waiting acknowledgements: a ring of 32 words in the node, each an entry and a sequence number. Cited by arrival, handing
--- out and close. Assumes nothing.
+-- The waiting acknowledgements: a ring of 32 words in the node, each an entry and a sequence number. Cited by arrival,
+-- handing out and close. Assumes nothing.
 use Prim.Native.Nat.{ℕ, zero, suc, _+_, _*_, _/_, _%_}
 use mathlib.Core.List.{List}
 use lib.ListN.{getD, set}
