@@ -20,5 +20,6 @@ unfoldable pub payloadsIn : List ℕ → ℕ → ℕ → List (List ℕ)
 payloadsIn s j zero = []
 payloadsIn s j (suc n) = payloadIn s j ∷ payloadsIn s (j + 1) n
 
+-- the payloads of a block [B1]
 unfoldable pub readBlock : List ℕ → List (List ℕ)
 readBlock s = payloadsIn s 0 (get16Of s 0)

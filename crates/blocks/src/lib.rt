@@ -3,6 +3,7 @@
 // beyond its end nothing alters. proofs/Reading.antt: the payloads can be read out of the block again.
 // `put_one` asks a payload of at most 65,535 bytes, which is more than any frame carries.
 use memory::half_at;
+use memory::layout;
 use slots::cell_of;
 use slots::part;
 use slots::slot_for;
@@ -35,7 +36,7 @@ fn payload<'a>(
     ensures short { λ r. ⌜ length (now r) < 65536 ⌝ }
 {
     let s = advance(w.start, k);
-    let n = half_at(book, 4224 + cell_of(i, w, s) as usize);
+    let n = half_at(book, layout::LENGTH_AT + cell_of(i, w, s) as usize);
     part(store, spot_of(place, largest, slot_for(w, s)), n as usize)
 }
 
@@ -67,8 +68,10 @@ pub fn put_block(
     w: Window,
     k: u8,
 ) -> usize
-    ensures length { λ r. ⌜ r ≡ length (blockOf (payloads (now (store .entry)) (now (book .entry)) i place largest w k)) ⌝ }
-    ensures written { λ _. ⌜ now (out .exit) ≡ sets (now (out .entry)) 0 (blockOf (payloads (now (store .entry)) (now (book .entry)) i place largest w k)) ⌝ }
+    ensures length { λ r. ⌜ r ≡ length (blockOf
+        (payloads (now (store .entry)) (now (book .entry)) i place largest w k)) ⌝ }
+    ensures written { λ _. ⌜ now (out .exit) ≡ sets (now (out .entry)) 0
+        (blockOf (payloads (now (store .entry)) (now (book .entry)) i place largest w k)) ⌝ }
 {
     put16(out, 0, k as u16);
     let mut end = 6 + 4 * k as usize;

@@ -11,9 +11,10 @@ abbrev pub every : (ℕ → Bool) → ℕ → Bool
 every f zero = true
 every f (suc n) = f n && every f n
 
--- the entry at a byte is that byte times x^8
+-- the entry at a byte is that byte times x^8 [C4]
 abbrev pub fits : List ℕ → ℕ → Bool
 fits table r = eqb (getD table r 0) (timesXs 8 r)
 
+-- it holds of all 256 entries [C4]
 abbrev pub isRight : List ℕ → Bool
 isRight table = every (fits table) 256

@@ -1,4 +1,4 @@
-// The table of the check byte: each byte times x^8, modulo the polynomial.
+// The table of the check byte: each byte times x^8, modulo the polynomial. [C4]
 pub const TABLE: [u8; 256] = [
     0,
     7,

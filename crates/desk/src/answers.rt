@@ -1,9 +1,11 @@
 // What each call prints after the record's number and kind.
-use ends::answers::Arrived;
-use ends::answers::Counted;
-use ends::answers::HandedOut;
+use end_points::answers::Arrived;
+use end_points::answers::Counted;
+use end_points::answers::HandedOut;
 use lines::number;
 use lines::text;
+use node::Book;
+use node::Node;
 use units::bytes::byte_at;
 use units::refusals::Refusal;
 use units::refusals::Verdict;
@@ -100,8 +102,8 @@ fn answer(
     kind: u8,
     index: usize,
     bytes: &[u8],
-    node: &mut [u64; 832],
-    book: &mut [u16; 10368],
+    node: &mut Node,
+    book: &mut Book,
     store: &mut [u8],
     block: &mut [u8],
     frame: &mut [u8],
@@ -132,8 +134,8 @@ pub fn line(
     kind: u8,
     index: u8,
     bytes: &[u8],
-    node: &mut [u64; 832],
-    book: &mut [u16; 10368],
+    node: &mut Node,
+    book: &mut Book,
     store: &mut [u8],
     block: &mut [u8],
     frame: &mut [u8],

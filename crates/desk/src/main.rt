@@ -10,6 +10,9 @@ use lines::text;
 mod records; // records.rt: where the records lie
 mod answers; // answers.rt: what each call prints
 
+use memory::layout;
+use node::Book;
+use node::Node;
 use records::Found;
 use records::record_at;
 
@@ -30,8 +33,8 @@ fn unknown(out: &mut [u8], at: usize, count: u64) -> usize {
 fn run(
     input: &[u8],
     out: &mut [u8],
-    node: &mut [u64; 832],
-    book: &mut [u16; 10368],
+    node: &mut Node,
+    book: &mut Book,
     store: &mut [u8],
     block: &mut [u8],
     frame: &mut [u8],
@@ -75,8 +78,8 @@ fn main() {
         lines::flush(&out, at);
         return;
     }
-    let mut node = [0u64; 832];
-    let mut book = [0u16; 10368];
+    let mut node = [0u64; layout::NODE_WORDS];
+    let mut book = [0u16; layout::BOOK_HALVES];
     let mut store = [0u8; 32768];
     let mut block = [0u8; 33286];
     let mut frame = [0u8; 32777];

@@ -1,5 +1,5 @@
--- The frame reader, writer and window test in C's numbers (01, "Forms wanted by the station"). Fields are seven bytes:
--- destination, protocol, source, type, user bits, channel, sequence. Cited by the exported functions. Assumes nothing.
+-- The frame reader, writer and window test in C's numbers. Fields are seven bytes: destination, protocol, source,
+-- type, user bits, channel, sequence. Cited by the exported functions. Assumes nothing.
 use Prim.Native.Nat.{ℕ}
 use mathlib.Core.List.{List, [], _∷_}
 use lib.ListN.{getD}
@@ -15,19 +15,19 @@ use Rattle.frame.specs.declared.Read.the-variants as read
 use Rattle.frame.specs.declared.Written.{Written}
 use Rattle.frame.specs.declared.Written.the-variants as written
 
--- 0, or the refusal
+-- 0, or the refusal [O3, G5]
 abbrev pub readNumber : Read → ℕ
 readNumber (read.Frame h) = 0
 readNumber (read.Refused w) = numberOf w
 
--- the fields of a frame that was read; the user bits of such a frame are 0. A refused one leaves them
+-- the fields of a frame that was read; the user bits of such a frame are 0. A refused one leaves them [R44, G5]
 unfoldable pub readFields : Read → List ℕ → List ℕ
 readFields (read.Frame h) old =
     sets old 0
     (h .destination .0 ∷ h .protocol ∷ h .source .0 ∷ typeNumber (h .kind) ∷ 0 ∷ h .channel .0 ∷ h .seq .0 ∷ [])
 readFields (read.Refused w) old = old
 
--- the fields that seven bytes say
+-- the fields that seven bytes say [G5]
 unfoldable pub fieldsIn : List ℕ → Fields
 fieldsIn l =
     record {
@@ -40,10 +40,11 @@ fieldsIn l =
       seq = record { 0 = getD l 6 0 };
     }
 
+-- 0, or the refusal [O3, G5]
 abbrev pub writeNumber : Written → ℕ
 writeNumber (written.Length n) = 0
 writeNumber (written.Refused w) = numberOf w
 
--- (seq - start) mod 256 < W: 1 in, 0 out; 2 where W is no size
+-- (seq - start) mod 256 < W: 1 in, 0 out; 2 where W is no size [W1, G5]
 unfoldable pub windowNumber : ℕ → ℕ → ℕ → ℕ
 windowNumber start size seq = pick (isSize (inForce size)) (pick (ltb (distanceOf start seq) (inForce size)) 1 0) 2

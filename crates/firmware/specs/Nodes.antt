@@ -5,12 +5,12 @@ use mathlib.Core.List.{List, [], _∷_}
 use lib.ListN.{getD}
 use lib.Seq.{sets}
 
--- the refusal, 0 where the call is done
+-- the refusal, 0 where the call is done [O3]
 abbrev pub refusalIn : List ℕ → ℕ
 refusalIn a = getD a 0 0
 
 -- what the place of one value, or of two, holds afterwards: the second is 0 where only one comes. A refusal has none,
--- and leaves the place as it was
+-- and leaves the place as it was [R44, O3]
 unfoldable pub valueIn : List ℕ → ℕ → ℕ
 valueIn [] old = old
 valueIn (n ∷ []) old = old

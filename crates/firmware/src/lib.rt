@@ -54,7 +54,7 @@ fn put_fields(fields: &mut [u8], h: Header)
 }
 
 // Reads a frame: 0 with its fields, or the refusal (10, then 12) with `fields` as they were. The payload is the frame's
-// own bytes from 8 on, all but the last.
+// own bytes from 8 on, all but the last. [G5]
 #[no_mangle]
 pub extern "C" fn shelugvar_frame_read(frame: &[u8], fields: &mut [u8; 7]) -> u8
     ensures answer { λ r. ⌜ r ≡ readNumber (readOf (now (frame .entry))) ⌝ }
@@ -91,11 +91,14 @@ fn fields_in(fields: &[u8]) -> Fields
     }
 }
 
-// Writes a frame: 0 with payload + 9 bytes at the buffer's start, or the refusal (12, 5, 6) with the buffer as it was.
+// Writes a frame: 0 with payload + 9 bytes at the buffer's start, or the refusal (12, 5, 6) with the buffer as it
+// was. [G5]
 #[no_mangle]
 pub extern "C" fn shelugvar_frame_write(buffer: &mut [u8], fields: &[u8; 7], payload: &[u8]) -> u8
-    ensures answer { λ r. ⌜ r ≡ writeNumber (writeAnswer (fieldsIn (now (fields .entry))) (now (payload .entry)) (now (buffer .entry))) ⌝ }
-    ensures after { λ _. ⌜ now (buffer .exit) ≡ writtenOf (fieldsIn (now (fields .entry))) (now (payload .entry)) (now (buffer .entry)) ⌝ }
+    ensures answer { λ r. ⌜ r ≡ writeNumber (writeAnswer (fieldsIn (now (fields .entry))) (now (payload .entry))
+        (now (buffer .entry))) ⌝ }
+    ensures after { λ _. ⌜ now (buffer .exit)
+        ≡ writtenOf (fieldsIn (now (fields .entry))) (now (payload .entry)) (now (buffer .entry)) ⌝ }
 {
     match frame::writing::write(buffer, fields_in(fields), payload) {
         Written::Length(_) => 0,
@@ -104,7 +107,7 @@ pub extern "C" fn shelugvar_frame_write(buffer: &mut [u8], fields: &[u8; 7], pay
 }
 
 // Whether a sequence number lies in the window of a size from a start on: 1 in it, 0 outside, 2 where the size is none.
-// A size of 0 is the default.
+// A size of 0 is the default. [G5]
 #[no_mangle]
 pub extern "C" fn shelugvar_window_test(start: u8, size: u16, seq: u8) -> u8
     ensures { λ r. ⌜ r ≡ windowNumber start size seq ⌝ }

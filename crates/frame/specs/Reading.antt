@@ -1,5 +1,4 @@
--- The reader (01, "The frame", "Refusal numbers"): 10, then 12. Cited by its two halves and by whoever tests 11 between
--- them. Assumes nothing.
+-- The reader: 10, then 12. Cited by its two halves and by whoever tests 11 between them. Assumes nothing.
 use Prim.Native.Nat.{ℕ, _+_}
 use mathlib.Core.Bool.{Bool, _&&_, not}
 use mathlib.Core.List.{List, [], _∷_}
@@ -19,11 +18,11 @@ use Rattle.frame.specs.declared.Read.the-variants.{Frame, Refused}
 use Rattle.frame.specs.Types.{typeOf, suits, seqReads, seqGiven}
 use Rattle.frame.specs.Layout.{typeAt, userAt}
 
--- 9 bytes or more, as many as the length field says, and a check byte of 0 over the whole
+-- 9 bytes or more, as many as the length field says, and a check byte of 0 over the whole [F1, F8, C5, R10, V7]
 unfoldable pub soundOf : List ℕ → Bool
 soundOf f = leb 9 (length f) && eqb (get16Of f 4 + 9) (length f) && eqb (checkOf f) 0
 
--- refusal 12 of a known type: user bits, payload length, a Reset's sequence
+-- refusal 12 of a known type: user bits, payload length, a Reset's sequence [F5, F12, F13, F14, R12]
 abbrev pub typedTests : FrameType → List ℕ → List (Bool × Refusal)
 typedTests t f =
     (not (eqb (userAt f) 0), refusal.AgainstRules)
@@ -31,11 +30,11 @@ typedTests t f =
     ∷ (not (seqReads t (getD f 7 0)), refusal.AgainstRules)
     ∷ []
 
--- refusal 12
+-- refusal 12 [F7, R12]
 abbrev pub headerTests : List ℕ → List (Bool × Refusal)
 headerTests f = (leb 4 (typeAt f), refusal.AgainstRules) ∷ typedTests (typeOf (typeAt f)) f
 
--- the fields, of a frame of a known type
+-- the fields, of a frame of a known type [F2, F3, F4, F8, F9, F10, F15, U1]
 abbrev pub headerAt : FrameType → List ℕ → Header
 headerAt t f =
     record {
@@ -48,15 +47,15 @@ headerAt t f =
       length = get16Of f 4;
     }
 
--- the fields where the tests pass
+-- the fields where the tests pass [R43]
 abbrev pub readAs : Verdict → Header → Read
 readAs verdicts.Passed h = Frame h
 readAs (verdicts.Refused w) h = Refused w
 
--- the second half: 12
+-- the second half: 12 [R12]
 unfoldable pub headerOf : List ℕ → Read
 headerOf f = readAs (verdict (headerTests f)) (headerAt (typeOf (typeAt f)) f)
 
--- the whole reader: 10, then 12
+-- the whole reader: 10, then 12 [R40]
 unfoldable pub readOf : List ℕ → Read
 readOf f = readAs (verdict ((not (soundOf f), refusal.BadFrame) ∷ headerTests f)) (headerAt (typeOf (typeAt f)) f)

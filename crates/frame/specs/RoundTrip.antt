@@ -28,7 +28,7 @@ fieldsOf h =
       seq = h .seq;
     }
 
--- a frame's bytes are read as these fields and this payload
+-- a frame's bytes are read as these fields and this payload [F1]
 pub record Gives (f : List ℕ) (d : Fields) (p : List ℕ) : Type 0 where
   pub header : Header
   pub reads : readOf f ≡ Frame header
@@ -36,9 +36,10 @@ pub record Gives (f : List ℕ) (d : Fields) (p : List ℕ) : Type 0 where
   pub size : header .length ≡ length p
   pub payload : payloadOf f ≡ p
 
--- what the writer writes, the reader gives back
+-- what the writer writes, the reader gives back [F1, F11]
 abbrev pub WrittenIsRead : Type 0
-WrittenIsRead = (d : Fields) (p b : List ℕ) (n : ℕ) → writeAnswer d p b ≡ Length n → Gives (take n (writtenOf d p b)) d p
+WrittenIsRead = (d : Fields) (p b : List ℕ) (n : ℕ) → writeAnswer d p b
+    ≡ Length n → Gives (take n (writtenOf d p b)) d p
 
 -- the bytes of a frame that was read as a header, written again into a buffer
 abbrev pub again : List ℕ → Header → List ℕ → List ℕ
@@ -51,6 +52,7 @@ pub record Rewritten (f : List ℕ) (h : Header) (b : List ℕ) : Type 0 where
   pub bytes : (k : ℕ) → (k ≡ 7 → ⊥) → (k + 1 ≡ length f → ⊥) → getD (again f h b) k 0 ≡ getD f k 0
   pub whole : (h .kind ≡ Urgent → getD f 7 0 ≡ 0) → again f h b ≡ f
 
--- a frame that the reader takes is written again as it stood
+-- a frame that the reader takes is written again as it stood [F1, F15]
 abbrev pub ReadIsWritten : Type 0
-ReadIsWritten = (f b : List ℕ) (h : Header) → T (areBytes f) → readOf f ≡ Frame h → length f ≤ length b → Rewritten f h b
+ReadIsWritten = (f b : List ℕ) (h : Header) → T (areBytes f) → readOf f
+    ≡ Frame h → length f ≤ length b → Rewritten f h b

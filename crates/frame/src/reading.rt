@@ -34,7 +34,8 @@ pub fn is_sound(frame: &[u8]) -> bool
 
 // The second half for a frame of a known type.
 fn typed_header(frame: &[u8], kind: FrameType) -> Read
-    ensures { λ r. ⌜ r ≡ readAs (verdict (typedTests kind (now (frame .entry)))) (headerAt kind (now (frame .entry))) ⌝ }
+    ensures { λ r. ⌜ r ≡ readAs (verdict (typedTests kind (now (frame .entry))))
+        (headerAt kind (now (frame .entry))) ⌝ }
 {
     let mark = byte_at(frame, 3);
     if mark / 16 != 0 {

@@ -21,7 +21,7 @@ pub fn type_number(kind: FrameType) -> u8
     }
 }
 
-// The type that a number stands for.
+// The type that a number stands for. [F7, G4]
 pub fn known_type(number: u8) -> Known
     ensures { λ r. ⌜ r ≡ knownOf number ⌝ }
 {

@@ -14,16 +14,16 @@ use Rattle.waiting.specs.Queues.{unlinked}
 use Rattle.window.specs.Windows.{offsetOf}
 use Rattle.window.proofs.Resetting.{reset-held, reset-good}
 use Rattle.window.proofs.WindowLaw.{distance-back}
-use Rattle.kept.proofs.Kept.{StateFits, RunFits}
-use Rattle.ends.specs.Ends.{endOf, saved}
-use Rattle.ends.specs.Heads.{countIn}
-use Rattle.ends.specs.States.{isSends}
-use Rattle.ends.specs.Lent.{Lent}
-use Rattle.ends.specs.declared.State.{State}
-use Rattle.ends.specs.declared.State.the-variants.{Closed, Enabled, Open, Failing}
-use Rattle.ends.specs.declared.answers.Arrived.the-variants as arrived
+use Rattle.end_points.proofs.Kept.{StateFits, RunFits}
+use Rattle.end_points.specs.Ends.{endOf, saved}
+use Rattle.end_points.specs.Heads.{countIn}
+use Rattle.end_points.specs.States.{isSends}
+use Rattle.end_points.specs.Lent.{Lent}
+use Rattle.end_points.specs.declared.State.{State}
+use Rattle.end_points.specs.declared.State.the-variants.{Closed, Enabled, Open, Failing}
+use Rattle.end_points.specs.declared.answers.Arrived.the-variants as arrived
 use Rattle.slots.specs.Slots.{cell, past, lengthIn, timerIn}
-use Rattle.acking.specs.Acking.{counts, passing, ackedRun, openedRun, ackAnswer, resetGone, stopped, fewer, ackNode, ackBook, ackAfter}
+use Rattle.arrive_ack.specs.Acking.{counts, passing, ackedRun, openedRun, ackAnswer, resetGone, stopped, fewer, ackNode, ackBook, ackAfter}
 use Rattle.good.specs.Good.{Lists, mine, ids, Silent, Sending, OpenSender, FailingSender, Outlasts, Timely, Good}
 use Rattle.good.proofs.Lined.{less, unlink-cells}
 use Rattle.good.proofs.Framing.{Within, within-same, within-unlink, Apart, apart-same, apart-then, apart-saved, outlasts-fewer, entry-low}

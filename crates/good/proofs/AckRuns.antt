@@ -11,7 +11,7 @@ use lib.ListN.{set}
 use lib.Dec.{eqb, ltb}
 use borrow.Author.Tests.{eqb-true, eqb-false, ltb-true}
 use Rattle.units.specs.Refusals.{pick}
-use Rattle.memory.specs.Layout.{resends, slotId, timerAt}
+use Rattle.memory.specs.Layout.{resends, cellId, timerAt}
 use Rattle.waiting.specs.Queues.{unlinked}
 use Rattle.window.specs.Windows.{held, offsetOf, insideOf, acceptOf, Good as GoodWindow}
 use Rattle.window.specs.declared.Window.{Window}
@@ -20,11 +20,11 @@ use Rattle.window.proofs.Accepting.{found-new, accept-size, accept-good, accept
 use Rattle.window.proofs.Holding.{held-below}
 use Rattle.window.proofs.Passing.{run-held, pass-run, pass-size, pass-good, pass-held, pass-first}
 use Rattle.table.proofs.Every.{both}
-use Rattle.kept.proofs.Kept.{RunFits}
-use Rattle.ends.specs.Runs.{isNew}
-use Rattle.ends.specs.declared.Run.{Run}
+use Rattle.end_points.proofs.Kept.{RunFits}
+use Rattle.end_points.specs.Runs.{isNew}
+use Rattle.end_points.specs.declared.Run.{Run}
 use Rattle.slots.specs.Slots.{cell, past, timerIn}
-use Rattle.acking.specs.Acking.{counts, passing, moved, stopped, fewer}
+use Rattle.arrive_ack.specs.Acking.{counts, passing, moved, stopped, fewer}
 use Rattle.good.specs.Good.{Lists, Lines, mine, idAt, ids, Resend, Resends, Filled, Sending, running, Outlasts}
 use Rattle.good.proofs.Members.{without-in, without-keeps, mine-in, mine-without}
 use Rattle.good.proofs.Lined.{less, unlink-lines, unlink-cells}
@@ -172,7 +172,7 @@ module _ (b b′ : List ℕ) (i : ℕ) (low : i < 16) (r : Run) (g : GoodWindow 
     wide j h = omega (arith, S .taken, S .handed)
 
     moved-id : (j : ℕ) → idAt i (v .window) j ≡ idAt i (r .window) (v .run + j)
-    moved-id j = ap slotId (P .cells j)
+    moved-id j = ap cellId (P .cells j)
 
     still : (x : ℕ) (q : Resend b i r x) → q .at ≢ k → Resend b′ i (moved r v) x
     still x q n = sides (decLt (q .at) (v .run))

@@ -25,15 +25,15 @@ use Rattle.frame.specs.declared.Read.the-variants as read
 use Rattle.frame.specs.declared.FrameType.{FrameType}
 use Rattle.frame.specs.declared.FrameType.the-variants as type
 use Rattle.frame.proofs.ReadLaws.{taken as framed}
-use Rattle.ends.specs.Ends.{loadEntry, endOf}
-use Rattle.ends.specs.Heads.{countIn, needIn}
-use Rattle.ends.specs.States.{isSends, isClosed, isOpen}
-use Rattle.ends.specs.Lent.{Lent}
-use Rattle.ends.specs.declared.State.the-variants.{Open}
-use Rattle.ends.specs.declared.answers.Arrived.the-variants as arrived
-use Rattle.lookup.specs.Lookup.{Indexed, entryFor}
-use Rattle.lookup.proofs.Found.{Fitting, found-fits}
-use Rattle.arriving.specs.Arriving.{blockRoom, entryTests, entryOf, entryVerdict, takenAnswer, takenAfter, answerAs, afterAs, entryAnswer, entryAfter, readAnswer, readAfter, frameTests, arrivalAnswer, arrivalAfter}
+use Rattle.end_points.specs.Ends.{loadEntry, endOf}
+use Rattle.end_points.specs.Heads.{countIn, needIn}
+use Rattle.end_points.specs.States.{isSends, isClosed, isOpen}
+use Rattle.end_points.specs.Lent.{Lent}
+use Rattle.end_points.specs.declared.State.the-variants.{Open}
+use Rattle.end_points.specs.declared.answers.Arrived.the-variants as arrived
+use Rattle.arrive_lookup.specs.Lookup.{Indexed, entryFor}
+use Rattle.arrive_lookup.proofs.Found.{Fitting, found-fits}
+use Rattle.call_arrive.specs.Arriving.{blockRoom, entryTests, entryOf, entryVerdict, takenAnswer, takenAfter, answerAs, afterAs, entryAnswer, entryAfter, readAnswer, readAfter, frameTests, arrivalAnswer, arrivalAfter}
 use Rattle.table.proofs.Every.{both}
 use Rattle.good.proofs.Known.{is-open}
 

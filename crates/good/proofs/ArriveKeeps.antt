@@ -8,14 +8,14 @@ use Rattle.frame.specs.Layout.{payloadOf}
 use Rattle.frame.specs.declared.FrameType.{FrameType}
 use Rattle.frame.specs.declared.FrameType.the-variants as type
 use Rattle.waiting.specs.Acks.{waitingOf}
-use Rattle.ends.specs.Ends.{endOf}
-use Rattle.ends.specs.Heads.{countIn}
-use Rattle.ends.specs.States.{isSends}
-use Rattle.ends.specs.Lent.{Lent}
-use Rattle.ends.specs.declared.State.the-variants.{Open}
-use Rattle.receiving.specs.Receiving.{urgentAfter}
+use Rattle.end_points.specs.Ends.{endOf}
+use Rattle.end_points.specs.Heads.{countIn}
+use Rattle.end_points.specs.States.{isSends}
+use Rattle.end_points.specs.Lent.{Lent}
+use Rattle.end_points.specs.declared.State.the-variants.{Open}
+use Rattle.arrive_data.specs.Receiving.{urgentAfter}
 use Rattle.frame.specs.Types.{forSender, carries, answered}
-use Rattle.arriving.specs.Arriving.{takenAfter, arrivalAfter}
+use Rattle.call_arrive.specs.Arriving.{takenAfter, arrivalAfter}
 use Rattle.good.specs.Good.{Lists, Good}
 use Rattle.good.proofs.Framing.{apart-same, within-same}
 use Rattle.good.proofs.Turns.{Kept}

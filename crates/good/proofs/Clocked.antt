@@ -9,11 +9,11 @@ use lib.ListN.{length, getD, set, length-set}
 use lib.Seq.{getD-set-same, getD-set-other}
 use Rattle.memory.specs.Layout.{oldestAt, acksAt, ackAt, clockAt, quietAt, rowAt, entryAt, nodeWords}
 use Rattle.waiting.specs.Acks.{placeOf, waitingOf}
-use Rattle.order.specs.Order.{from, acksIn}
-use Rattle.kept.proofs.Kept.{end-ext}
-use Rattle.ends.specs.Ends.{endOf}
-use Rattle.ends.specs.Heads.{countIn}
-use Rattle.ends.specs.declared.EndPoint.{EndPoint}
+use Rattle.waiting.specs.Order.{from, acksIn}
+use Rattle.end_points.proofs.Kept.{end-ext}
+use Rattle.end_points.specs.Ends.{endOf}
+use Rattle.end_points.specs.Heads.{countIn}
+use Rattle.end_points.specs.declared.EndPoint.{EndPoint}
 use Rattle.timing.specs.Timing.{clockIn, quietIn, later, passed, heeded, roused}
 use Rattle.timing.proofs.Falling.{later-runs, left-starts}
 use Rattle.good.specs.Good.{Lists, Entered, Outlasts, Timely, Owed, Good}

@@ -16,18 +16,18 @@ use Rattle.units.proofs.Judging.{clear}
 use Rattle.memory.specs.Layout.{resets, resetId}
 use Rattle.waiting.specs.Queues.{unlinked}
 use Rattle.waiting.specs.Acks.{dropped}
-use Rattle.order.specs.Order.{acksIn}
-use Rattle.order.proofs.Ringed.{Ring, drop-acks, drop-ring}
+use Rattle.waiting.specs.Order.{acksIn}
+use Rattle.waiting.proofs.Ringed.{Ring, drop-acks, drop-ring}
 use Rattle.window.specs.Windows.{Good as GoodWindow}
-use Rattle.ends.specs.Ends.{endOf, saved}
-use Rattle.ends.specs.Heads.{countIn}
-use Rattle.ends.specs.States.{isSends, isClosed}
-use Rattle.ends.specs.Runs.{anew}
-use Rattle.ends.specs.Lent.{Lent}
-use Rattle.ends.specs.declared.State.{State}
-use Rattle.ends.specs.declared.State.the-variants.{Closed, Enabled, Open, Failing}
-use Rattle.ends.specs.declared.EndPoint.{EndPoint}
-use Rattle.opening.specs.Opening.{closeAnswer, silenced, closeAfter}
+use Rattle.end_points.specs.Ends.{endOf, saved}
+use Rattle.end_points.specs.Heads.{countIn}
+use Rattle.end_points.specs.States.{isSends, isClosed}
+use Rattle.end_points.specs.Runs.{anew}
+use Rattle.end_points.specs.Lent.{Lent}
+use Rattle.end_points.specs.declared.State.{State}
+use Rattle.end_points.specs.declared.State.the-variants.{Closed, Enabled, Open, Failing}
+use Rattle.end_points.specs.declared.EndPoint.{EndPoint}
+use Rattle.call_open.specs.Opening.{closeAnswer, silenced, closeAfter}
 use Rattle.timing.specs.Timing.{clockIn, quietIn}
 use Rattle.good.specs.Good.{Lists, Lines, Silent, Stated, Entered, Timely, Good}
 use Rattle.good.proofs.Lined.{less}

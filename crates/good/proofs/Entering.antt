@@ -13,7 +13,7 @@ use lib.Dec.{eqb}
 use Rattle.units.specs.Bytes.{get16Of}
 use Rattle.units.proofs.Runs.{getD-sets-before, getD-sets-after, getD-sets-at}
 use Rattle.memory.specs.Layout.{rowAt, entryAt, nodeWords}
-use Rattle.kept.proofs.Kept.{end-ext, saved-word, saved-other, saved-here, RunFits}
+use Rattle.end_points.proofs.Kept.{end-ext, saved-word, saved-other, saved-here, RunFits}
 use Rattle.window.specs.Marks.{bit}
 use Rattle.window.specs.Windows.{newOf}
 use Rattle.table.specs.declared.Kind.{Kind}
@@ -24,15 +24,15 @@ use Rattle.table.specs.Areas.{placeOf}
 use Rattle.table.specs.Rules.{goodTable}
 use Rattle.table.proofs.Good.{good-head, good-entry, good-store}
 use Rattle.table.proofs.Places.{area-in-store}
-use Rattle.ends.specs.Ends.{word, kindOf, loadEntry, placeIn, endOf, kindWord, entryWords, stateWords, runWords, saved, savedEntry}
-use Rattle.ends.specs.States.{isSends}
-use Rattle.ends.specs.declared.State.the-variants.{Closed}
-use Rattle.ends.specs.declared.Run.{Run}
-use Rattle.ends.specs.declared.EndPoint.{EndPoint}
-use Rattle.lookup.specs.Lookup.{rowIn, channelDigit, remoteDigit}
-use Rattle.lookup.specs.Fitting.{same}
-use Rattle.lookup.proofs.Rows.{row-ext, indexed-channel, indexed-remote, indexed-word, indexed-long}
-use Rattle.opening.specs.Setup.{firstRun, entered, tabled}
+use Rattle.end_points.specs.Ends.{word, kindOf, loadEntry, placeIn, endOf, kindWord, entryWords, stateWords, runWords, saved, savedEntry}
+use Rattle.end_points.specs.States.{isSends}
+use Rattle.end_points.specs.declared.State.the-variants.{Closed}
+use Rattle.end_points.specs.declared.Run.{Run}
+use Rattle.end_points.specs.declared.EndPoint.{EndPoint}
+use Rattle.arrive_lookup.specs.Lookup.{rowIn, channelDigit, remoteDigit}
+use Rattle.arrive_lookup.specs.Fitting.{same}
+use Rattle.arrive_lookup.proofs.Rows.{row-ext, indexed-channel, indexed-remote, indexed-word, indexed-long}
+use Rattle.call_open.specs.Setup.{firstRun, entered, tabled}
 
 -- ---- an entry in the node's words
 

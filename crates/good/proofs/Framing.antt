@@ -16,20 +16,20 @@ use Rattle.units.specs.Refusals.{pick}
 use Rattle.memory.specs.Layout.{resets, urgents, resends, datas, clockAt, quietAt, rowAt, entryAt, lengthAt, timerAt, retriesAt}
 use Rattle.waiting.specs.Queues.{appended, unlinked}
 use Rattle.waiting.specs.Acks.{waitingOf}
-use Rattle.order.specs.Order.{acksIn}
-use Rattle.kept.proofs.Kept.{end-ext, saved-word, saved-head, saved-other}
+use Rattle.waiting.specs.Order.{acksIn}
+use Rattle.end_points.proofs.Kept.{end-ext, saved-word, saved-head, saved-other}
 use Rattle.window.specs.Windows.{Good as GoodWindow}
 use Rattle.window.specs.declared.Window.{Window}
 use Rattle.window.proofs.Sizes.{size-pos, size-le}
-use Rattle.ends.specs.Ends.{word, loadEntry, endOf, stateWords, runWords, saved}
-use Rattle.ends.specs.Heads.{countIn}
-use Rattle.ends.specs.States.{isSends}
-use Rattle.ends.specs.declared.State.{State}
-use Rattle.ends.specs.declared.State.the-variants.{Closed, Enabled, Open, Failing}
-use Rattle.ends.specs.declared.Run.{Run}
-use Rattle.ends.specs.declared.EndPoint.{EndPoint}
-use Rattle.lookup.specs.Lookup.{rowIn, Indexed}
-use Rattle.lookup.proofs.Rows.{row-ext}
+use Rattle.end_points.specs.Ends.{word, loadEntry, endOf, stateWords, runWords, saved}
+use Rattle.end_points.specs.Heads.{countIn}
+use Rattle.end_points.specs.States.{isSends}
+use Rattle.end_points.specs.declared.State.{State}
+use Rattle.end_points.specs.declared.State.the-variants.{Closed, Enabled, Open, Failing}
+use Rattle.end_points.specs.declared.Run.{Run}
+use Rattle.end_points.specs.declared.EndPoint.{EndPoint}
+use Rattle.arrive_lookup.specs.Lookup.{rowIn, Indexed}
+use Rattle.arrive_lookup.proofs.Rows.{row-ext}
 use Rattle.slots.specs.Slots.{slotFor, cell, past, lengthIn, timerIn}
 use Rattle.timing.specs.Timing.{clockIn, quietIn}
 use Rattle.table.proofs.Good.{good-head}

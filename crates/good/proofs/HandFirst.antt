@@ -12,14 +12,15 @@ use Rattle.units.specs.Refusals.{pick}
 use Rattle.memory.specs.Layout.{resets, urgents, resends, datas, resetId}
 use Rattle.waiting.specs.Queues.{nextOf}
 use Rattle.waiting.specs.Acks.{waitingOf, oldestOf, ackOf}
-use Rattle.order.proofs.Linked.{first, queue-first}
-use Rattle.ends.specs.Heads.{countIn}
-use Rattle.ends.specs.declared.State.{State}
-use Rattle.ends.specs.declared.State.the-variants.{Closed, Enabled, Open, Failing}
-use Rattle.ends.specs.declared.EndPoint.{EndPoint}
-use Rattle.handing.specs.declared.Next.{Next}
-use Rattle.handing.specs.declared.Next.the-variants as next
-use Rattle.handing.specs.Handing.{nextOut, slotEntry}
+use Rattle.waiting.proofs.Linked.{first, queue-first}
+use Rattle.end_points.specs.Heads.{countIn}
+use Rattle.end_points.specs.declared.State.{State}
+use Rattle.end_points.specs.declared.State.the-variants.{Closed, Enabled, Open, Failing}
+use Rattle.end_points.specs.declared.EndPoint.{EndPoint}
+use Rattle.call_hand_out.specs.declared.Next.{Next}
+use Rattle.call_hand_out.specs.declared.Next.the-variants as next
+use Rattle.call_hand_out.specs.Handing.{nextOut}
+use Rattle.memory.specs.Layout.{idEntry}
 use Rattle.good.specs.Good.{Lists, Lines, ownerOf, Ranged, mine, Silent, Stated, Good}
 use Rattle.good.proofs.Members.{mine-all}
 
@@ -119,7 +120,7 @@ pub ranged-slot : (q n : ℕ) → Ranged (suc (suc q)) n → (64 ≤ n) × (n < 
 unfolding Ranged
 ranged-slot q n h = h
 
-pub slot-owner : (n : ℕ) → 64 ≤ n → n < 2112 → ownerOf n ≡ slotEntry n
+pub slot-owner : (n : ℕ) → 64 ≤ n → n < 2112 → ownerOf n ≡ idEntry n
 unfolding ownerOf
 slot-owner n h k = rw (le-ltb n 32 (omega arith), le-ltb n 64 h) (omega arith)
 

@@ -10,14 +10,14 @@ use lib.Dec.{eqb}
 use borrow.Author.Tests.{eqb-false, eq-eqb}
 use Rattle.units.specs.Refusals.{pick}
 use Rattle.memory.specs.Layout.{resends, urgentId}
-use Rattle.order.specs.Order.{Out}
+use Rattle.waiting.specs.Order.{Out}
 use Rattle.window.specs.Windows.{held, Good as GoodWindow}
 use Rattle.window.specs.declared.Window.{Window}
 use Rattle.window.proofs.Holding.{held-below}
 use Rattle.window.proofs.Sizes.{size-le}
-use Rattle.ends.specs.declared.Run.{Run}
+use Rattle.end_points.specs.declared.Run.{Run}
 use Rattle.slots.specs.Slots.{slotFor, cell, past, numberIn, timerIn}
-use Rattle.handing.specs.Handing.{cellOf, slotIn}
+use Rattle.memory.specs.Layout.{idCell, idSlot}
 use Rattle.good.specs.Good.{Lists, Lines, ownerOf, mine, idAt, ids, Resend, Resends, Sending}
 use Rattle.good.proofs.Members.{without, without-out}
 use Rattle.good.proofs.Lined.{less}
@@ -119,13 +119,13 @@ share-rest i n xs rest e o = ap (λ (ys : List ℕ). mine i (without n ys)) e �
 
 -- what stands for the number k past the start, as handing out reads it
 module _ (i : ℕ) (low : i < 16) (w : Window) (g : GoodWindow w) (n k : ℕ) (is : n ≡ idAt i w k) where
-  pub id-cell : cellOf n ≡ cell i w (past w k)
+  pub id-cell : idCell n ≡ cell i w (past w k)
   id-cell = omega arith
 
-  pub id-slot : slotIn n ≡ slotFor w (past w k)
+  pub id-slot : idSlot n ≡ slotFor w (past w k)
   id-slot = omega (arith, slot-lt w (past w k) g, size-le (w .size) (g .sized))
 
-  pub id-number : k < w .size → numberIn w (slotIn n) ≡ past w k
+  pub id-number : k < w .size → numberIn w (idSlot n) ≡ past w k
   id-number h = ap (numberIn w) id-slot ∙ number-at w g k h
 
 -- what waits of the data: the first is the first number not handed out yet

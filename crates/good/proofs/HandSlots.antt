@@ -10,22 +10,23 @@ use lib.ListN.{length, set}
 use Rattle.memory.specs.Layout.{resets, urgents, resends, datas, timerAt, quietAt, nodeWords}
 use Rattle.waiting.specs.Queues.{unlinked}
 use Rattle.waiting.specs.Acks.{waitingOf}
-use Rattle.order.specs.Order.{acksIn, Distinct}
+use Rattle.waiting.specs.Order.{acksIn, Distinct}
 use Rattle.window.specs.Windows.{held, Good as GoodWindow}
 use Rattle.window.proofs.Sizes.{size-le}
-use Rattle.kept.proofs.Kept.{RunFits}
-use Rattle.ends.specs.Ends.{endOf, saved}
-use Rattle.ends.specs.States.{isSends}
-use Rattle.ends.specs.Lent.{Lent}
-use Rattle.ends.specs.declared.State.{State}
-use Rattle.ends.specs.declared.State.the-variants.{Open}
-use Rattle.ends.specs.declared.Run.{Run}
+use Rattle.end_points.proofs.Kept.{RunFits}
+use Rattle.end_points.specs.Ends.{endOf, saved}
+use Rattle.end_points.specs.States.{isSends}
+use Rattle.end_points.specs.Lent.{Lent}
+use Rattle.end_points.specs.declared.State.{State}
+use Rattle.end_points.specs.declared.State.the-variants.{Open}
+use Rattle.end_points.specs.declared.Run.{Run}
 use Rattle.slots.specs.Slots.{cell, past, lengthIn, timerIn}
 use Rattle.timing.specs.Timing.{clockIn, quietIn, later, heeded}
 use Rattle.timing.proofs.Falling.{later-runs}
 use Rattle.good.proofs.Clocked.{Clocked, clocked-set, clocked-end, clocked-waiting, clocked-acks, heeded-apart, heeded-quiet, starts}
-use Rattle.handing.specs.declared.Next.the-variants as next
-use Rattle.handing.specs.Handing.{cellOf, slotEntry, handedRun, timed, againNode, outNode, outBook, handedOut}
+use Rattle.call_hand_out.specs.declared.Next.the-variants as next
+use Rattle.call_hand_out.specs.Handing.{handedRun, timed, againNode, outNode, outBook, handedOut}
+use Rattle.memory.specs.Layout.{idCell, idEntry}
 use Rattle.good.specs.Good.{Lists, mine, idAt, ids, Resend, Resends, OpenSender, Stated, Outlasts, Timely, Good}
 use Rattle.good.proofs.Members.{without-in, without-keeps, mine-in, mine-without}
 use Rattle.good.proofs.Lined.{less}
@@ -39,52 +40,52 @@ use Rattle.good.proofs.HandSorts.{open-state, open-sender, open-within,
 
 -- the tick at which the timer of what waits as n runs out
 abbrev over : Lent → ℕ → ℕ
-over x n = later (clockIn (x .node)) (endOf (x .node) (slotEntry n) .entry .timeout)
+over x n = later (clockIn (x .node)) (endOf (x .node) (idEntry n) .entry .timeout)
 
 module _ (t : List ℕ) (x : Lent) (l : Lists) (G : Good t (x .node) (x .book) l) where
   -- a slot: the number k past the start
   module _ (q : ℕ) (n : ℕ) (m : List·Memᴰ n (l (suc (suc q)))) (hq : suc (suc q) < 4) where
-    slot-whose : Whose (x .node) l (suc (suc q)) n (slotEntry n)
+    slot-whose : Whose (x .node) l (suc (suc q)) n (idEntry n)
     slot-whose =
         let h = ranged-slot q n (G .known (suc (suc q)) hq n m .1) in
-        whose t (x .node) (x .book) l G (suc (suc q)) hq n m (slotEntry n) (slot-owner n (h .0) (h .1))
+        whose t (x .node) (x .book) l G (suc (suc q)) hq n m (idEntry n) (slot-owner n (h .0) (h .1))
 
-    slot-low : slotEntry n < 16
-    slot-low = entry-low t (x .node) (x .book) l G (slotEntry n) (slot-whose .known)
+    slot-low : idEntry n < 16
+    slot-low = entry-low t (x .node) (x .book) l G (idEntry n) (slot-whose .known)
 
-    slot-window : GoodWindow (endOf (x .node) (slotEntry n) .run .window)
-    slot-window = entry-window t (x .node) (x .book) l G (slotEntry n) (slot-whose .known)
+    slot-window : GoodWindow (endOf (x .node) (idEntry n) .run .window)
+    slot-window = entry-window t (x .node) (x .book) l G (idEntry n) (slot-whose .known)
 
-    slot-state : (isSends (endOf (x .node) (slotEntry n) .entry .kind) ≡ true) × (endOf (x .node) (slotEntry n) .state ≡ Open)
-    slot-state = open-state t x l G (suc (suc q)) hq (λ e. omega arith) n (slotEntry n) slot-whose
+    slot-state : (isSends (endOf (x .node) (idEntry n) .entry .kind) ≡ true) × (endOf (x .node) (idEntry n) .state ≡ Open)
+    slot-state = open-state t x l G (suc (suc q)) hq (λ e. omega arith) n (idEntry n) slot-whose
 
-    slot-sender : OpenSender (x .book) l (slotEntry n) (endOf (x .node) (slotEntry n))
-    slot-sender = open-sender t x l G (suc (suc q)) hq (λ e. omega arith) n (slotEntry n) slot-whose
+    slot-sender : OpenSender (x .book) l (idEntry n) (endOf (x .node) (idEntry n))
+    slot-sender = open-sender t x l G (suc (suc q)) hq (λ e. omega arith) n (idEntry n) slot-whose
 
-    slot-length : (1 ≤ endOf (x .node) (slotEntry n) .entry .timeout) × (endOf (x .node) (slotEntry n) .entry .timeout ≤ 65535)
+    slot-length : (1 ≤ endOf (x .node) (idEntry n) .entry .timeout) × (endOf (x .node) (idEntry n) .entry .timeout ≤ 65535)
     slot-length = (
-      sender-timeout t (x .node) (x .book) l G (slotEntry n) (slot-whose .known) (slot-state .0),
-      omega (arith, timeout-fits (x .node) (slotEntry n)),
+      sender-timeout t (x .node) (x .book) l G (idEntry n) (slot-whose .known) (slot-state .0),
+      omega (arith, timeout-fits (x .node) (idEntry n)),
     )
 
     slot-timeout : 1 ≤ over x n
     slot-timeout =
-        let h = later-runs (clockIn (x .node)) (endOf (x .node) (slotEntry n) .entry .timeout) (omega arith) (slot-length .0) (slot-length .1) in
+        let h = later-runs (clockIn (x .node)) (endOf (x .node) (idEntry n) .entry .timeout) (omega arith) (slot-length .0) (slot-length .1) in
         omega (arith, h .0)
 
-    slot-share : (r : ℕ) → r < 4 → r ≢ suc (suc q) → (xs : List ℕ) → mine (slotEntry n) (l r) ≡ xs → mine (slotEntry n) (less l n r) ≡ xs
-    slot-share = open-share t x l G (suc (suc q)) hq (λ e. omega arith) n (slotEntry n) slot-whose
+    slot-share : (r : ℕ) → r < 4 → r ≢ suc (suc q) → (xs : List ℕ) → mine (idEntry n) (l r) ≡ xs → mine (idEntry n) (less l n r) ≡ xs
+    slot-share = open-share t x l G (suc (suc q)) hq (λ e. omega arith) n (idEntry n) slot-whose
 
-    module _ (k : ℕ) (is : n ≡ idAt (slotEntry n) (endOf (x .node) (slotEntry n) .run .window) k) (taken : k < endOf (x .node) (slotEntry n) .run .taken) where
-      slot-fit : k < endOf (x .node) (slotEntry n) .run .window .size
+    module _ (k : ℕ) (is : n ≡ idAt (idEntry n) (endOf (x .node) (idEntry n) .run .window) k) (taken : k < endOf (x .node) (idEntry n) .run .taken) where
+      slot-fit : k < endOf (x .node) (idEntry n) .run .window .size
       slot-fit = omega (arith, slot-sender .sending .taken)
 
-      slot-cell : cellOf n ≡ cell (slotEntry n) (endOf (x .node) (slotEntry n) .run .window) (past (endOf (x .node) (slotEntry n) .run .window) k)
-      slot-cell = id-cell (slotEntry n) slot-low (endOf (x .node) (slotEntry n) .run .window) slot-window n k is
+      slot-cell : idCell n ≡ cell (idEntry n) (endOf (x .node) (idEntry n) .run .window) (past (endOf (x .node) (idEntry n) .run .window) k)
+      slot-cell = id-cell (idEntry n) slot-low (endOf (x .node) (idEntry n) .run .window) slot-window n k is
 
-      slot-within : Within (slotEntry n) (x .book) (timed (x .node) (x .book) n) l (less l n)
+      slot-within : Within (idEntry n) (x .book) (timed (x .node) (x .book) n) l (less l n)
       slot-within =
-          let i = slotEntry n in
+          let i = idEntry n in
           let w = endOf (x .node) i .run .window in
           let v = over x n in
           let one = open-within t x l G (suc (suc q)) hq (λ e. omega arith) n i slot-whose in
@@ -92,9 +93,9 @@ module _ (t : List ℕ) (x : Lent) (l : Lists) (G : Good t (x .node) (x .book) l
           (within-then i (x .book) (unlinked (x .book) n) (set (unlinked (x .book) n) (timerAt (cell i w (past w k))) v) l (less l n) (less l n) one
           (within-timed i slot-low w slot-window k slot-fit v (unlinked (x .book) n) (less l n) (one .lines)))
 
-      slot-timed : Timed (x .book) (timed (x .node) (x .book) n) (slotEntry n) (endOf (x .node) (slotEntry n) .run .window) k (over x n)
+      slot-timed : Timed (x .book) (timed (x .node) (x .book) n) (idEntry n) (endOf (x .node) (idEntry n) .run .window) k (over x n)
       slot-timed =
-          let i = slotEntry n in
+          let i = idEntry n in
           let w = endOf (x .node) i .run .window in
           let v = over x n in
           let b′ = unlinked (x .book) n in
@@ -104,22 +105,22 @@ module _ (t : List ℕ) (x : Lent) (l : Lists) (G : Good t (x .node) (x .book) l
           (timed-set i slot-low w slot-window k slot-fit v b′ (open-within t x l G (suc (suc q)) hq (λ e. omega arith) n i slot-whose .lines .long)))
 
       -- its timer starts, and those of the other numbers handed out run on; fewer ticks than it takes may pass
-      slot-outlasts : (h q′ : ℕ) → h ≤ endOf (x .node) (slotEntry n) .run .window .size → ((j : ℕ) → j < h → j ≢ k → j < endOf (x .node) (slotEntry n) .run .handed)
-          → q′ ≤ quietIn (x .node) → q′ < endOf (x .node) (slotEntry n) .entry .timeout → (j : ℕ) → j < h
+      slot-outlasts : (h q′ : ℕ) → h ≤ endOf (x .node) (idEntry n) .run .window .size → ((j : ℕ) → j < h → j ≢ k → j < endOf (x .node) (idEntry n) .run .handed)
+          → q′ ≤ quietIn (x .node) → q′ < endOf (x .node) (idEntry n) .entry .timeout → (j : ℕ) → j < h
           → Outlasts (clockIn (x .node)) q′ (timerIn (timed (x .node) (x .book) n)
-          (cell (slotEntry n) (endOf (x .node) (slotEntry n) .run .window) (past (endOf (x .node) (slotEntry n) .run .window) j)))
+          (cell (idEntry n) (endOf (x .node) (idEntry n) .run .window) (past (endOf (x .node) (idEntry n) .run .window) j)))
       slot-outlasts h q′ few others fewer soon =
-          let i = slotEntry n in
+          let i = idEntry n in
           let c = clockIn (x .node) in
           let was = subst (Timely c (quietIn (x .node)) (x .book) i (endOf (x .node) i)) (slot-state .1) (G .timely i (slot-whose .known)) in
           timed-outlasts (x .book) (timed (x .node) (x .book) n) i (endOf (x .node) i .run .window) k (over x n) slot-timed c q′
           (starts c q′ (endOf (x .node) i .entry .timeout) (omega arith) soon (slot-length .1)) h few
           (λ j m d. outlasts-fewer c (quietIn (x .node)) q′ _ fewer (was j (others j m d)))
 
-      slot-out : (x′ : Lent) → x′ .book ≡ timed (x .node) (x .book) n → Apart (slotEntry n) (x .node) (x′ .node) → acksIn (x′ .node) ≡ acksIn (x .node)
-          → SlotOut x x′ l (less l n) n (slotEntry n) k
+      slot-out : (x′ : Lent) → x′ .book ≡ timed (x .node) (x .book) n → Apart (idEntry n) (x .node) (x′ .node) → acksIn (x′ .node) ≡ acksIn (x .node)
+          → SlotOut x x′ l (less l n) n (idEntry n) k
       slot-out x′ book apart acks =
-          let i = slotEntry n in
+          let i = idEntry n in
           let w = endOf (x .node) i .run .window in
           let f = slot-sender .sending .filled k taken in
           record {
@@ -139,18 +140,18 @@ module _ (t : List ℕ) (x : Lent) (l : Lists) (G : Good t (x .node) (x .book) l
 
   -- a retransmission
   module _ (n : ℕ) (m : List·Memᴰ n (l resends)) where
-    again : Resend (x .book) (slotEntry n) (endOf (x .node) (slotEntry n) .run) n
+    again : Resend (x .book) (idEntry n) (endOf (x .node) (idEntry n) .run) n
     again = slot-sender 0 n m (omega arith) .resends .each n (slot-whose 0 n m (omega arith) .share)
 
-    again-taken : again .at < endOf (x .node) (slotEntry n) .run .taken
+    again-taken : again .at < endOf (x .node) (idEntry n) .run .taken
     again-taken = omega (arith, again .handed, slot-sender 0 n m (omega arith) .sending .handed)
 
-    again-timed : Timed (x .book) (timed (x .node) (x .book) n) (slotEntry n) (endOf (x .node) (slotEntry n) .run .window) (again .at) (over x n)
+    again-timed : Timed (x .book) (timed (x .node) (x .book) n) (idEntry n) (endOf (x .node) (idEntry n) .run .window) (again .at) (over x n)
     again-timed = slot-timed 0 n m (omega arith) (again .at) (again .is) again-taken
 
-    again-resends : Resends (timed (x .node) (x .book) n) (less l n) (slotEntry n) (endOf (x .node) (slotEntry n) .run)
+    again-resends : Resends (timed (x .node) (x .book) n) (less l n) (idEntry n) (endOf (x .node) (idEntry n) .run)
     again-resends =
-        let i = slotEntry n in
+        let i = idEntry n in
         let r = endOf (x .node) i .run in
         let s = slot-sender 0 n m (omega arith) .sending in
         let same = mine-without i n (l resends) in
@@ -160,9 +161,9 @@ module _ (t : List ℕ) (x : Lent) (l : Lists) (G : Good t (x .node) (x .book) l
         (λ y k. let d = without-in n y (mine i (l resends)) (subst (λ (ys : List ℕ). List·Memᴰ y ys) same k) in (d .0, λ e. d .1 (e ∙ sym (again .is))))
         (λ y k d. subst (λ (ys : List ℕ). List·Memᴰ y ys) (sym same) (without-keeps n y (mine i (l resends)) k (λ e. d (e ∙ again .is))))
 
-    again-then : OpenSender (timed (x .node) (x .book) n) (less l n) (slotEntry n) (endOf (x .node) (slotEntry n))
+    again-then : OpenSender (timed (x .node) (x .book) n) (less l n) (idEntry n) (endOf (x .node) (idEntry n))
     again-then =
-        let i = slotEntry n in
+        let i = idEntry n in
         let e = endOf (x .node) i in
         let o = slot-sender 0 n m (omega arith) in
         let kept = slot-share 0 n m (omega arith) in
@@ -178,17 +179,17 @@ module _ (t : List ℕ) (x : Lent) (l : Lists) (G : Good t (x .node) (x .book) l
         }
 
     abbrev again-heeded : List ℕ
-    again-heeded = againNode (x .node) (endOf (x .node) (slotEntry n))
+    again-heeded = againNode (x .node) (endOf (x .node) (idEntry n))
 
     again-clocked : Clocked (x .node) again-heeded
     again-clocked = clocked-set (x .node) quietAt _ (omega arith) (omega arith)
 
-    again-apart : Apart (slotEntry n) (x .node) again-heeded
-    again-apart = heeded-apart (x .node) (G .long) (endOf (x .node) (slotEntry n) .entry .timeout) (slotEntry n)
+    again-apart : Apart (idEntry n) (x .node) again-heeded
+    again-apart = heeded-apart (x .node) (G .long) (endOf (x .node) (idEntry n) .entry .timeout) (idEntry n)
 
     again-good : Good t again-heeded (timed (x .node) (x .book) n) (less l n)
     again-good =
-        let i = slotEntry n in
+        let i = idEntry n in
         let e = endOf (x .node) i in
         let b′ = timed (x .node) (x .book) n in
         let known = slot-whose 0 n m (omega arith) .known in
@@ -212,7 +213,7 @@ module _ (t : List ℕ) (x : Lent) (l : Lists) (G : Good t (x .node) (x .book) l
           lengths = again-timed .lengths;
           what = resent n W
               (record {
-                at = slotEntry n;
+                at = idEntry n;
                 offset = again .at;
                 slot = slot-out 0 n m (omega arith) (again .at) (again .is) again-taken (handedOut x (next.Resend n)) refl again-apart
                     (clocked-acks (x .node) again-heeded again-clocked);
@@ -227,35 +228,35 @@ module _ (t : List ℕ) (x : Lent) (l : Lists) (G : Good t (x .node) (x .book) l
     m : List·Memᴰ n (l datas)
     m = first-in n (l datas) f
 
-    data-sender : OpenSender (x .book) l (slotEntry n) (endOf (x .node) (slotEntry n))
+    data-sender : OpenSender (x .book) l (idEntry n) (endOf (x .node) (idEntry n))
     data-sender = slot-sender 1 n m (omega arith)
 
-    data-next : NextData (slotEntry n) (endOf (x .node) (slotEntry n) .run .window) (endOf (x .node) (slotEntry n) .run .handed) (endOf (x .node) (slotEntry n) .run .taken) n
-        (mine (slotEntry n) (f .rest))
+    data-next : NextData (idEntry n) (endOf (x .node) (idEntry n) .run .window) (endOf (x .node) (idEntry n) .run .handed) (endOf (x .node) (idEntry n) .run .taken) n
+        (mine (idEntry n) (f .rest))
     data-next =
-        let i = slotEntry n in
+        let i = idEntry n in
         let r = endOf (x .node) i .run in
         next-data i (r .window) (r .handed) (r .taken) n (mine i (f .rest))
         (sym (share-first i n (l datas) (f .rest) (f .parts) (slot-whose 1 n m (omega arith) .own)) ∙ data-sender .share .datas)
 
-    data-missing : held (endOf (x .node) (slotEntry n) .run .window) (endOf (x .node) (slotEntry n) .run .handed) ≡ false
-    data-missing = sides (held (endOf (x .node) (slotEntry n) .run .window) (endOf (x .node) (slotEntry n) .run .handed)) refl
+    data-missing : held (endOf (x .node) (idEntry n) .run .window) (endOf (x .node) (idEntry n) .run .handed) ≡ false
+    data-missing = sides (held (endOf (x .node) (idEntry n) .run .window) (endOf (x .node) (idEntry n) .run .handed)) refl
       where
-        sides : (z : Bool) → held (endOf (x .node) (slotEntry n) .run .window) (endOf (x .node) (slotEntry n) .run .handed) ≡ z → z ≡ false
-        sides true e = absurd (omega (arith, data-sender .sending .acked (endOf (x .node) (slotEntry n) .run .handed) e))
+        sides : (z : Bool) → held (endOf (x .node) (idEntry n) .run .window) (endOf (x .node) (idEntry n) .run .handed) ≡ z → z ≡ false
+        sides true e = absurd (omega (arith, data-sender .sending .acked (endOf (x .node) (idEntry n) .run .handed) e))
         sides false e = refl
 
-    data-count : (endOf (x .node) (slotEntry n) .run .handed + 1) % 256 ≡ suc (endOf (x .node) (slotEntry n) .run .handed)
+    data-count : (endOf (x .node) (idEntry n) .run .handed + 1) % 256 ≡ suc (endOf (x .node) (idEntry n) .run .handed)
     data-count =
-        omega (arith, data-next .more, data-sender .sending .taken, size-le (endOf (x .node) (slotEntry n) .run .window .size) (slot-window 1 n m (omega arith) .sized))
+        omega (arith, data-next .more, data-sender .sending .taken, size-le (endOf (x .node) (idEntry n) .run .window .size) (slot-window 1 n m (omega arith) .sized))
 
-    data-timed : Timed (x .book) (timed (x .node) (x .book) n) (slotEntry n) (endOf (x .node) (slotEntry n) .run .window) (endOf (x .node) (slotEntry n) .run .handed)
+    data-timed : Timed (x .book) (timed (x .node) (x .book) n) (idEntry n) (endOf (x .node) (idEntry n) .run .window) (endOf (x .node) (idEntry n) .run .handed)
         (over x n)
-    data-timed = slot-timed 1 n m (omega arith) (endOf (x .node) (slotEntry n) .run .handed) (data-next .is) (data-next .more)
+    data-timed = slot-timed 1 n m (omega arith) (endOf (x .node) (idEntry n) .run .handed) (data-next .is) (data-next .more)
 
-    data-resends : Resends (timed (x .node) (x .book) n) (less l n) (slotEntry n) (withHanded (endOf (x .node) (slotEntry n) .run) (suc (endOf (x .node) (slotEntry n) .run .handed)))
+    data-resends : Resends (timed (x .node) (x .book) n) (less l n) (idEntry n) (withHanded (endOf (x .node) (idEntry n) .run) (suc (endOf (x .node) (idEntry n) .run .handed)))
     data-resends =
-        let i = slotEntry n in
+        let i = idEntry n in
         let r = endOf (x .node) i .run in
         let s = data-sender .sending in
         let same = slot-share 1 n m (omega arith) resends (omega arith) (λ z. omega arith) (mine i (l resends)) refl in
@@ -270,15 +271,15 @@ module _ (t : List ℕ) (x : Lent) (l : Lists) (G : Good t (x .node) (x .book) l
         (λ y k d. subst (λ (ys : List ℕ). List·Memᴰ y ys) (sym same) k)
 
     -- the rest of them waits
-    data-rest : mine (slotEntry n) (less l n datas)
-        ≡ ids (slotEntry n) (endOf (x .node) (slotEntry n) .run .window) (suc (endOf (x .node) (slotEntry n) .run .handed)) (endOf (x .node) (slotEntry n) .run .taken - suc (endOf (x .node) (slotEntry n) .run .handed))
+    data-rest : mine (idEntry n) (less l n datas)
+        ≡ ids (idEntry n) (endOf (x .node) (idEntry n) .run .window) (suc (endOf (x .node) (idEntry n) .run .handed)) (endOf (x .node) (idEntry n) .run .taken - suc (endOf (x .node) (idEntry n) .run .handed))
     data-rest =
-        share-rest (slotEntry n) n (l datas) (f .rest) (f .parts) (subst Distinct (f .parts) (G .lines .queue datas (omega arith) .distinct .1) .0) ∙ data-next .rest
+        share-rest (idEntry n) n (l datas) (f .rest) (f .parts) (subst Distinct (f .parts) (G .lines .queue datas (omega arith) .distinct .1) .0) ∙ data-next .rest
 
-    data-then : OpenSender (timed (x .node) (x .book) n) (less l n) (slotEntry n)
-        (turnedTo (endOf (x .node) (slotEntry n)) Open (withHanded (endOf (x .node) (slotEntry n) .run) (suc (endOf (x .node) (slotEntry n) .run .handed))))
+    data-then : OpenSender (timed (x .node) (x .book) n) (less l n) (idEntry n)
+        (turnedTo (endOf (x .node) (idEntry n)) Open (withHanded (endOf (x .node) (idEntry n) .run) (suc (endOf (x .node) (idEntry n) .run .handed))))
     data-then =
-        let i = slotEntry n in
+        let i = idEntry n in
         let e = endOf (x .node) i in
         let b′ = timed (x .node) (x .book) n in
         let o = data-sender in
@@ -296,51 +297,51 @@ module _ (t : List ℕ) (x : Lent) (l : Lists) (G : Good t (x .node) (x .book) l
         }
 
     -- the run as it is saved
-    data-run : handedRun (endOf (x .node) (slotEntry n) .run) ≡ withHanded (endOf (x .node) (slotEntry n) .run) (suc (endOf (x .node) (slotEntry n) .run .handed))
+    data-run : handedRun (endOf (x .node) (idEntry n) .run) ≡ withHanded (endOf (x .node) (idEntry n) .run) (suc (endOf (x .node) (idEntry n) .run .handed))
     unfolding handedRun
-    data-run = ap (withHanded (endOf (x .node) (slotEntry n) .run)) data-count
+    data-run = ap (withHanded (endOf (x .node) (idEntry n) .run)) data-count
 
-    data-fits : RunFits (handedRun (endOf (x .node) (slotEntry n) .run))
+    data-fits : RunFits (handedRun (endOf (x .node) (idEntry n) .run))
     unfolding handedRun
     data-fits =
-        let f = run-fits (x .node) (slotEntry n) in
+        let f = run-fits (x .node) (idEntry n) in
         record { start = f .start; taken = f .taken; handed = omega arith; accepted = f .accepted; confirmed = f .confirmed; urgent = f .urgent }
 
     -- what is saved, and the node afterwards
     abbrev data-saved : List ℕ
-    data-saved = saved (x .node) (slotEntry n) (endOf (x .node) (slotEntry n) .state) (handedRun (endOf (x .node) (slotEntry n) .run))
+    data-saved = saved (x .node) (idEntry n) (endOf (x .node) (idEntry n) .state) (handedRun (endOf (x .node) (idEntry n) .run))
 
     abbrev data-heeded : List ℕ
-    data-heeded = heeded data-saved (endOf (x .node) (slotEntry n) .entry .timeout)
+    data-heeded = heeded data-saved (endOf (x .node) (idEntry n) .entry .timeout)
 
     data-clocked : Clocked data-saved data-heeded
     data-clocked = clocked-set data-saved quietAt _ (omega arith) (omega arith)
 
     data-long : length data-saved ≡ nodeWords
-    data-long = apart-saved (slotEntry n) (x .node) (endOf (x .node) (slotEntry n) .state) (handedRun (endOf (x .node) (slotEntry n) .run)) .long ∙ G .long
+    data-long = apart-saved (idEntry n) (x .node) (endOf (x .node) (idEntry n) .state) (handedRun (endOf (x .node) (idEntry n) .run)) .long ∙ G .long
 
-    data-apart : Apart (slotEntry n) (x .node) data-heeded
+    data-apart : Apart (idEntry n) (x .node) data-heeded
     data-apart =
-        let i = slotEntry n in
+        let i = idEntry n in
         let e = endOf (x .node) i in
         apart-then i (x .node) data-saved data-heeded (apart-saved i (x .node) (e .state) (handedRun (e .run))) (heeded-apart data-saved data-long (e .entry .timeout) i)
 
     data-acks : (waitingOf data-heeded ≡ waitingOf (x .node)) × (acksIn data-heeded ≡ acksIn (x .node))
     data-acks =
-        let p = saved-acks (x .node) (slotEntry n) (endOf (x .node) (slotEntry n) .state) (handedRun (endOf (x .node) (slotEntry n) .run)) in
+        let p = saved-acks (x .node) (idEntry n) (endOf (x .node) (idEntry n) .state) (handedRun (endOf (x .node) (idEntry n) .run)) in
         (clocked-waiting data-saved data-heeded data-clocked ∙ p .0, clocked-acks data-saved data-heeded data-clocked ∙ p .1)
 
-    data-end : endOf data-heeded (slotEntry n) ≡ turnedTo (endOf (x .node) (slotEntry n)) Open (handedRun (endOf (x .node) (slotEntry n) .run))
+    data-end : endOf data-heeded (idEntry n) ≡ turnedTo (endOf (x .node) (idEntry n)) Open (handedRun (endOf (x .node) (idEntry n) .run))
     unfolding handedRun
     data-end =
-        let i = slotEntry n in
+        let i = idEntry n in
         clocked-end data-saved data-heeded data-clocked i
         ∙ open-end t x l G datas (omega arith) (λ z. omega arith) n i (slot-whose 1 n m (omega arith)) (handedRun (endOf (x .node) i .run)) data-fits (slot-window 1 n m (omega arith)) refl
 
-    data-timely : Timely (clockIn (x .node)) (quietIn data-heeded) (timed (x .node) (x .book) n) (slotEntry n)
-        (turnedTo (endOf (x .node) (slotEntry n)) Open (withHanded (endOf (x .node) (slotEntry n) .run) (suc (endOf (x .node) (slotEntry n) .run .handed)))) Open
+    data-timely : Timely (clockIn (x .node)) (quietIn data-heeded) (timed (x .node) (x .book) n) (idEntry n)
+        (turnedTo (endOf (x .node) (idEntry n)) Open (withHanded (endOf (x .node) (idEntry n) .run) (suc (endOf (x .node) (idEntry n) .run .handed)))) Open
     data-timely =
-        let e = endOf (x .node) (slotEntry n) in
+        let e = endOf (x .node) (idEntry n) in
         slot-outlasts 1 n m (omega arith) (e .run .handed) (data-next .is) (data-next .more) (suc (e .run .handed)) (quietIn data-heeded)
         (omega (arith, data-sender .sending .taken, data-next .more)) (λ j h d. omega arith) (data-apart .quiet)
         (heeded-quiet data-saved data-long (e .entry .timeout) (slot-length 1 n m (omega arith) .0))
@@ -348,7 +349,7 @@ module _ (t : List ℕ) (x : Lent) (l : Lists) (G : Good t (x .node) (x .book) l
     pub hand-data : Went x (handedOut x (next.Data n)) (next.Data n) → HandKept t x (handedOut x (next.Data n)) l
     unfolding outNode outBook handedRun
     hand-data W =
-        let i = slotEntry n in
+        let i = idEntry n in
         let e = endOf (x .node) i in
         let r = handedRun (e .run) in
         let b′ = timed (x .node) (x .book) n in

@@ -14,25 +14,26 @@ use Rattle.units.specs.Refusals.{pick}
 use Rattle.memory.specs.Layout.{resets, urgents, resends, datas, resetId, urgentId, lengthAt, timerAt, quietAt, nodeWords}
 use Rattle.waiting.specs.Queues.{unlinked}
 use Rattle.waiting.specs.Acks.{waitingOf, oldestOf, ackOf, popped}
-use Rattle.order.specs.Order.{acksIn}
-use Rattle.order.proofs.Ringed.{Ring, pop-acks, pop-ring}
+use Rattle.waiting.specs.Order.{acksIn}
+use Rattle.waiting.proofs.Ringed.{Ring, pop-acks, pop-ring}
 use Rattle.window.specs.Windows.{Good as GoodWindow}
-use Rattle.kept.proofs.Kept.{RunFits}
-use Rattle.ends.specs.Ends.{endOf, saved}
-use Rattle.ends.specs.Heads.{countIn}
-use Rattle.ends.specs.States.{isSends}
-use Rattle.ends.specs.Runs.{urgentGone}
-use Rattle.ends.specs.Lent.{Lent}
-use Rattle.ends.specs.declared.State.{State}
-use Rattle.ends.specs.declared.State.the-variants.{Enabled, Open}
-use Rattle.ends.specs.declared.Run.{Run}
-use Rattle.ends.specs.declared.EndPoint.{EndPoint}
+use Rattle.end_points.proofs.Kept.{RunFits}
+use Rattle.end_points.specs.Ends.{endOf, saved}
+use Rattle.end_points.specs.Heads.{countIn}
+use Rattle.end_points.specs.States.{isSends}
+use Rattle.end_points.specs.Runs.{urgentGone}
+use Rattle.end_points.specs.Lent.{Lent}
+use Rattle.end_points.specs.declared.State.{State}
+use Rattle.end_points.specs.declared.State.the-variants.{Enabled, Open}
+use Rattle.end_points.specs.declared.Run.{Run}
+use Rattle.end_points.specs.declared.EndPoint.{EndPoint}
 use Rattle.slots.specs.Slots.{cell, past}
 use Rattle.timing.specs.Timing.{clockIn, quietIn, later, heeded}
 use Rattle.timing.proofs.Falling.{later-runs}
 use Rattle.good.proofs.Clocked.{Clocked, clocked-set, clocked-end, clocked-waiting, clocked-acks, heeded-apart, heeded-quiet, starts}
-use Rattle.handing.specs.declared.Next.the-variants as next
-use Rattle.handing.specs.Handing.{resetEntry, urgentEntry, resetNode, outNode, outBook, handedOut}
+use Rattle.call_hand_out.specs.declared.Next.the-variants as next
+use Rattle.call_hand_out.specs.Handing.{resetNode, outNode, outBook, handedOut}
+use Rattle.memory.specs.Layout.{resetEntry, urgentEntry}
 use Rattle.good.specs.Good.{Lists, ownerOf, mine, Silent, OpenSender, Anew, Entered, Timely, Owed, Good}
 use Rattle.good.proofs.Lined.{less, unlink-cells}
 use Rattle.good.proofs.Framing.{Within, within-same, within-unlink, Apart, apart-then, apart-saved, apart-timely, timely-as, framed, count-low, entry-low}

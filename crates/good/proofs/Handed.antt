@@ -9,20 +9,21 @@ use lib.ListN.{length}
 use Rattle.units.specs.declared.refusals.Refusal.{Refusal}
 use Rattle.memory.specs.Layout.{resetId, urgentId}
 use Rattle.waiting.specs.Acks.{ackOf}
-use Rattle.order.specs.Order.{acksIn}
+use Rattle.waiting.specs.Order.{acksIn}
 use Rattle.window.specs.Windows.{held}
-use Rattle.ends.specs.Ends.{endOf}
-use Rattle.ends.specs.Heads.{countIn}
-use Rattle.ends.specs.States.{isSends}
-use Rattle.ends.specs.Runs.{urgentGone}
-use Rattle.ends.specs.Lent.{Lent}
-use Rattle.ends.specs.declared.State.the-variants.{Enabled, Open}
-use Rattle.ends.specs.declared.answers.HandedOut.the-variants.{Length, Refused}
+use Rattle.end_points.specs.Ends.{endOf}
+use Rattle.end_points.specs.Heads.{countIn}
+use Rattle.end_points.specs.States.{isSends}
+use Rattle.end_points.specs.Runs.{urgentGone}
+use Rattle.end_points.specs.Lent.{Lent}
+use Rattle.end_points.specs.declared.State.the-variants.{Enabled, Open}
+use Rattle.end_points.specs.declared.answers.HandedOut.the-variants.{Length, Refused}
 use Rattle.slots.specs.Slots.{slotFor, cell, past, numberIn, lengthIn}
 use Rattle.timing.specs.Timing.{clockIn, later}
-use Rattle.handing.specs.declared.Next.{Next}
-use Rattle.handing.specs.declared.Next.the-variants as next
-use Rattle.handing.specs.Handing.{nextOut, resetEntry, urgentEntry, cellOf, slotEntry, slotIn, frameOut, handAnswer, handedRun, handedOut}
+use Rattle.call_hand_out.specs.declared.Next.{Next}
+use Rattle.call_hand_out.specs.declared.Next.the-variants as next
+use Rattle.call_hand_out.specs.Handing.{nextOut, frameOut, handOutAnswer, handedRun, handedOut}
+use Rattle.memory.specs.Layout.{resetEntry, urgentEntry, idCell, idEntry, idSlot}
 use Rattle.good.specs.Good.{Lists, idAt, Good}
 use Rattle.good.proofs.Framing.{Within, Apart}
 use Rattle.good.proofs.Turns.{turnedTo}
@@ -32,7 +33,7 @@ use Rattle.good.proofs.Turns.{turnedTo}
 -- it went out as sort n
 pub record Went (x x′ : Lent) (n : Next) : Type 0 where
   pub sort : nextOut (x .node) (x .book) ≡ n
-  pub answer : handAnswer x ≡ Length (length (frameOut x n))
+  pub answer : handOutAnswer x ≡ Length (length (frameOut x n))
   pub after : x′ ≡ handedOut x n
 
 -- and altered entry i's business alone
@@ -76,17 +77,17 @@ pub record UrgentOut (x x′ : Lent) (l l′ : Lists) (n : ℕ) : Type 0 where
 
 -- the number k past the start of an open sender's window, in the frame and in the book
 pub record SlotOut (x x′ : Lent) (l l′ : Lists) (n i k : ℕ) : Type 0 where
-  pub entry : slotEntry n ≡ i
+  pub entry : idEntry n ≡ i
   pub is : n ≡ idAt i (endOf (x .node) i .run .window) k
   pub alone : Alone i x x′ l l′
   pub sends : isSends (endOf (x .node) i .entry .kind) ≡ true
   pub opened : endOf (x .node) i .state ≡ Open
   pub taken : k < endOf (x .node) i .run .taken
-  pub here : cellOf n ≡ cell i (endOf (x .node) i .run .window) (past (endOf (x .node) i .run .window) k)
-  pub slot : slotIn n ≡ slotFor (endOf (x .node) i .run .window) (past (endOf (x .node) i .run .window) k)
-  pub number : numberIn (endOf (x .node) i .run .window) (slotIn n) ≡ past (endOf (x .node) i .run .window) k
-  pub some : 1 ≤ lengthIn (x .book) (cellOf n)
-  pub most : lengthIn (x .book) (cellOf n) ≤ endOf (x .node) i .entry .largest
+  pub here : idCell n ≡ cell i (endOf (x .node) i .run .window) (past (endOf (x .node) i .run .window) k)
+  pub slot : idSlot n ≡ slotFor (endOf (x .node) i .run .window) (past (endOf (x .node) i .run .window) k)
+  pub number : numberIn (endOf (x .node) i .run .window) (idSlot n) ≡ past (endOf (x .node) i .run .window) k
+  pub some : 1 ≤ lengthIn (x .book) (idCell n)
+  pub most : lengthIn (x .book) (idCell n) ≤ endOf (x .node) i .entry .largest
   pub acks : acksIn (x′ .node) ≡ acksIn (x .node)
 
 -- a retransmission
@@ -105,7 +106,7 @@ pub record DataOut (x x′ : Lent) (l l′ : Lists) (n : ℕ) : Type 0 where
   pub ends : endOf (x′ .node) at ≡ turnedTo (endOf (x .node) at) Open (handedRun (endOf (x .node) at .run))
 
 pub data Handed (x x′ : Lent) (l l′ : Lists) : Type 0 where
-  refused : (w : Refusal) → handAnswer x ≡ Refused w → x′ ≡ x → Handed x x′ l l′
+  refused : (w : Refusal) → handOutAnswer x ≡ Refused w → x′ ≡ x → Handed x x′ l l′
   nothing : Went x x′ next.Nothing → x′ .node ≡ x .node → x′ .book ≡ x .book → Handed x x′ l l′
   acked : (w : ℕ) → Went x x′ (next.Ack (ackOf w)) → AckOut x x′ l l′ w → Handed x x′ l l′
   reset : (n : ℕ) → Went x x′ (next.Reset n) → ResetOut x x′ l l′ n → Handed x x′ l l′

@@ -15,8 +15,8 @@ use Rattle.memory.specs.Layout.{resets, urgents, resends, datas, urgentId, time
 use Rattle.waiting.specs.Queues.{unlinked}
 use Rattle.window.specs.Windows.{held, Good as GoodWindow}
 use Rattle.window.specs.declared.Window.{Window}
-use Rattle.ends.specs.declared.Run.{Run}
-use Rattle.ends.specs.declared.EndPoint.{EndPoint}
+use Rattle.end_points.specs.declared.Run.{Run}
+use Rattle.end_points.specs.declared.EndPoint.{EndPoint}
 use Rattle.slots.specs.Slots.{cell, past, timerIn, waitsIn, dropSlot, dropSlots, idled}
 use Rattle.good.specs.Good.{Lists, Lines, mine, idAt, ids, Resends, Silent, OpenSender}
 use Rattle.good.proofs.Members.{without, without-in, without-keeps, mine-in, mine-all, mine-without}

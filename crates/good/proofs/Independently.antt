@@ -6,10 +6,10 @@ use mathlib.Core.List.{List, []}
 use native.Mathlib.Decide.{decLt}
 use native.Mathlib.Omega.{arith}
 use lib.ListN.{getD}
-use Rattle.ends.specs.Heads.{countIn}
-use Rattle.ends.specs.Lent.{Lent}
+use Rattle.end_points.specs.Heads.{countIn}
+use Rattle.end_points.specs.Lent.{Lent}
 use Rattle.waiting.specs.Acks.{ackOf}
-use Rattle.handing.specs.Handing.{handAnswer, handAfter}
+use Rattle.call_hand_out.specs.Handing.{handOutAnswer, handOutAfter}
 use Rattle.good.specs.Good.{Lists, Good}
 use Rattle.good.specs.Calls.{Memory, lent, bare, after}
 use Rattle.machine.specs.Calls.{Call, opens, closes, counts, sends, urges, arrives, hands-out, ticks}
@@ -76,14 +76,14 @@ module _ (t : List ℕ) (n : Memory) (l : Lists) (g : Good t (n .node) (n .book)
   arrive-alone block f b (inl r) = same-alone (arrives block f) 0 tt (ap (λ (x : Lent). x .node) (r .after)) (ap (λ (x : Lent). x .book) (r .after))
   arrive-alone block f b (inr a) = kept-alone (arrives block f) (lent n block) _ (a .entry) refl refl refl refl tt (arrive-keeps t (lent n block) l f g b a)
 
-  module _ (buffer : List ℕ) (k : HandKept t (lent n buffer) (handAfter (lent n buffer) (handAnswer (lent n buffer))) l) where
-    one-alone : (j : ℕ) → One j (lent n buffer) (handAfter (lent n buffer) (handAnswer (lent n buffer))) l (k .lists) → Alone t n l (hands-out buffer)
+  module _ (buffer : List ℕ) (k : HandKept t (lent n buffer) (handOutAfter (lent n buffer) (handOutAnswer (lent n buffer))) l) where
+    one-alone : (j : ℕ) → One j (lent n buffer) (handOutAfter (lent n buffer) (handOutAnswer (lent n buffer))) l (k .lists) → Alone t n l (hands-out buffer)
     unfolding after
     one-alone j o =
-        kept-alone (hands-out buffer) (lent n buffer) (handAfter (lent n buffer) (handAnswer (lent n buffer))) j refl refl refl refl tt
+        kept-alone (hands-out buffer) (lent n buffer) (handOutAfter (lent n buffer) (handOutAnswer (lent n buffer))) j refl refl refl refl tt
         (record { lists = k .lists; good = k .good; apart = o .apart; within = o .within })
 
-    sort-alone : Handed (lent n buffer) (handAfter (lent n buffer) (handAnswer (lent n buffer))) l (k .lists) → Alone t n l (hands-out buffer)
+    sort-alone : Handed (lent n buffer) (handOutAfter (lent n buffer) (handOutAnswer (lent n buffer))) l (k .lists) → Alone t n l (hands-out buffer)
     unfolding after
     sort-alone (refused w a e) = same-alone (hands-out buffer) 0 tt (ap (λ (x : Lent). x .node) e) (ap (λ (x : Lent). x .book) e)
     sort-alone (nothing w e f) = same-alone (hands-out buffer) 0 tt e f

@@ -15,12 +15,12 @@ use Rattle.table.specs.declared.Entry.{Entry}
 use Rattle.table.specs.Layout.{countOf, entryOf}
 use Rattle.table.specs.Rules.{goodTable}
 use Rattle.table.proofs.Good.{good-head}
-use Rattle.ends.specs.Ends.{loadEntry}
-use Rattle.ends.specs.Heads.{countIn}
-use Rattle.ends.specs.States.{isSends}
-use Rattle.lookup.specs.Lookup.{rowIn, channelDigit, remoteDigit, Indexed}
-use Rattle.lookup.specs.Fitting.{same}
-use Rattle.opening.specs.Setup.{tabled}
+use Rattle.end_points.specs.Ends.{loadEntry}
+use Rattle.end_points.specs.Heads.{countIn}
+use Rattle.end_points.specs.States.{isSends}
+use Rattle.arrive_lookup.specs.Lookup.{rowIn, channelDigit, remoteDigit, Indexed}
+use Rattle.arrive_lookup.specs.Fitting.{same}
+use Rattle.call_open.specs.Setup.{tabled}
 use Rattle.good.proofs.Entering.{entered-channel, entered-remote, tabled-long}
 
 -- ---- one entry more

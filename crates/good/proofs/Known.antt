@@ -12,11 +12,11 @@ use Rattle.window.specs.declared.Found.{Found}
 use Rattle.window.specs.declared.Found.the-variants.{New, Held, Outside}
 use Rattle.table.specs.declared.Kind.{Kind}
 use Rattle.table.specs.declared.Kind.the-variants.{Sends, Receives}
-use Rattle.ends.specs.States.{isSends, isClosed, isOpen}
-use Rattle.ends.specs.Runs.{isNew}
-use Rattle.ends.specs.declared.State.{State}
-use Rattle.ends.specs.declared.State.the-variants.{Closed, Enabled, Open, Failing}
-use Rattle.ends.specs.declared.EndPoint.{EndPoint}
+use Rattle.end_points.specs.States.{isSends, isClosed, isOpen}
+use Rattle.end_points.specs.Runs.{isNew}
+use Rattle.end_points.specs.declared.State.{State}
+use Rattle.end_points.specs.declared.State.the-variants.{Closed, Enabled, Open, Failing}
+use Rattle.end_points.specs.declared.EndPoint.{EndPoint}
 use Rattle.good.specs.Good.{Lists, ownerOf, mine, Silent, Stated, Entered}
 use Rattle.good.proofs.Members.{mine-all}
 

@@ -10,10 +10,10 @@ use lib.ListN.{length, getD, set, length-set}
 use lib.Dec.{eqb}
 use borrow.Author.Tests.{eq-eqb, ne-eqb, eqb-true}
 use Rattle.units.specs.Refusals.{pick}
-use Rattle.memory.specs.Layout.{nextAt, prevAt}
+use Rattle.memory.specs.Layout.{nextAt, prevAt, bookHalves}
 use Rattle.waiting.specs.Queues.{prevOf, nextOf, joined, appended, unlinked}
-use Rattle.order.specs.Order.{Queue, Out}
-use Rattle.order.proofs.Linked.{last, first, append-queue, append-other, append-beyond, unlink-queue, unlink-other, unlink-beyond, beyond-queue}
+use Rattle.waiting.specs.Order.{Queue, Out}
+use Rattle.waiting.proofs.Linked.{last, first, append-queue, append-other, append-beyond, unlink-queue, unlink-other, unlink-beyond, beyond-queue}
 use Rattle.good.specs.Good.{Lists, Lines}
 use Rattle.good.proofs.Members.{mem-out, below-mem, last-mem, first-mem, Split, split, distinct-mid, without, without-out, without-mid, without-in}
 
@@ -82,7 +82,7 @@ module _ (b : List ℕ) (l : Lists) (L : Lines b l) where
         sides (inr a) (inl c) = none s hs (Memᴰ·cast (sym (a .1)) c)
         sides (inr a) (inr c) = n (a .0 ∙ sym (c .0))
 
-    pub append-long : length (appended b q x) ≡ 10368
+    pub append-long : length (appended b q x) ≡ bookHalves
     unfolding appended
     append-long =
         length-set (set (joined b (prevOf b q) x) (nextAt x) q) (prevAt q) x
@@ -147,7 +147,7 @@ module _ (b : List ℕ) (l : Lists) (L : Lines b l) where
             (around n (last q (s .before)) (lift (last q (s .before)) was-before (last-mem q (s .before))))
             (around n (first (s .after) q) (lift (first (s .after) q) was-after (first-mem (s .after) q))))
 
-    unlink-long : length (unlinked b x) ≡ 10368
+    unlink-long : length (unlinked b x) ≡ bookHalves
     unfolding unlinked
     unlink-long = length-set (set b (nextAt (prevOf b x)) (nextOf b x)) (prevAt (nextOf b x)) (prevOf b x) ∙ length-set b (nextAt (prevOf b x)) (nextOf b x) ∙ L .long
 

@@ -8,8 +8,8 @@ use native.Mathlib.Omega.{arith}
 use lib.Dec.{eqb}
 use borrow.Author.Tests.{eq-eqb, ne-eqb, eqb-true, eqb-false}
 use Rattle.units.specs.Refusals.{pick}
-use Rattle.order.specs.Order.{Out, Below, Distinct}
-use Rattle.order.proofs.Linked.{last, first}
+use Rattle.waiting.specs.Order.{Out, Below, Distinct}
+use Rattle.waiting.proofs.Linked.{last, first}
 use Rattle.good.specs.Good.{ownerOf, mine}
 
 -- ---- members

@@ -13,16 +13,16 @@ use borrow.Author.Tests.{le-ltb}
 use Rattle.units.specs.Refusals.{pick}
 use Rattle.memory.specs.Layout.{clockAt, quietAt, rowAt, nodeWords}
 use Rattle.window.proofs.Bits.{bit-of-zero}
-use Rattle.ends.specs.Heads.{countIn}
-use Rattle.ends.specs.declared.answers.HandedOut.{HandedOut}
-use Rattle.ends.specs.declared.answers.HandedOut.the-variants.{Length, Refused as HandRefused}
-use Rattle.lookup.specs.Lookup.{rowIn, channelDigit, remoteDigit, Indexed}
-use Rattle.lookup.proofs.Rows.{row-zero}
+use Rattle.end_points.specs.Heads.{countIn}
+use Rattle.end_points.specs.declared.answers.HandedOut.{HandedOut}
+use Rattle.end_points.specs.declared.answers.HandedOut.the-variants.{Length, Refused as HandRefused}
+use Rattle.arrive_lookup.specs.Lookup.{rowIn, channelDigit, remoteDigit, Indexed}
+use Rattle.arrive_lookup.proofs.Rows.{row-zero}
 use Rattle.timing.specs.Timing.{clockIn, later}
 use Rattle.timing.proofs.Falling.{later-next}
-use Rattle.ticking.specs.Ticking.{tickAfter, tickBoth, stillAfter, scanAfter, scanBoth, recoverAll, tickEntries}
-use Rattle.handing.specs.Handing.{handAnswer, handAfter, nextOut, outNode, outBook}
-use Rattle.handing.specs.declared.Next.the-variants as next
+use Rattle.call_tick.specs.Ticking.{tickAfter, tickBoth, stillAfter, scanAfter, scanBoth, recoverAll, tickEntries}
+use Rattle.call_hand_out.specs.Handing.{handOutAnswer, handOutAfter, nextOut, outNode, outBook}
+use Rattle.call_hand_out.specs.declared.Next.the-variants as next
 use Rattle.good.specs.Calls.{Memory, lent, bare, kept, keptBare, after}
 use Rattle.machine.specs.Calls.{Call, opens, closes, counts, sends, urges, arrives, hands-out, ticks}
 use Rattle.good.specs.NewNode.{newAt, newAfter, NewStays}
@@ -60,8 +60,8 @@ module _ (store : List ℕ) (c q : ℕ) where
   unfolding nextOut
   nothing = refl
 
-  hand-same : (buffer : List ℕ) (a : HandedOut) → kept (handAfter (lent new buffer) a) ≡ new
-  unfolding handAfter outNode outBook
+  hand-same : (buffer : List ℕ) (a : HandedOut) → kept (handOutAfter (lent new buffer) a) ≡ new
+  unfolding handOutAfter outNode outBook
   hand-same buffer (HandRefused w) = refl
   hand-same buffer (Length n) = rw nothing
 
@@ -98,7 +98,7 @@ stays store c q small (counts i) = refl
 stays store c q small (sends i p) = ap kept (send-refused (lent (newAt store c q) []) i p (none store c q i))
 stays store c q small (urges i p) = ap kept (urgent-refused (lent (newAt store c q) []) i p (none store c q i))
 stays store c q small (arrives block f) = arrive-same store c q block f (comes (lent (newAt store c q) block) (new-index store c q) f)
-stays store c q small (hands-out buffer) = hand-same store c q buffer (handAnswer (lent (newAt store c q) buffer))
+stays store c q small (hands-out buffer) = hand-same store c q buffer (handOutAnswer (lent (newAt store c q) buffer))
 stays store c q small ticks = tick-moves store c q small
 
 pub new-stays : NewStays

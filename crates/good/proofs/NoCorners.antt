@@ -10,16 +10,16 @@ use Rattle.window.proofs.Sizes.{size-pos, size-le}
 use Rattle.table.specs.Layout.{entryOf}
 use Rattle.table.specs.Areas.{placeOf}
 use Rattle.table.proofs.Places.{slot-in-store}
-use Rattle.ends.specs.Ends.{loadEntry, endOf}
-use Rattle.ends.specs.Heads.{countIn}
-use Rattle.ends.specs.States.{isSends}
-use Rattle.ends.specs.declared.State.{State}
-use Rattle.ends.specs.declared.State.the-variants.{Closed, Enabled, Open, Failing}
-use Rattle.ends.specs.declared.EndPoint.{EndPoint}
-use Rattle.lookup.specs.Lookup.{firstFrom, entryFor}
+use Rattle.end_points.specs.Ends.{loadEntry, endOf}
+use Rattle.end_points.specs.Heads.{countIn}
+use Rattle.end_points.specs.States.{isSends}
+use Rattle.end_points.specs.declared.State.{State}
+use Rattle.end_points.specs.declared.State.the-variants.{Closed, Enabled, Open, Failing}
+use Rattle.end_points.specs.declared.EndPoint.{EndPoint}
+use Rattle.arrive_lookup.specs.Lookup.{firstFrom, entryFor}
 use Rattle.frame.specs.Types.{forSender}
-use Rattle.lookup.specs.Fitting.{fits}
-use Rattle.lookup.proofs.Found.{first-fit}
+use Rattle.arrive_lookup.specs.Fitting.{fits}
+use Rattle.arrive_lookup.proofs.Found.{first-fit}
 use Rattle.good.specs.Good.{Lists, Stated, Good}
 use Rattle.good.specs.Corners.{NoCorner, NoCorners}
 use Rattle.good.proofs.Known.{stated-as}

@@ -15,14 +15,14 @@ use Rattle.units.proofs.Judging.{clear}
 use Rattle.memory.specs.Layout.{resets, resetId}
 use Rattle.waiting.specs.Queues.{appended}
 use Rattle.window.specs.Windows.{Good as GoodWindow}
-use Rattle.ends.specs.Ends.{endOf, saved}
-use Rattle.ends.specs.Heads.{countIn}
-use Rattle.ends.specs.States.{isSends, isClosed}
-use Rattle.ends.specs.Runs.{anew}
-use Rattle.ends.specs.Lent.{Lent}
-use Rattle.ends.specs.declared.State.the-variants.{Closed, Enabled}
-use Rattle.ends.specs.declared.EndPoint.{EndPoint}
-use Rattle.opening.specs.Opening.{openAnswer, openAfter}
+use Rattle.end_points.specs.Ends.{endOf, saved}
+use Rattle.end_points.specs.Heads.{countIn}
+use Rattle.end_points.specs.States.{isSends, isClosed}
+use Rattle.end_points.specs.Runs.{anew}
+use Rattle.end_points.specs.Lent.{Lent}
+use Rattle.end_points.specs.declared.State.the-variants.{Closed, Enabled}
+use Rattle.end_points.specs.declared.EndPoint.{EndPoint}
+use Rattle.call_open.specs.Opening.{openAnswer, openAfter}
 use Rattle.good.specs.Good.{Lists, Silent, Anew, Entered, Good}
 use Rattle.good.proofs.Lined.{added}
 use Rattle.good.proofs.Known.{is-closed, stated-as, entered-as}

@@ -14,13 +14,13 @@ use Rattle.window.specs.declared.Window.{Window}
 use Rattle.window.proofs.Resetting.{new-held}
 use Rattle.table.specs.Layout.{entryOf}
 use Rattle.table.specs.Areas.{slotsOf, storeOf}
-use Rattle.ends.specs.Ends.{endOf}
-use Rattle.ends.specs.Heads.{countIn}
-use Rattle.ends.specs.States.{isSends}
-use Rattle.ends.specs.declared.State.{State}
-use Rattle.ends.specs.declared.State.the-variants as state
-use Rattle.ends.specs.declared.Run.{Run}
-use Rattle.ends.specs.declared.EndPoint.{EndPoint}
+use Rattle.end_points.specs.Ends.{endOf}
+use Rattle.end_points.specs.Heads.{countIn}
+use Rattle.end_points.specs.States.{isSends}
+use Rattle.end_points.specs.declared.State.{State}
+use Rattle.end_points.specs.declared.State.the-variants as state
+use Rattle.end_points.specs.declared.Run.{Run}
+use Rattle.end_points.specs.declared.EndPoint.{EndPoint}
 use Rattle.slots.specs.Slots.{slotFor, cell, past, spot, lengthIn}
 use Rattle.blocks.specs.Payloads.{payloadAt}
 use Rattle.good.specs.Good.{Lists, Fresh, Filled, Stated, Good}

@@ -16,18 +16,18 @@ use Rattle.units.proofs.Judging.{clear}
 use Rattle.units.specs.declared.refusals.Verdict.{Verdict}
 use Rattle.units.specs.declared.refusals.Verdict.the-variants.{Passed, Refused}
 use Rattle.table.specs.Areas.{storeOf}
-use Rattle.ends.specs.Heads.{countIn}
-use Rattle.ends.specs.Lent.{Lent}
-use Rattle.opening.specs.Setup.{setupAnswer, setupAfter}
-use Rattle.sending.specs.Sending.{sendAnswer, sendAfter, urgentAnswer, urgentAfter}
+use Rattle.end_points.specs.Heads.{countIn}
+use Rattle.end_points.specs.Lent.{Lent}
+use Rattle.call_open.specs.Setup.{setupAnswer, setupAfter}
+use Rattle.call_send.specs.Sending.{sendAnswer, sendAfter, urgentAnswer, urgentAfter}
 use Rattle.window.specs.Windows.{acceptOf}
 use Rattle.frame.specs.declared.FrameType.{FrameType}
 use Rattle.frame.specs.declared.FrameType.the-variants as type
-use Rattle.ends.specs.Runs.{isNew}
-use Rattle.ends.specs.declared.EndPoint.{EndPoint}
-use Rattle.receiving.specs.Receiving.{resetAfter, taken, repeated, dataAfter, urgentAfter as receivedUrgent}
+use Rattle.end_points.specs.Runs.{isNew}
+use Rattle.end_points.specs.declared.EndPoint.{EndPoint}
+use Rattle.arrive_data.specs.Receiving.{resetAfter, taken, repeated, dataAfter, urgentAfter as receivedUrgent}
 use Rattle.units.specs.Refusals.{pick}
-use Rattle.arriving.specs.Arriving.{takenAfter}
+use Rattle.call_arrive.specs.Arriving.{takenAfter}
 use Rattle.good.specs.Good.{Lists, Good}
 use Rattle.good.specs.Calls.{Memory, lent, bare, after, SetUp, at-setup, by-call}
 use Rattle.machine.specs.Calls.{Call, opens, closes, counts, sends, urges, arrives, hands-out, ticks, Fed}

@@ -11,11 +11,11 @@ use lib.Seq.{getD-set-same, getD-set-other}
 use lib.Dec.{eqb}
 use borrow.Author.Tests.{ltb-true}
 use Rattle.units.specs.Refusals.{pick}
-use Rattle.memory.specs.Layout.{lengthAt, nodeWords}
+use Rattle.memory.specs.Layout.{lengthAt, nodeWords, bookHalves}
 use Rattle.waiting.specs.Acks.{placeOf, waitingOf, dropped}
-use Rattle.order.specs.Order.{acksIn, notOf}
-use Rattle.order.proofs.Ringed.{Ring, from-length, push-acks, push-ring, drop-acks, drop-ring}
-use Rattle.kept.proofs.Kept.{RunFits}
+use Rattle.waiting.specs.Order.{acksIn, notOf}
+use Rattle.waiting.proofs.Ringed.{Ring, from-length, push-acks, push-ring, drop-acks, drop-ring}
+use Rattle.end_points.proofs.Kept.{RunFits}
 use Rattle.window.specs.Windows.{offsetOf, insideOf, held, acceptOf, passOf, runOf, Good as GoodWindow}
 use Rattle.window.specs.declared.Window.{Window}
 use Rattle.window.proofs.Accepting.{found-new, accept-size, accept-good, accept-held}
@@ -23,17 +23,17 @@ use Rattle.window.proofs.Passing.{pass-good, pass-held, pass-first, pass-size}
 use Rattle.window.proofs.Holding.{held-below}
 use Rattle.window.proofs.Resetting.{new-held, reset-good}
 use Rattle.window.proofs.WindowLaw.{distance-back}
-use Rattle.ends.specs.Ends.{endOf, saved}
-use Rattle.ends.specs.Heads.{countIn}
-use Rattle.ends.specs.States.{isSends}
-use Rattle.ends.specs.Runs.{isNew, anew}
-use Rattle.ends.specs.Lent.{Lent}
-use Rattle.ends.specs.declared.State.the-variants.{Open}
-use Rattle.ends.specs.declared.Run.{Run}
-use Rattle.ends.specs.declared.EndPoint.{EndPoint}
+use Rattle.end_points.specs.Ends.{endOf, saved}
+use Rattle.end_points.specs.Heads.{countIn}
+use Rattle.end_points.specs.States.{isSends}
+use Rattle.end_points.specs.Runs.{isNew, anew}
+use Rattle.end_points.specs.Lent.{Lent}
+use Rattle.end_points.specs.declared.State.the-variants.{Open}
+use Rattle.end_points.specs.declared.Run.{Run}
+use Rattle.end_points.specs.declared.EndPoint.{EndPoint}
 use Rattle.slots.specs.Slots.{cell, past, lengthIn}
-use Rattle.receiving.specs.Receiving.{acknowledged, resetAfter, resetNode, withWindow, putBook, taken, repeated, dataAfter}
-use Rattle.receiving.proofs.Taking.{dataAfter-new, dataAfter-other}
+use Rattle.arrive_data.specs.Receiving.{acknowledged, resetAfter, resetNode, withWindow, putBook, taken, repeated, dataAfter}
+use Rattle.arrive_data.proofs.Taking.{dataAfter-new, dataAfter-other}
 use Rattle.timing.specs.Timing.{clockIn, quietIn}
 use Rattle.good.specs.Good.{Lists, Filled, OpenReceiver, Entered, Timely, Owed, Good}
 use Rattle.good.proofs.Known.{is-new, either, stated-as, entered-as, receiver-silent}
@@ -159,7 +159,7 @@ module _ (t : List ℕ) (x : Lent) (l : Lists) (g : Good t (x .node) (x .book) l
 -- ---- Data
 
 -- a number in the window and new, as the book has the numbers then
-module _ (b : List ℕ) (long : length b ≡ 10368) (i : ℕ) (low : i < 16) (w : Window) (g : GoodWindow w) (s : ℕ) (byte : s < 256) (new : isNew (acceptOf w s .found) ≡ true) where
+module _ (b : List ℕ) (long : length b ≡ bookHalves) (i : ℕ) (low : i < 16) (w : Window) (g : GoodWindow w) (s : ℕ) (byte : s < 256) (new : isNew (acceptOf w s .found) ≡ true) where
   inside : insideOf w s ≡ true
   inside = found-new w s (is-new (acceptOf w s .found) new) .0
 

@@ -18,20 +18,20 @@ use Rattle.units.specs.declared.refusals.Verdict.the-variants.{Passed, Refused}
 use Rattle.units.proofs.Judging.{clear}
 use Rattle.memory.specs.Layout.{datas, urgentId, lengthAt, timerAt, retriesAt}
 use Rattle.waiting.specs.Queues.{appended}
-use Rattle.kept.proofs.Kept.{RunFits}
+use Rattle.end_points.proofs.Kept.{RunFits}
 use Rattle.window.specs.Windows.{Good as GoodWindow}
 use Rattle.window.specs.declared.Window.{Window}
 use Rattle.window.proofs.Sizes.{size-le}
-use Rattle.ends.specs.Ends.{endOf}
-use Rattle.ends.specs.Heads.{countIn, needIn}
-use Rattle.ends.specs.States.{isSends}
-use Rattle.ends.specs.Lent.{Lent}
-use Rattle.ends.specs.declared.State.{State}
-use Rattle.ends.specs.declared.State.the-variants.{Open}
-use Rattle.ends.specs.declared.Run.{Run}
-use Rattle.ends.specs.declared.EndPoint.{EndPoint}
+use Rattle.end_points.specs.Ends.{endOf}
+use Rattle.end_points.specs.Heads.{countIn, needIn}
+use Rattle.end_points.specs.States.{isSends}
+use Rattle.end_points.specs.Lent.{Lent}
+use Rattle.end_points.specs.declared.State.{State}
+use Rattle.end_points.specs.declared.State.the-variants.{Open}
+use Rattle.end_points.specs.declared.Run.{Run}
+use Rattle.end_points.specs.declared.EndPoint.{EndPoint}
 use Rattle.slots.specs.Slots.{slotFor, cell, spot, past, lengthIn, timerIn}
-use Rattle.sending.specs.Sending.{sendTests, sendAnswer, nextNumber, sentRun, sentBook, sent, sendAfter}
+use Rattle.call_send.specs.Sending.{sendTests, sendAnswer, nextNumber, sentRun, sentBook, sent, sendAfter}
 use Rattle.timing.specs.Timing.{clockIn, quietIn}
 use Rattle.good.specs.Good.{Lists, Lines, Ranged, mine, idAt, ids, Share, Resends, Filled, Sending, OpenSender, Entered, Timely, Good}
 use Rattle.good.proofs.Members.{mine-all, mine-append, mine-own}

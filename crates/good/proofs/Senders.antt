@@ -13,20 +13,20 @@ use lib.Seq.{getD-set-same, getD-set-other}
 use lib.Dec.{eqb}
 use borrow.Author.Tests.{eq-eqb}
 use Rattle.units.specs.Refusals.{pick}
-use Rattle.memory.specs.Layout.{resets, urgents, resends, datas, resetId, lengthAt, timerAt}
+use Rattle.memory.specs.Layout.{resets, urgents, resends, datas, resetId, lengthAt, timerAt, bookHalves}
 use Rattle.waiting.specs.Queues.{appended}
 use Rattle.window.specs.Windows.{held, Good as GoodWindow}
 use Rattle.window.specs.declared.Window.{Window}
 use Rattle.table.specs.Layout.{countOf}
 use Rattle.table.proofs.Good.{GoodEntry, good-entry}
-use Rattle.ends.specs.Ends.{word, loadEntry, endOf}
-use Rattle.ends.specs.Heads.{countIn}
-use Rattle.ends.specs.States.{isSends}
-use Rattle.ends.specs.Runs.{anew, urgentGone}
-use Rattle.ends.specs.declared.State.{State}
-use Rattle.ends.specs.declared.State.the-variants.{Enabled}
-use Rattle.ends.specs.declared.Run.{Run}
-use Rattle.ends.specs.declared.EndPoint.{EndPoint}
+use Rattle.end_points.specs.Ends.{word, loadEntry, endOf}
+use Rattle.end_points.specs.Heads.{countIn}
+use Rattle.end_points.specs.States.{isSends}
+use Rattle.end_points.specs.Runs.{anew, urgentGone}
+use Rattle.end_points.specs.declared.State.{State}
+use Rattle.end_points.specs.declared.State.the-variants.{Enabled}
+use Rattle.end_points.specs.declared.Run.{Run}
+use Rattle.end_points.specs.declared.EndPoint.{EndPoint}
 use Rattle.slots.specs.Slots.{cell, past, lengthIn, timerIn}
 use Rattle.good.specs.Good.{Lists, Lines, mine, Resends, Silent, Filled, Sending, running, Stated, Entered, Outlasts, Good}
 use Rattle.good.proofs.Members.{mem-out, without, without-out, mine-in, mine-append, mine-own, mine-without}
@@ -54,7 +54,7 @@ timed-outlasts b b′ i w k v T c q o n few h j m = sides (ℕ-discrete j k)
     sides (no d) = subst (Outlasts c q) (sym (T .there j (omega arith) d)) (h j m d)
 
 module _ (i : ℕ) (low : i < 16) (w : Window) (g : GoodWindow w) (k : ℕ) (hk : k < w .size) (v : ℕ) where
-  pub timed-set : (b : List ℕ) → length b ≡ 10368 → Timed b (set b (timerAt (cell i w (past w k))) v) i w k v
+  pub timed-set : (b : List ℕ) → length b ≡ bookHalves → Timed b (set b (timerAt (cell i w (past w k))) v) i w k v
   timed-set b long =
       let h = cell-low i low w g (past w k) in
       record {

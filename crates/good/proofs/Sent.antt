@@ -8,11 +8,11 @@ use native.Mathlib.Omega.{arith}
 use lib.ListN.{length, getD, set, length-set}
 use lib.Seq.{getD-set-same, getD-set-other}
 use Rattle.memory.specs.Layout.{clockAt, quietAt, rowAt, entryAt, nodeWords}
-use Rattle.ends.specs.Ends.{word, loadEntry, loadRun, endOf}
-use Rattle.kept.proofs.Kept.{end-ext}
-use Rattle.sending.specs.Sending.{sentRun, sentNode}
+use Rattle.end_points.specs.Ends.{word, loadEntry, loadRun, endOf}
+use Rattle.end_points.proofs.Kept.{end-ext}
+use Rattle.call_send.specs.Sending.{sentRun, sentNode}
 use Rattle.waiting.specs.Acks.{waitingOf}
-use Rattle.order.specs.Order.{acksIn}
+use Rattle.waiting.specs.Order.{acksIn}
 use Rattle.good.proofs.Turns.{turnedTo, acks-ext}
 use Rattle.good.proofs.Framing.{Apart}
 

@@ -14,23 +14,23 @@ use Rattle.units.specs.declared.refusals.Refusal.the-variants as refusal
 use Rattle.units.specs.declared.refusals.Verdict.the-variants.{Passed}
 use Rattle.units.proofs.Judging.{clear}
 use Rattle.units.proofs.Runs.{getD-sets-after, getD-sets-at}
-use Rattle.memory.specs.Layout.{rowAt, nodeWords}
+use Rattle.memory.specs.Layout.{rowAt, nodeWords, bookHalves}
 use Rattle.waiting.specs.Queues.{joined}
 use Rattle.waiting.specs.Acks.{waitingOf}
-use Rattle.order.specs.Order.{Adjacent, from, acksIn}
-use Rattle.order.proofs.Linked.{joined-here, joined-there, joined-long}
+use Rattle.waiting.specs.Order.{Adjacent, from, acksIn}
+use Rattle.waiting.proofs.Linked.{joined-here, joined-there, joined-long}
 use Rattle.window.proofs.Resetting.{new-good}
 use Rattle.table.specs.Layout.{countOf, ownOf, protocolOf, entryOf}
 use Rattle.table.specs.Areas.{placeOf, storeOf}
 use Rattle.table.specs.Rules.{goodTable}
 use Rattle.table.proofs.Good.{good-head, good-entry}
-use Rattle.ends.specs.Ends.{loadEntry, placeIn, endOf}
-use Rattle.ends.specs.Heads.{countIn}
-use Rattle.ends.specs.Lent.{Lent}
-use Rattle.ends.specs.declared.EndPoint.{EndPoint}
-use Rattle.lookup.specs.Lookup.{rowIn, Indexed}
-use Rattle.lookup.proofs.Rows.{row-zero}
-use Rattle.opening.specs.Setup.{setupAnswer, headed, entered, tabled, emptied, setupAfter}
+use Rattle.end_points.specs.Ends.{loadEntry, placeIn, endOf}
+use Rattle.end_points.specs.Heads.{countIn}
+use Rattle.end_points.specs.Lent.{Lent}
+use Rattle.end_points.specs.declared.EndPoint.{EndPoint}
+use Rattle.arrive_lookup.specs.Lookup.{rowIn, Indexed}
+use Rattle.arrive_lookup.proofs.Rows.{row-zero}
+use Rattle.call_open.specs.Setup.{setupAnswer, headed, entered, tabled, emptied, setupAfter}
 use Rattle.timing.specs.Timing.{clockIn, quietIn}
 use Rattle.good.specs.Good.{Lines, Entered, Timely, Tabled, Good}
 use Rattle.good.proofs.Entering.{closedAt, tabled-long, tabled-head, tabled-at}
@@ -99,11 +99,11 @@ module _ (t : List ℕ) (g : goodTable t ≡ true) (bytes : (k : ℕ) → getD t
 -- ---- the book
 
 -- joining a queue to itself leaves another that is
-stays : (b : List ℕ) → length b ≡ 10368 → (q r : ℕ) → q < 4 → r < 4 → r ≢ q → Adjacent b r r → Adjacent (joined b q q) r r
+stays : (b : List ℕ) → length b ≡ bookHalves → (q r : ℕ) → q < 4 → r < 4 → r ≢ q → Adjacent b r r → Adjacent (joined b q q) r r
 stays b long q r hq hr n a = joined-there b long q q (omega arith) (omega arith) r r (omega arith) (omega arith) n n a
 
 -- each queue is followed by itself
-module _ (b : List ℕ) (long : length b ≡ 10368) where
+module _ (b : List ℕ) (long : length b ≡ bookHalves) where
   abbrev resetsJoined : List ℕ
   resetsJoined = joined b 0 0
 
@@ -113,16 +113,16 @@ module _ (b : List ℕ) (long : length b ≡ 10368) where
   abbrev resendsJoined : List ℕ
   resendsJoined = joined urgentsJoined 2 2
 
-  resets-long : length resetsJoined ≡ 10368
+  resets-long : length resetsJoined ≡ bookHalves
   resets-long = joined-long b long 0 0 (omega arith) (omega arith)
 
-  urgents-long : length urgentsJoined ≡ 10368
+  urgents-long : length urgentsJoined ≡ bookHalves
   urgents-long = joined-long resetsJoined resets-long 1 1 (omega arith) (omega arith)
 
-  resends-long : length resendsJoined ≡ 10368
+  resends-long : length resendsJoined ≡ bookHalves
   resends-long = joined-long urgentsJoined urgents-long 2 2 (omega arith) (omega arith)
 
-  emptied-long : length (emptied b) ≡ 10368
+  emptied-long : length (emptied b) ≡ bookHalves
   unfolding emptied
   emptied-long = joined-long resendsJoined resends-long 3 3 (omega arith) (omega arith)
 
@@ -161,7 +161,7 @@ closed-entered t b g i h =
       };
     }
 
-set-up : (t b : List ℕ) → goodTable t ≡ true → ((k : ℕ) → getD t k 0 < 256) → length b ≡ 10368
+set-up : (t b : List ℕ) → goodTable t ≡ true → ((k : ℕ) → getD t k 0 < 256) → length b ≡ bookHalves
     → Good t (tabled t (countOf t) (headed t (replicate nodeWords 0))) (emptied b) (λ q. [])
 set-up t b g bytes long =
     record {
@@ -185,7 +185,7 @@ passed-table x t h =
     not-false _ (clear ((not (goodTable t), refusal.BadTable) ∷ (ltb (length (x .store)) (storeOf t), refusal.TooShort) ∷ []) h .0)
 
 -- Setup that passed gives a good node with nothing waiting.
-pub setup-good : (x : Lent) (t : List ℕ) → length (x .node) ≡ nodeWords → length (x .book) ≡ 10368 → ((k : ℕ) → getD t k 0 < 256) → setupAnswer x t ≡ Passed
+pub setup-good : (x : Lent) (t : List ℕ) → length (x .node) ≡ nodeWords → length (x .book) ≡ bookHalves → ((k : ℕ) → getD t k 0 < 256) → setupAnswer x t ≡ Passed
     → Good t (setupAfter x t Passed .node) (setupAfter x t Passed .book) (λ q. [])
 unfolding setupAfter
 setup-good x t n b bytes h = rw n (set-up t (x .book) (passed-table x t h) bytes b)

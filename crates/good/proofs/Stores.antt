@@ -14,9 +14,9 @@ use Rattle.table.specs.Areas.{slotsOf, placeOf, storeOf}
 use Rattle.table.specs.declared.Entry.{Entry}
 use Rattle.table.proofs.Places.{slot-of-window, slot-of-urgent, slots-apart, slot-inside, areas-apart, area-in-store}
 use Rattle.table.proofs.Good.{good-entry}
-use Rattle.ends.specs.Ends.{loadEntry, loadRun, endOf}
-use Rattle.ends.specs.Heads.{countIn}
-use Rattle.ends.specs.States.{isSends}
+use Rattle.end_points.specs.Ends.{loadEntry, loadRun, endOf}
+use Rattle.end_points.specs.Heads.{countIn}
+use Rattle.end_points.specs.States.{isSends}
 use Rattle.slots.specs.Slots.{slotFor, spot}
 use Rattle.good.specs.Good.{Lists, Good}
 use Rattle.good.proofs.Known.{is-sends}

@@ -11,20 +11,20 @@ use borrow.Author.Tests.{eq-eqb, eqb-true}
 use Rattle.units.specs.Refusals.{pick}
 use Rattle.memory.specs.Layout.{resets, resetId, lengthAt}
 use Rattle.waiting.specs.Queues.{appended}
-use Rattle.kept.proofs.Kept.{StateFits, RunFits}
+use Rattle.end_points.proofs.Kept.{StateFits, RunFits}
 use Rattle.window.specs.Windows.{Good as GoodWindow}
-use Rattle.ends.specs.Ends.{endOf, saved}
-use Rattle.ends.specs.Heads.{countIn}
-use Rattle.ends.specs.States.{isSends}
-use Rattle.ends.specs.Runs.{urgentGone}
-use Rattle.ends.specs.Lent.{Lent}
-use Rattle.ends.specs.declared.State.{State}
-use Rattle.ends.specs.declared.State.the-variants.{Closed, Enabled, Open, Failing}
-use Rattle.ends.specs.declared.Run.{Run}
-use Rattle.ends.specs.declared.EndPoint.{EndPoint}
+use Rattle.end_points.specs.Ends.{endOf, saved}
+use Rattle.end_points.specs.Heads.{countIn}
+use Rattle.end_points.specs.States.{isSends}
+use Rattle.end_points.specs.Runs.{urgentGone}
+use Rattle.end_points.specs.Lent.{Lent}
+use Rattle.end_points.specs.declared.State.{State}
+use Rattle.end_points.specs.declared.State.the-variants.{Closed, Enabled, Open, Failing}
+use Rattle.end_points.specs.declared.Run.{Run}
+use Rattle.end_points.specs.declared.EndPoint.{EndPoint}
 use Rattle.slots.specs.Slots.{cell, past, lengthIn, timerIn}
 use Rattle.timing.specs.Timing.{clockIn, quietIn, leftOf, soonest}
-use Rattle.ticking.specs.Ticking.{Ticked, Scanned, tickSlots, ticked, both, tickEnabled, tickOpen, tickFailing, tickState, tickEntry}
+use Rattle.call_tick.specs.Ticking.{Ticked, Scanned, tickSlots, ticked, both, tickEnabled, tickOpen, tickFailing, tickState, tickEntry}
 use Rattle.good.specs.Good.{Lists, Silent, Sending, running, Anew, Stated, Entered, Outlasts, Timely, Good}
 use Rattle.good.proofs.Lined.{added}
 use Rattle.good.proofs.Known.{entered-as}

@@ -16,24 +16,24 @@ use borrow.Author.Tests.{eqb-true, eqb-false}
 use Rattle.units.specs.Refusals.{pick}
 use Rattle.memory.specs.Layout.{resets, resetId, lengthAt, timerAt, clockAt, quietAt}
 use Rattle.waiting.specs.Queues.{appended}
-use Rattle.order.specs.Order.{acksIn}
-use Rattle.kept.proofs.Kept.{RunFits}
+use Rattle.waiting.specs.Order.{acksIn}
+use Rattle.end_points.proofs.Kept.{RunFits}
 use Rattle.window.specs.Windows.{Good as GoodWindow}
-use Rattle.ends.specs.Ends.{endOf}
-use Rattle.ends.specs.Heads.{countIn}
-use Rattle.ends.specs.States.{isSends}
-use Rattle.ends.specs.Runs.{anew, urgentGone}
-use Rattle.ends.specs.Lent.{Lent}
-use Rattle.ends.specs.declared.State.{State}
-use Rattle.ends.specs.declared.State.the-variants.{Closed, Enabled, Open, Failing}
-use Rattle.ends.specs.declared.Run.{Run}
-use Rattle.ends.specs.declared.EndPoint.{EndPoint}
+use Rattle.end_points.specs.Ends.{endOf}
+use Rattle.end_points.specs.Heads.{countIn}
+use Rattle.end_points.specs.States.{isSends}
+use Rattle.end_points.specs.Runs.{anew, urgentGone}
+use Rattle.end_points.specs.Lent.{Lent}
+use Rattle.end_points.specs.declared.State.{State}
+use Rattle.end_points.specs.declared.State.the-variants.{Closed, Enabled, Open, Failing}
+use Rattle.end_points.specs.declared.Run.{Run}
+use Rattle.end_points.specs.declared.EndPoint.{EndPoint}
 use Rattle.slots.specs.Slots.{cell, past, lengthIn, timerIn}
 use Rattle.timing.specs.Timing.{clockIn, quietIn, later, leftOf, passed as passing}
 use Rattle.timing.proofs.Falling.{later-next}
-use Rattle.ticking.specs.Ticking.{Scanned, tickEntry, tickEntries, Recovered, again, recover, recoverAll, entries, scanned, scanBoth, scanAfter, stillAfter, tickBoth, tickAfter, tickAnswer}
-use Rattle.ticking.proofs.Apart.{begun, timed, tick-only, scan-head}
-use Rattle.ends.specs.States.{isOver}
+use Rattle.call_tick.specs.Ticking.{Scanned, tickEntry, tickEntries, Recovered, again, recover, recoverAll, entries, scanned, scanBoth, scanAfter, stillAfter, tickBoth, tickAfter, tickAnswer}
+use Rattle.call_tick.proofs.Apart.{begun, timed, tick-only, scan-head}
+use Rattle.end_points.specs.States.{isOver}
 use Rattle.good.specs.Good.{Lists, Silent, Stated, Timely, Good}
 use Rattle.good.proofs.Lined.{added}
 use Rattle.good.proofs.Known.{stated-as}

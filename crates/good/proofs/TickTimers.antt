@@ -12,13 +12,13 @@ use lib.Seq.{getD-set-same, getD-set-other}
 use lib.Dec.{eqb, ltb}
 use borrow.Author.Tests.{eq-eqb, ne-eqb, eqb-true, eqb-false}
 use Rattle.units.specs.Refusals.{pick}
-use Rattle.memory.specs.Layout.{resends, timerAt, retriesAt}
+use Rattle.memory.specs.Layout.{resends, timerAt, retriesAt, bookHalves}
 use Rattle.waiting.specs.Queues.{appended}
 use Rattle.window.specs.Windows.{Good as GoodWindow}
-use Rattle.ends.specs.declared.EndPoint.{EndPoint}
+use Rattle.end_points.specs.declared.EndPoint.{EndPoint}
 use Rattle.slots.specs.Slots.{cell, past, timerIn, retriesIn, idled}
 use Rattle.timing.specs.Timing.{leftOf, soonest}
-use Rattle.ticking.specs.Ticking.{Ticked, expired, tickSlot, tickSlots, ticked}
+use Rattle.call_tick.specs.Ticking.{Ticked, expired, tickSlot, tickSlots, ticked}
 use Rattle.good.specs.Good.{Lists, Lines, idAt, OpenSender, Outlasts}
 use Rattle.good.proofs.Framing.{le-trans, cell-low}
 use Rattle.good.proofs.Lined.{append-cells, set-lines}
@@ -54,7 +54,7 @@ module _ (i : ℕ) (low : i < 16) (e : EndPoint) (g : GoodWindow (e .run .window
     due-zero d = sym (rw (eq-eqb (timerIn b (at k)) now d))
 
     -- set to zero, where it is due
-    set-turn : (b′ : List ℕ) → length b′ ≡ 10368 → timerIn b (at k) ≡ now → ((x : ℕ) → 4224 ≤ x → getD b′ x 0 ≡ getD b x 0)
+    set-turn : (b′ : List ℕ) → length b′ ≡ bookHalves → timerIn b (at k) ≡ now → ((x : ℕ) → 4224 ≤ x → getD b′ x 0 ≡ getD b x 0)
         → Turn now b (set b′ (timerAt (at k)) 0) (at k)
     set-turn b′ long d same =
         record {

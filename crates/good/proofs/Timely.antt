@@ -8,10 +8,10 @@ use mathlib.Core.List.{List}
 use native.Mathlib.Decide.{ℕ-discrete}
 use native.Mathlib.Omega.{arith}
 use borrow.Author.Tests.{ne-eqb, eqb-false}
-use Rattle.ends.specs.States.{isOver}
-use Rattle.ends.specs.declared.State.{State}
-use Rattle.ends.specs.declared.State.the-variants.{Closed, Enabled, Open, Failing}
-use Rattle.ends.specs.declared.EndPoint.{EndPoint}
+use Rattle.end_points.specs.States.{isOver}
+use Rattle.end_points.specs.declared.State.{State}
+use Rattle.end_points.specs.declared.State.the-variants.{Closed, Enabled, Open, Failing}
+use Rattle.end_points.specs.declared.EndPoint.{EndPoint}
 use Rattle.timing.specs.Timing.{later, leftOf}
 use Rattle.timing.proofs.Falling.{left-pos, left-falls, none-due, bound-falls}
 use Rattle.good.specs.Good.{Outlasts, Timely}

@@ -15,20 +15,20 @@ use borrow.Author.Tests.{eqb-false}
 use Rattle.units.specs.Refusals.{pick}
 use Rattle.memory.specs.Layout.{oldestAt, acksAt, ackAt, clockAt, quietAt, nodeWords}
 use Rattle.waiting.specs.Acks.{placeOf, waitingOf, oldestOf, pushed, popped, turned, turns, dropped}
-use Rattle.order.specs.Order.{from, acksIn, notOf}
-use Rattle.order.proofs.Ringed.{Ring, push-rest, pop-rest, drop-rest}
-use Rattle.kept.proofs.Kept.{saved-head, saved-here, StateFits, RunFits}
+use Rattle.waiting.specs.Order.{from, acksIn, notOf}
+use Rattle.waiting.proofs.Ringed.{Ring, push-rest, pop-rest, drop-rest}
+use Rattle.end_points.proofs.Kept.{saved-head, saved-here, StateFits, RunFits}
 use Rattle.window.specs.Windows.{Good as GoodWindow}
 use Rattle.window.proofs.Resetting.{reset-good}
-use Rattle.ends.specs.Ends.{stateOf, loadRun, endOf, saved, word}
-use Rattle.ends.specs.Heads.{countIn}
-use Rattle.ends.specs.States.{isSends}
-use Rattle.ends.specs.Runs.{anew, urgentGone}
-use Rattle.ends.specs.Lent.{Lent}
-use Rattle.ends.specs.declared.State.{State}
-use Rattle.ends.specs.declared.State.the-variants.{Closed, Enabled, Open, Failing}
-use Rattle.ends.specs.declared.Run.{Run}
-use Rattle.ends.specs.declared.EndPoint.{EndPoint}
+use Rattle.end_points.specs.Ends.{stateOf, loadRun, endOf, saved, word}
+use Rattle.end_points.specs.Heads.{countIn}
+use Rattle.end_points.specs.States.{isSends}
+use Rattle.end_points.specs.Runs.{anew, urgentGone}
+use Rattle.end_points.specs.Lent.{Lent}
+use Rattle.end_points.specs.declared.State.{State}
+use Rattle.end_points.specs.declared.State.the-variants.{Closed, Enabled, Open, Failing}
+use Rattle.end_points.specs.declared.Run.{Run}
+use Rattle.end_points.specs.declared.EndPoint.{EndPoint}
 use Rattle.timing.specs.Timing.{clockIn, quietIn}
 use Rattle.good.specs.Good.{Lists, Fresh, Entered, Timely, Owed, Good}
 use Rattle.good.proofs.Framing.{Within, within-same, Apart, apart-same, apart-saved, apart-rest, framed, apart-count, apart-timely, entry-low}

@@ -6,17 +6,18 @@ use mathlib.Core.Path.{_≡_}
 use mathlib.Core.List.{List, [], _∷_}
 use lib.ListN.{length}
 use Rattle.units.specs.declared.refusals.Verdict.the-variants.{Passed}
-use Rattle.memory.specs.Layout.{nodeWords}
-use Rattle.ends.specs.Lent.{Lent}
+use Rattle.memory.specs.Layout.{nodeWords, bookHalves}
+use Rattle.end_points.specs.Lent.{Lent}
 use Rattle.node.specs.Lending as lending
-use Rattle.ends.specs.Answers.{answerOf, countedOf, arrivedOf, handedOf}
-use Rattle.opening.specs.Setup.{setupAnswer, setupAfter}
-use Rattle.opening.specs.Opening.{openAnswer, openAfter, closeAnswer, closeAfter, countsAnswer}
-use Rattle.sending.specs.Sending.{sendAnswer, sendAfter, urgentAnswer, urgentAfter}
-use Rattle.arriving.specs.Arriving.{arrivalAnswer, arrivalAfter}
-use Rattle.handing.specs.Handing.{handAnswer, handAfter}
-use Rattle.ticking.specs.Ticking.{tickAnswer, tickAfter}
-use Rattle.machine.specs.Calls.{Call, opens, closes, counts, sends, urges, arrives, hands-out, ticks, Answer, Bytes, Fed}
+use Rattle.end_points.specs.Answers.{answerOf, countedOf, arrivedOf, handedOf}
+use Rattle.call_open.specs.Setup.{setupAnswer, setupAfter}
+use Rattle.call_open.specs.Opening.{openAnswer, openAfter, closeAnswer, closeAfter, countsAnswer}
+use Rattle.call_send.specs.Sending.{sendAnswer, sendAfter, urgentAnswer, urgentAfter}
+use Rattle.call_arrive.specs.Arriving.{arrivalAnswer, arrivalAfter}
+use Rattle.call_hand_out.specs.Handing.{handOutAnswer, handOutAfter}
+use Rattle.call_tick.specs.Ticking.{tickAnswer, tickAfter}
+use Rattle.machine.specs.Calls.{Call, opens, closes, counts, sends, urges, arrives, hands-out, ticks, Answer, Bytes}
+use Rattle.machine.specs.Calls.{Fed}
 
 -- ---- the calls
 
@@ -40,17 +41,26 @@ kept x = record { node = x .node; book = x .book; store = x .store }
 abbrev pub keptBare : Memory → Lent → Memory
 keptBare n x = record { node = x .node; book = x .book; store = n .store }
 
+-- what a call answers: the paper's numbers of the answer that its contract names [O1, O3]
 unfoldable pub answer : Memory → Call → Answer
 answer n (opens i) = record { numbers = answerOf (openAnswer (bare n) i); out = [] }
 answer n (closes i) = record { numbers = answerOf (closeAnswer (bare n) i); out = [] }
 answer n (counts i) = record { numbers = countedOf (countsAnswer (n .node) i); out = [] }
 answer n (sends i p) = record { numbers = answerOf (sendAnswer (lent n []) i p); out = [] }
 answer n (urges i p) = record { numbers = answerOf (urgentAnswer (lent n []) i p); out = [] }
-answer n (arrives block f) = record { numbers = arrivedOf (arrivalAnswer (lent n block) f); out = arrivalAfter (lent n block) f .out }
+answer n (arrives block f) =
+    record {
+      numbers = arrivedOf (arrivalAnswer (lent n block) f);
+      out = arrivalAfter (lent n block) f .out;
+    }
 answer n (hands-out buffer) =
-    record { numbers = handedOf (handAnswer (lent n buffer)); out = handAfter (lent n buffer) (handAnswer (lent n buffer)) .out }
+    record {
+      numbers = handedOf (handOutAnswer (lent n buffer));
+      out = handOutAfter (lent n buffer) (handOutAnswer (lent n buffer)) .out;
+    }
 answer n ticks = record { numbers = tickAnswer (bare n) ∷ []; out = [] }
 
+-- what it leaves: the memory that its contract names [O1]
 unfoldable pub after : Memory → Call → Memory
 after n (opens i) = keptBare n (openAfter (bare n) i (openAnswer (bare n) i))
 after n (closes i) = keptBare n (closeAfter (bare n) i (closeAnswer (bare n) i))
@@ -58,21 +68,21 @@ after n (counts i) = n
 after n (sends i p) = kept (sendAfter (lent n []) i p (sendAnswer (lent n []) i p))
 after n (urges i p) = kept (urgentAfter (lent n []) i p (urgentAnswer (lent n []) i p))
 after n (arrives block f) = kept (arrivalAfter (lent n block) f)
-after n (hands-out buffer) = kept (handAfter (lent n buffer) (handAnswer (lent n buffer)))
+after n (hands-out buffer) = kept (handOutAfter (lent n buffer) (handOutAnswer (lent n buffer)))
 after n ticks = keptBare n (tickAfter (bare n))
 
 -- ---- what setup and calls can give
 
--- what setup leaves of any memory, with a table that it does not refuse
+-- what setup leaves of any memory, with a table that it does not refuse [P11]
 pub record SetUp (t : List ℕ) (n : Memory) : Type 0 where
   pub before : Lent
   pub node : length (before .node) ≡ nodeWords
-  pub book : length (before .book) ≡ 10368
+  pub book : length (before .book) ≡ bookHalves
   pub bytes : Bytes t
   pub passed : setupAnswer before t ≡ Passed
   pub is : n ≡ kept (setupAfter before t Passed)
 
--- and calls after it
+-- and calls after it [P11, O2]
 pub data Reach (t : List ℕ) : Memory → Type 0 where
   at-setup : (n : Memory) → SetUp t n → Reach t n
   by-call : (n : Memory) (c : Call) → Fed c → Reach t n → Reach t (after n c)

@@ -11,15 +11,16 @@ use Rattle.waiting.specs.Acks.{waitingOf}
 use Rattle.frame.specs.declared.FrameType.{FrameType}
 use Rattle.table.specs.Layout.{entryOf}
 use Rattle.table.specs.Areas.{slotsOf}
-use Rattle.ends.specs.Ends.{loadEntry, endOf}
-use Rattle.ends.specs.Heads.{countIn, needIn}
-use Rattle.ends.specs.States.{isSends}
-use Rattle.lookup.specs.Lookup.{firstFrom, entryFor}
+use Rattle.end_points.specs.Ends.{loadEntry, endOf}
+use Rattle.end_points.specs.Heads.{countIn, needIn}
+use Rattle.end_points.specs.States.{isSends}
+use Rattle.arrive_lookup.specs.Lookup.{firstFrom, entryFor}
 use Rattle.frame.specs.Types.{forSender}
-use Rattle.lookup.specs.Fitting.{fits}
+use Rattle.arrive_lookup.specs.Fitting.{fits}
 use Rattle.slots.specs.Slots.{cell, spot}
 use Rattle.good.specs.Good.{Lists, Good}
 
+-- of a good node: none of these corners [S1, I2, O2]
 pub record NoCorner (t ws b : List ℕ) (l : Lists) : Type 0 where
   -- an entry's words lie in the node; so do the acknowledgements, of which no more than 32 wait
   pub words : (i : ℕ) → i < countIn ws → (k : ℕ) → k < 32 → entryAt i + k < length ws
@@ -34,11 +35,14 @@ pub record NoCorner (t ws b : List ℕ) (l : Lists) : Type 0 where
   -- a window has a size
   pub sized : (i : ℕ) → i < countIn ws → 0 < endOf ws i .run .window .size
   -- a sender's counts neither wrap nor fall below 0
-  pub handed : (i : ℕ) → i < countIn ws → isSends (endOf ws i .entry .kind) ≡ true → endOf ws i .run .handed ≤ endOf ws i .run .taken
+  pub handed : (i : ℕ) → i < countIn ws → isSends (endOf ws i .entry .kind)
+      ≡ true → endOf ws i .run .handed ≤ endOf ws i .run .taken
   pub taken : (i : ℕ) → i < countIn ws → isSends (endOf ws i .entry .kind) ≡ true → endOf ws i .run .taken ≤ 128
   -- the entry that a frame is for by the index is the first that fits by the table
   pub found : (q : FrameType) (source channel : ℕ)
-      → entryFor ws q source channel ≡ firstFrom (λ i. ltb i (countIn ws) && fits (loadEntry ws i) (forSender q) source channel) 0 16
+      → entryFor ws q source channel ≡ firstFrom
+      (λ i. ltb i (countIn ws) && fits (loadEntry ws i) (forSender q) source channel) 0 16
 
+-- so of every good node [S1, O2]
 unfoldable pub NoCorners : Type 0
 NoCorners = (t ws b : List ℕ) (l : Lists) → Good t ws b l → NoCorner t ws b l

@@ -9,22 +9,22 @@ use mathlib.Core.List.{List, [], _∷_, List·Memᴰ}
 use lib.ListN.{length}
 use lib.Dec.{eqb, ltb}
 use Rattle.units.specs.Refusals.{pick}
-use Rattle.memory.specs.Layout.{resets, urgents, resends, datas, resetId, urgentId, slotId, nodeWords}
+use Rattle.memory.specs.Layout.{resets, urgents, resends, datas, resetId, urgentId, cellId, nodeWords, bookHalves}
 use Rattle.waiting.specs.Acks.{waitingOf}
-use Rattle.order.specs.Order.{Queue, acksIn}
+use Rattle.waiting.specs.Order.{Queue, acksIn}
 use Rattle.window.specs.Windows.{newOf, held, Good as GoodWindow}
 use Rattle.window.specs.declared.Window.{Window}
 use Rattle.table.specs.Layout.{countOf, ownOf, protocolOf, entryOf}
 use Rattle.table.specs.Areas.{placeOf, storeOf}
 use Rattle.table.specs.Rules.{goodTable}
-use Rattle.ends.specs.Ends.{loadEntry, placeIn, endOf}
-use Rattle.ends.specs.Heads.{countIn, ownIn, protocolIn, needIn}
-use Rattle.ends.specs.States.{isSends}
-use Rattle.ends.specs.declared.State.{State}
-use Rattle.ends.specs.declared.State.the-variants.{Closed, Enabled, Open, Failing}
-use Rattle.ends.specs.declared.Run.{Run}
-use Rattle.ends.specs.declared.EndPoint.{EndPoint}
-use Rattle.lookup.specs.Lookup.{Indexed}
+use Rattle.end_points.specs.Ends.{loadEntry, placeIn, endOf}
+use Rattle.end_points.specs.Heads.{countIn, ownIn, protocolIn, needIn}
+use Rattle.end_points.specs.States.{isSends}
+use Rattle.end_points.specs.declared.State.{State}
+use Rattle.end_points.specs.declared.State.the-variants.{Closed, Enabled, Open, Failing}
+use Rattle.end_points.specs.declared.Run.{Run}
+use Rattle.end_points.specs.declared.EndPoint.{EndPoint}
+use Rattle.arrive_lookup.specs.Lookup.{Indexed}
 use Rattle.slots.specs.Slots.{cell, past, lengthIn, timerIn}
 use Rattle.timing.specs.Timing.{clockIn, quietIn, leftOf}
 
@@ -36,7 +36,7 @@ Lists = ℕ → List ℕ
 
 -- the book holds four queues, and nothing waits in two of them
 pub record Lines (b : List ℕ) (l : Lists) : Type 0 where
-  pub long : length b ≡ 10368
+  pub long : length b ≡ bookHalves
   pub queue : (q : ℕ) → q < 4 → Queue b q (l q)
   pub high : (q : ℕ) → q < 4 → (x : ℕ) → List·Memᴰ x (l q) → 4 ≤ x
   pub apart : (q r : ℕ) → q < 4 → r < 4 → q ≢ r → (x : ℕ) → List·Memᴰ x (l q) → List·Memᴰ x (l r) → ⊥
@@ -58,7 +58,7 @@ mine i (x ∷ xs) = pick (eqb (ownerOf x) i) (x ∷ mine i xs) (mine i xs)
 
 -- what stands for the number k past the start of entry i's window; for n numbers from there on
 abbrev pub idAt : ℕ → Window → ℕ → ℕ
-idAt i w k = slotId (cell i w (past w k))
+idAt i w k = cellId (cell i w (past w k))
 
 unfoldable pub ids : ℕ → Window → ℕ → ℕ → List ℕ
 ids i w k zero = []
@@ -71,6 +71,7 @@ pub record Share (l : Lists) (i : ℕ) (rs us ds : List ℕ) : Type 0 where
   pub datas : mine i (l datas) ≡ ds
 
 -- a retransmission waits for each number handed out, not acknowledged, whose timer does not run; and for no other
+-- [A3, D5]
 pub record Resend (b : List ℕ) (i : ℕ) (r : Run) (x : ℕ) : Type 0 where
   pub at : ℕ
   pub handed : at < r .handed
@@ -89,7 +90,7 @@ pub record Silent (l : Lists) (i : ℕ) (rs : List ℕ) : Type 0 where
 
 -- ---- runs
 
--- start 1, nothing taken, held or acknowledged
+-- start 1, nothing taken, held or acknowledged [E8]
 pub record Fresh (r : Run) : Type 0 where
   pub window : r .window ≡ newOf (r .window .size)
   pub taken : r .taken ≡ 0
@@ -101,7 +102,7 @@ pub record Filled (b : List ℕ) (i : ℕ) (w : Window) (largest k : ℕ) : Type
   pub some : 1 ≤ lengthIn b (cell i w (past w k))
   pub most : lengthIn b (cell i w (past w k)) ≤ largest
 
--- a sender's, at Open and Failing: acknowledged numbers were handed out and their timers do not run
+-- a sender's, at Open and Failing: acknowledged numbers were handed out and their timers do not run [W3, A2]
 pub record Sending (b : List ℕ) (i : ℕ) (r : Run) (largest : ℕ) : Type 0 where
   pub taken : r .taken ≤ r .window .size
   pub handed : r .handed ≤ r .taken
@@ -112,7 +113,7 @@ pub record Sending (b : List ℕ) (i : ℕ) (r : Run) (largest : ℕ) : Type 0 w
   pub stopped : (k : ℕ) → held (r .window) k ≡ true → timerIn b (cell i (r .window) (past (r .window) k)) ≡ 0
   pub urgent : r .urgent ≤ largest
 
--- a receiver's, at Open
+-- a receiver's, at Open [W4, W7]
 pub record Receiving (b : List ℕ) (i : ℕ) (r : Run) (largest : ℕ) : Type 0 where
   pub taken : r .taken ≡ 0
   pub handed : r .handed ≡ 0
@@ -130,7 +131,8 @@ running b i w (suc n) = pick (eqb (timerIn b (cell i w (past w n))) 0) (running 
 -- an open sender, and what of it waits
 pub record OpenSender (b : List ℕ) (l : Lists) (i : ℕ) (e : EndPoint) : Type 0 where
   pub sending : Sending b i (e .run) (e .entry .largest)
-  pub share : Share l i [] (pick (eqb (e .run .urgent) 0) [] (urgentId i ∷ [])) (ids i (e .run .window) (e .run .handed) (e .run .taken - e .run .handed))
+  pub share : Share l i [] (pick (eqb (e .run .urgent) 0) [] (urgentId i ∷ []))
+      (ids i (e .run .window) (e .run .handed) (e .run .taken - e .run .handed))
   pub resends : Resends b l i (e .run)
 
 pub record FailingSender (b : List ℕ) (l : Lists) (i : ℕ) (e : EndPoint) (n : ℕ) : Type 0 where
@@ -148,6 +150,7 @@ pub record Anew (l : Lists) (i : ℕ) (e : EndPoint) (rs : List ℕ) : Type 0 wh
   pub silent : Silent l i rs
 
 -- of entry i, which sends or not, in a state. A sender's Reset waits at Enabled while its timer does not run.
+-- [E1, E2, E5]
 abbrev pub Stated : List ℕ → Lists → ℕ → EndPoint → Bool → State → Type 0
 Stated b l i e sends Closed = Anew l i e []
 Stated b l i e true (Enabled t sent) = Anew l i e (pick (eqb t 0) (resetId i ∷ []) [])
@@ -180,7 +183,7 @@ Timely c q b i e (Failing n) = Outlast c q b i (e .run) × (n ≡ 0 → q ≡ 0)
 
 -- ---- the node
 
--- it was set up from a table
+-- it was set up from a table [T17]
 pub record Tabled (ws t : List ℕ) : Type 0 where
   pub count : countIn ws ≡ countOf t
   pub own : ownIn ws ≡ ownOf t
@@ -190,13 +193,13 @@ pub record Tabled (ws t : List ℕ) : Type 0 where
   pub place : (i : ℕ) → i < countOf t → placeIn ws i ≡ placeOf t i
   pub index : Indexed ws
 
--- an acknowledgement waits for a receiver that is open
+-- an acknowledgement waits for a receiver that is open [E14, H7]
 pub record Owed (ws : List ℕ) (w : ℕ) : Type 0 where
   pub known : w / 256 < countIn ws
   pub receives : isSends (endOf ws (w / 256) .entry .kind) ≡ false
   pub opened : endOf ws (w / 256) .state ≡ Open
 
--- the whole: node and book, set up from a table, with what waits as lists
+-- the whole: node and book, set up from a table, with what waits as lists [T17, I2]
 pub record Good (t ws b : List ℕ) (l : Lists) : Type 0 where
   pub table : goodTable t ≡ true
   pub long : length ws ≡ nodeWords

@@ -1,4 +1,4 @@
-// Prints what the channel table on standard input says, or `refused 1` (01, "Worked numbers").
+// Prints what the channel table on standard input says, or `refused 1`.
 // Proved: every read and every sum is safe. The table's rules and its reading are the crate `table`'s.
 use libc::STDIN_FILENO;
 use libc::STDOUT_FILENO;

@@ -33,8 +33,11 @@ fn place(buffer: &[u8], at: usize, n: usize) -> usize
 
 // Bytes more.
 pub fn text(buffer: &mut [u8], at: usize, bytes: &[u8]) -> usize
-    ensures answer { λ r. ⌜ r ≡ placeOf (length (now (buffer .entry))) at (length (now (bytes .entry))) + length (now (bytes .entry)) ⌝ }
-    ensures after { λ _. ⌜ now (buffer .exit) ≡ sets (now (buffer .entry)) (placeOf (length (now (buffer .entry))) at (length (now (bytes .entry)))) (now (bytes .entry)) ⌝ }
+    ensures answer { λ r. ⌜ r ≡ placeOf (length (now (buffer .entry))) at (length (now (bytes .entry))) + length
+        (now (bytes .entry)) ⌝ }
+    ensures after { λ _. ⌜ now (buffer .exit)
+        ≡ sets (now (buffer .entry)) (placeOf (length (now (buffer .entry))) at (length (now (bytes .entry))))
+        (now (bytes .entry)) ⌝ }
 {
     let n = bytes.len();
     let from = place(buffer, at, n);

@@ -8,10 +8,10 @@ use native.Mathlib.Omega.{arith}
 use lib.ListN.{length, drop, getD, getElem?, set, length-set}
 use Rattle.units.specs.Refusals.{pick}
 use Rattle.frame.specs.declared.FrameType.the-variants as type
-use Rattle.ends.specs.States.{isClosed}
-use Rattle.ends.specs.declared.State.{State}
-use Rattle.ends.specs.declared.State.the-variants.{Closed, Enabled, Open, Failing}
-use Rattle.ends.specs.declared.answers.Arrived.the-variants as was
+use Rattle.end_points.specs.States.{isClosed}
+use Rattle.end_points.specs.declared.State.{State}
+use Rattle.end_points.specs.declared.State.the-variants.{Closed, Enabled, Open, Failing}
+use Rattle.end_points.specs.declared.answers.Arrived.the-variants as was
 use Rattle.machine.specs.Calls.{arrives}
 use Rattle.machine.specs.Machine.{Number, End, Sort, Machine, number, stated, counted, turned, notAgain, anew, offset, numberAt, ackedRun, running, passing, told, acked, acking, taken, step}
 use Rattle.machine.specs.Sound.{Sound}

@@ -25,10 +25,10 @@ use Rattle.table.specs.declared.Entry.{Entry}
 use Rattle.table.specs.Layout.{countOf}
 use Rattle.table.proofs.Every.{both}
 use Rattle.table.proofs.Good.{one-entry}
-use Rattle.ends.specs.States.{isSends, isClosed, isOpen}
-use Rattle.ends.specs.declared.State.{State}
-use Rattle.ends.specs.declared.State.the-variants.{Open}
-use Rattle.lookup.specs.Fitting.{same, fits}
+use Rattle.end_points.specs.States.{isSends, isClosed, isOpen}
+use Rattle.end_points.specs.declared.State.{State}
+use Rattle.end_points.specs.declared.State.the-variants.{Open}
+use Rattle.arrive_lookup.specs.Fitting.{same, fits}
 use Rattle.machine.specs.Calls.{arrives}
 use Rattle.machine.specs.Machine.{End, acks, Machine, placeOf, entryFor, isOurs, mostAcks, blockRoom, taken, reading, arriving, step}
 use Rattle.machine.specs.Sound.{Sound}

@@ -22,8 +22,8 @@ use Rattle.frame.specs.declared.FrameType.{FrameType}
 use Rattle.frame.proofs.ReadLaws.{taken as framed, headerFor, payload-frame, read-frame}
 use Rattle.frame.proofs.TypeLaws.{type-of-number}
 use Rattle.frame.proofs.WriteLaws.{length-frame}
-use Rattle.ends.specs.Answers.{handedOf}
-use Rattle.ends.specs.declared.answers.HandedOut.the-variants.{Length}
+use Rattle.end_points.specs.Answers.{handedOf}
+use Rattle.end_points.specs.declared.answers.HandedOut.the-variants.{Length}
 use Rattle.machine.specs.Calls.{hands-out}
 use Rattle.machine.specs.Machine.{End, Item, Sort, acks, resets, urgents, resends, datas, Machine, Outcome, number, numbered, turned, rank, only, waitingAs, answers, unless, offset, numberAt, timed, typeOf, carried, frameOf, handed, goingOut, inOrder, handing, step}
 use Rattle.machine.specs.Sound.{Sound, Sized, Owned, Waits, WaitsData}

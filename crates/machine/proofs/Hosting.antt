@@ -12,11 +12,11 @@ use Rattle.units.specs.Refusals.{pick}
 use Rattle.units.specs.declared.refusals.Refusal.{Refusal}
 use Rattle.units.specs.declared.refusals.Refusal.the-variants as refusal
 use Rattle.units.proofs.Judging.{Clear}
-use Rattle.ends.specs.Answers.{countedOf}
-use Rattle.ends.specs.States.{isSends, isClosed, isOpen}
-use Rattle.ends.specs.declared.State.{State}
-use Rattle.ends.specs.declared.State.the-variants.{Closed, Enabled, Open, Failing}
-use Rattle.ends.specs.declared.answers.Counted.the-variants.{Counts}
+use Rattle.end_points.specs.Answers.{countedOf}
+use Rattle.end_points.specs.States.{isSends, isClosed, isOpen}
+use Rattle.end_points.specs.declared.State.{State}
+use Rattle.end_points.specs.declared.State.the-variants.{Closed, Enabled, Open, Failing}
+use Rattle.end_points.specs.declared.answers.Counted.the-variants.{Counts}
 use Rattle.machine.specs.Calls.{counts, sends}
 use Rattle.machine.specs.Machine.{End, resets, urgents, datas, Machine, Outcome, turned, waits, silent, past, anew, enabled, answers, done, tooShort, opening, closing, counting, senderTests, sendTests, taking, sending, isSome, urging, urgentSending, mostAccepted, step}
 use Rattle.machine.specs.Laws.{Is, answer, Anew, ofEntry}

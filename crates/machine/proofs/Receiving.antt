@@ -12,10 +12,10 @@ use Rattle.window.specs.Numbers.{byteOf}
 use Rattle.table.specs.Layout.{countOf}
 use Rattle.table.proofs.Good.{good-entry}
 use Rattle.frame.specs.declared.FrameType.the-variants as type
-use Rattle.ends.specs.Answers.{arrivedOf}
-use Rattle.ends.specs.States.{isClosed}
-use Rattle.ends.specs.declared.State.the-variants.{Open}
-use Rattle.ends.specs.declared.answers.Arrived.the-variants as was
+use Rattle.end_points.specs.Answers.{arrivedOf}
+use Rattle.end_points.specs.States.{isClosed}
+use Rattle.end_points.specs.declared.State.the-variants.{Open}
+use Rattle.end_points.specs.declared.answers.Arrived.the-variants as was
 use Rattle.blocks.specs.Blocks.{blockOf}
 use Rattle.blocks.specs.Reading.{readBlock}
 use Rattle.blocks.proofs.Appending.{length-one}

@@ -11,8 +11,8 @@ use native.Mathlib.Omega.{arith}
 use lib.ListN.{getElem?, set}
 use lib.Pow.{shr-shr}
 use Rattle.units.specs.Refusals.{pick}
-use Rattle.ends.specs.States.{isSends, isOver}
-use Rattle.ends.specs.declared.State.the-variants.{Enabled}
+use Rattle.end_points.specs.States.{isSends, isOver}
+use Rattle.end_points.specs.declared.State.the-variants.{Enabled}
 use Rattle.machine.specs.Machine.{End, Item, Sort, acks, resets, urgents, resends, datas, Machine, node, found, turned, waits, anew, enabled, recovered, bitsFrom}
 use Rattle.machine.specs.Laws.{Is}
 use Rattle.machine.specs.LawsTick.{dueOver}

@@ -13,9 +13,9 @@ use Rattle.units.specs.declared.refusals.Refusal.{Refusal}
 use Rattle.table.specs.Layout.{countOf, entryOf}
 use Rattle.frame.specs.Layout.{payloadOf}
 use Rattle.frame.specs.Reading.{headerOf}
-use Rattle.ends.specs.States.{isOver}
-use Rattle.ends.specs.declared.State.{State}
-use Rattle.ends.specs.declared.State.the-variants.{Closed, Enabled, Open, Failing}
+use Rattle.end_points.specs.States.{isOver}
+use Rattle.end_points.specs.declared.State.{State}
+use Rattle.end_points.specs.declared.State.the-variants.{Closed, Enabled, Open, Failing}
 use Rattle.machine.specs.Calls.{Call, opens, closes, counts, sends, urges, arrives, hands-out, ticks}
 use Rattle.machine.specs.Machine.{End, Item, Sort, acks, resets, urgents, resends, datas, Machine, Outcome, node, turned, anew, unless, onEntry, listed, first, begun, tooShort, sendTests, entryFor, opening, closing, counting, sending, urgentSending, reading, arriving, handed, goingOut, inOrder, handing, anySpent, each, recovered, step}
 use Rattle.machine.specs.Laws.{Is, after, Free, AllFree, Standing, TableStays, StartStaysFree}

@@ -10,9 +10,9 @@ use lib.ListN.{length, getElem?}
 use lib.Dec.{eqb}
 use borrow.Author.Tests.{eq-eqb, ne-eqb}
 use Rattle.units.specs.Refusals.{pick}
-use Rattle.ends.specs.States.{isOver}
-use Rattle.ends.specs.declared.State.{State}
-use Rattle.ends.specs.declared.State.the-variants.{Enabled, Open}
+use Rattle.end_points.specs.States.{isOver}
+use Rattle.end_points.specs.declared.State.{State}
+use Rattle.end_points.specs.declared.State.the-variants.{Enabled, Open}
 use Rattle.machine.specs.Calls.{ticks}
 use Rattle.machine.specs.Machine.{Number, End, Item, Sort, acks, resets, urgents, resends, datas, Machine, found, only, past, numbered, anew, failing, tickedAll, anySpent, ticked, each, recovered, bitsFrom, ticking, step}
 use Rattle.machine.specs.Laws.{Is, after, answer, item, shareOf}

@@ -9,9 +9,9 @@ use lib.ListN.{set}
 use lib.Dec.{eqb}
 use borrow.Author.Tests.{ne-eqb, eqb-true}
 use Rattle.units.specs.Refusals.{pick}
-use Rattle.ends.specs.States.{isOpen}
-use Rattle.ends.specs.declared.State.{State}
-use Rattle.ends.specs.declared.State.the-variants.{Closed, Enabled, Open, Failing}
+use Rattle.end_points.specs.States.{isOpen}
+use Rattle.end_points.specs.declared.State.{State}
+use Rattle.end_points.specs.declared.State.the-variants.{Closed, Enabled, Open, Failing}
 use Rattle.machine.specs.Machine.{Number, End, Item, Sort, acks, resets, urgents, resends, datas, Machine, node, stated, numbered, turned, rank, only, waitingAs, waits, silent, past, failing, tickedAll, anySpent, againFrom, ticked, without}
 use Rattle.machine.specs.Laws.{Is, item}
 use Rattle.machine.specs.LawsTick.{fails, dueFrom, dueReset, due}

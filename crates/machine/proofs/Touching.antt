@@ -18,10 +18,10 @@ use Rattle.frame.specs.declared.Read.{Read}
 use Rattle.frame.specs.declared.Read.the-variants as read
 use Rattle.frame.specs.declared.FrameType.{FrameType}
 use Rattle.frame.specs.declared.FrameType.the-variants as type
-use Rattle.ends.specs.declared.State.{State}
-use Rattle.ends.specs.declared.State.the-variants.{Closed, Enabled, Open, Failing}
-use Rattle.ends.specs.declared.answers.Arrived.the-variants as was
-use Rattle.ends.specs.States.{isSends}
+use Rattle.end_points.specs.declared.State.{State}
+use Rattle.end_points.specs.declared.State.the-variants.{Closed, Enabled, Open, Failing}
+use Rattle.end_points.specs.declared.answers.Arrived.the-variants as was
+use Rattle.end_points.specs.States.{isSends}
 use Rattle.machine.specs.Machine.{Number, End, Sort, acks, resets, urgents, datas, Machine, Outcome, stated, counted, turned, waits, silent, notAgain, past, taking, urging, anew, enabled, answers, unless, onEntry, offset, numberAt, timed, ackedRun, running, passing, told, acked, acking, heldRun, delivering, handing-on, isNew, receiving, resetting, taken, entryTests, entryFor, reading, isOurs}
 use Rattle.machine.specs.Laws.{Is, Free}
 use Rattle.machine.proofs.Entries.{not-none}

@@ -4,7 +4,7 @@ use Prim.Native.Nat.{ℕ, _<_}
 use mathlib.Core.List.{List}
 use lib.ListN.{getD}
 
--- a call with what it is given; an arrival also with its block, handing out with its frame buffer
+-- a call with what it is given; an arrival also with its block, handing out with its frame buffer [D1, O1]
 pub data Call : Type 0 where
   opens : (index : ℕ) → Call
   closes : (index : ℕ) → Call
@@ -15,15 +15,16 @@ pub data Call : Type 0 where
   hands-out : (buffer : List ℕ) → Call
   ticks : Call
 
--- what comes back: the paper's numbers, and what block or frame buffer hold then
+-- what comes back: the paper's numbers, and what block or frame buffer hold then [O1, O3]
 pub record Answer : Type 0 where
   pub numbers : List ℕ
   pub out : List ℕ
 
--- a frame that arrives is bytes
+-- a frame that arrives is bytes [F1]
 abbrev pub Bytes : List ℕ → Type 0
 Bytes l = (k : ℕ) → getD l k 0 < 256
 
+-- what arrives from the link is bytes; of the other calls nothing is asked [F1]
 abbrev pub Fed : Call → Type 0
 Fed (opens i) = Unit {0}
 Fed (closes i) = Unit {0}

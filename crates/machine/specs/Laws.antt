@@ -1,7 +1,7 @@
 -- Words that the laws of the machine share, and the laws of all calls: what none alters, that a refusal leaves all as
--- it was, and that a call on one entry leaves every other. The laws of single calls are in the other files Laws*.antt.
--- In brackets: the section of paper 01 that a law is from. Proved in proofs/Standing.antt and proofs/Apart.antt.
--- Assumes nothing.
+-- it was, and that a call on one entry leaves every other. The laws of single calls are in the other files
+-- Laws*.antt. In square brackets: the rules of docs/RULES.md that a law is about. Proved in proofs/Standing.antt and
+-- proofs/Apart.antt. Assumes nothing.
 use Prim.Native.Nat.{ℕ, _<_}
 use mathlib.Core.Path.{_≡_}
 use mathlib.Core.Logic.{_≢_}
@@ -10,7 +10,7 @@ use mathlib.Core.Option.{none, some}
 use mathlib.Core.List.{List, [], _∷_, _++_}
 use lib.ListN.{length, getD, getElem?, replicate}
 use lib.Dec.{eqb}
-use Rattle.ends.specs.declared.State.{State}
+use Rattle.end_points.specs.declared.State.{State}
 use Rattle.frame.specs.Reading.{headerOf}
 use Rattle.frame.specs.declared.Header.{Header}
 use Rattle.frame.specs.declared.Read.the-variants as read
@@ -35,16 +35,16 @@ after m c = step m c .machine
 abbrev pub item : ℕ → ℕ → Item
 item i s = record { entry = i; number = s }
 
--- entry i's share of what waits, in order
+-- entry i's share of what waits, in order [I1]
 abbrev pub shareOf : ℕ → List Item → List Item
 shareOf i = without (λ x. not (eqb (x .entry) i))
 
--- number s of entry i waits last in the whole list of its sort, and nothing else waits differently ("Handing out")
+-- number s of entry i waits last in the whole list of its sort, and nothing else waits differently [H3]
 pub record WaitsLast (m m′ : Machine) (q : Sort) (i s : ℕ) : Type 0 where
   pub last : m′ .waiting q ≡ m .waiting q ++ (item i s ∷ [])
   pub others : (r : Sort) → r ≢ q → m′ .waiting r ≡ m .waiting r
 
--- x goes out next: it is the first of its sort, and nothing waits of the sorts before that ("Handing out")
+-- x goes out next: it is the first of its sort, and nothing waits of the sorts before that [H2, H3]
 pub record Next (m : Machine) (q : Sort) (x : Item) (xs : List Item) : Type 0 where
   pub first : m .waiting q ≡ x ∷ xs
   pub before : (r : Sort) → rank r < rank q → m .waiting r ≡ []
@@ -53,14 +53,15 @@ pub record Next (m : Machine) (q : Sort) (x : Item) (xs : List Item) : Type 0 wh
 abbrev pub ofEntry : ℕ → Item → Bool
 ofEntry i x = eqb (x .entry) i
 
--- nothing is held at the start of the window; of a machine, in no end point
+-- nothing is held at the start of the window [W7]
 abbrev pub Free : End → Type 0
 Free e = (p : List ℕ) → getElem? (e .places) 0 ≢ some (some p)
 
+-- nor at that of any end point of a machine [W7]
 abbrev pub AllFree : Machine → Type 0
 AllFree m = (i : ℕ) (e : End) → Is m i e → Free e
 
--- d is what e becomes as it becomes s: start 1, nothing taken or held, no Urgent ("End points")
+-- d is what e becomes as it becomes s: start 1, nothing taken or held, no Urgent [E8]
 pub record Anew (s : State) (e d : End) : Type 0 where
   pub entry : d .entry ≡ e .entry
   pub state : d .state ≡ s
@@ -69,7 +70,7 @@ pub record Anew (s : State) (e d : End) : Type 0 where
   pub places : d .places ≡ replicate (e .entry .window) none
   pub urgent : d .urgent ≡ none
 
--- accepted and confirmed are kept
+-- accepted and confirmed are kept [E8]
 pub record SameCounts (e d : End) : Type 0 where
   pub accepted : d .accepted ≡ e .accepted
   pub confirmed : d .confirmed ≡ e .confirmed
@@ -77,31 +78,31 @@ pub record SameCounts (e d : End) : Type 0 where
 -- ---- the window
 
 -- rules out testing the window by comparing plain bytes: the number k past the start lies k past it, also where the
--- byte has gone round ("(s - start) mod 256 < W", "Three ways to wind it too far")
+-- byte has gone round [W1, O7]
 unfoldable pub WindowFolds : Type 0
 WindowFolds = (e : End) → e .start < 256 → (k : ℕ) → k < 256 → offset e (past e k) ≡ k
 
 -- ---- what no call alters
 
--- nothing but end points and what waits alters, there are as many end points, and each is of its entry
+-- nothing but end points and what waits alters, there are as many end points, and each is of its entry [T17]
 pub record Standing (m m′ : Machine) : Type 0 where
   pub head : node m′ (m .ends) (m .waiting) ≡ m
   pub count : length (m′ .ends) ≡ length (m .ends)
   pub entry : (i : ℕ) (e d : End) → Is m i e → Is m′ i d → d .entry ≡ e .entry
 
--- address, protocol ID, store and table stay ("The channel table": setup decides them)
+-- address, protocol ID, store and table stay: setup decides them [T17]
 unfoldable pub TableStays : Type 0
 TableStays = (m : Machine) (c : Call) → Standing m (after m c)
 
 -- rules out the one that lets the start wait for its host: what is at the start is delivered at once, so that after
--- setup and any calls nothing is held there ("Three ways to wind it too far")
+-- setup and any calls nothing is held there [W7]
 pub record StartStaysFree : Type 0 where
   pub first : (t : List ℕ) (room : ℕ) → AllFree (begun t room)
   pub then : (m : Machine) (c : Call) → AllFree m → AllFree (after m c)
 
--- ---- a refusal ("Refusal numbers": all lent memory, the node included, is then the same as before)
+-- ---- a refusal: all lent memory, the node included, is then the same as before
 
--- the block or the frame buffer that a call is lent
+-- the block or the frame buffer that a call is lent [R44]
 abbrev pub lent : Call → List ℕ
 lent (opens i) = []
 lent (closes i) = []
@@ -112,15 +113,15 @@ lent (arrives block f) = block
 lent (hands-out buffer) = buffer
 lent ticks = []
 
--- an answer that does not begin with 0 is a refusal, but for a tick, which refuses nothing
+-- an answer that does not begin with 0 is a refusal, but for a tick, which refuses nothing [R44]
 unfoldable pub RefusedStays : Type 0
 RefusedStays = (m : Machine) (c : Call) → c ≢ ticks → getD (answer m c .numbers) 0 0 ≢ 0
     → (after m c ≡ m) × (answer m c .out ≡ lent c)
 
--- ---- independence (the end of "End points": a call on one entry leaves every other's state, window, timers, counts)
+-- ---- independence: a call on one entry leaves every other's state, window, timers, counts
 
 -- the entry that a call is on: for an arrival the one that the frame is for, for handing out the owner of what goes
--- out; a tick is on all. Of a call that is refused RefusedStays says more.
+-- out; a tick is on all. Of a call that is refused RefusedStays says more. [I1]
 abbrev pub On : Machine → Call → ℕ → Type 0
 On m (opens j) i = j ≡ i
 On m (closes j) i = j ≡ i
@@ -131,11 +132,11 @@ On m (arrives block f) i = (h : Header) × (headerOf f ≡ read.Frame h) × (ent
 On m (hands-out buffer) i = (q : Sort) × (x : Item) × (xs : List Item) × Next m q x xs × (x .entry ≡ i)
 On m ticks i = Unit {0}
 
--- entry i and its share of what waits are as they were
+-- entry i and its share of what waits are as they were [I1]
 pub record Untouched (m m′ : Machine) (i : ℕ) : Type 0 where
   pub end : getElem? (m′ .ends) i ≡ getElem? (m .ends) i
   pub share : (q : Sort) → shareOf i (m′ .waiting q) ≡ shareOf i (m .waiting q)
 
--- rules out the one whose entries are tangled: what is not on an entry leaves it. For a tick see TickAlone.
+-- rules out the one whose entries are tangled: what is not on an entry leaves it. For a tick see TickAlone. [I1, I2]
 unfoldable pub OthersStay : Type 0
 OthersStay = (t : List ℕ) (m : Machine) → Sound t m → (c : Call) (i : ℕ) → (On m c i → ⊥) → Untouched m (after m c) i

@@ -1,7 +1,7 @@
 -- Laws of arrivals: what each frame that the remote end writes must do at the entry that it is for. They rule out a
--- node that refuses all, one that always answers "ignored", one that leaves its state alone, and one that delivers the
--- first payload and afterwards only acknowledges ("How tight the contracts are"). That nothing is held at the start of
--- a window is StartStaysFree of Laws.antt. Proved in proofs/Coming.antt, Receiving.antt, Acking.antt. Assumes nothing.
+-- node that refuses all, one that always answers "ignored", one that leaves its state alone, and one that delivers
+-- the first payload and afterwards only acknowledges. That nothing is held at the start of a window is StartStaysFree
+-- of Laws.antt. Proved in proofs/Coming.antt, Receiving.antt, Acking.antt. Assumes nothing.
 use Prim.Native.Nat.{ℕ, suc, _+_, _≤_, _<_}
 use mathlib.Core.Path.{_≡_}
 use mathlib.Core.Logic.{_≢_}
@@ -19,9 +19,9 @@ use Rattle.frame.specs.declared.Header.{Header}
 use Rattle.frame.specs.declared.Read.the-variants as read
 use Rattle.frame.specs.declared.FrameType.{FrameType}
 use Rattle.frame.specs.declared.FrameType.the-variants as type
-use Rattle.ends.specs.States.{isSends}
-use Rattle.ends.specs.declared.State.{State}
-use Rattle.ends.specs.declared.State.the-variants.{Closed, Enabled, Open, Failing}
+use Rattle.end_points.specs.States.{isSends}
+use Rattle.end_points.specs.declared.State.{State}
+use Rattle.end_points.specs.declared.State.the-variants.{Closed, Enabled, Open, Failing}
 use Rattle.blocks.specs.Blocks.{blockOf}
 use Rattle.blocks.specs.Reading.{readBlock}
 use Rattle.machine.specs.Calls.{Answer, arrives}
@@ -33,7 +33,7 @@ use Rattle.machine.specs.Laws.{Is, answer, after, item, WaitsLast, Free,
 -- ---- a frame for entry i, which is e
 
 -- whole and by the rules, to our address and protocol, of the entry's remote end and channel: its type, number and
--- payload
+-- payload [F16, R10, R11, R12, R13]
 pub record Comes (m : Machine) (f : List ℕ) (i : ℕ) (e : End) (t : FrameType) (s : ℕ) (p : List ℕ) : Type 0 where
   pub there : Is m i e
   pub byte : s < 256
@@ -47,7 +47,7 @@ pub record Comes (m : Machine) (f : List ℕ) (i : ℕ) (e : End) (t : FrameType
   pub number : header .seq .0 ≡ s
   pub payload : payloadOf f ≡ p
 
--- what that remote end writes into such a frame ("The frame")
+-- what that remote end writes into such a frame [F5, H6]
 abbrev pub fieldsFor : Machine → End → FrameType → ℕ → Fields
 fieldsFor m e t s =
     record {
@@ -60,15 +60,16 @@ fieldsFor m e t s =
       seq = record { 0 = s };
     }
 
--- each frame that it writes is such a frame: the laws on arrivals speak of something
+-- each frame that it writes is such a frame: the laws on arrivals speak of something [F1, F16]
 unfoldable pub WrittenComes : Type 0
 WrittenComes = (m : Machine) (i : ℕ) (e : End) (t : FrameType) (s : ℕ) (p : List ℕ) → Is m i e
     → isSends (e .entry .kind) ≡ forSender t → s < 256 → seqWrites t s ≡ true → suits t (length p) ≡ true
     → Comes m (frameBytes (fieldsFor m e t s) p) i e t s p
 
--- ---- Data ("Receiver Open, Data arrives")
+-- ---- Data
 
 -- an open receiver can take it in: the payload is not too long, an acknowledgement more can wait, the block has room
+-- [B2, R5, R14]
 pub record Ready (m : Machine) (e : End) (p block : List ℕ) : Type 0 where
   pub opened : e .state ≡ Open
   pub short : length p ≤ e .entry .largest
@@ -76,7 +77,7 @@ pub record Ready (m : Machine) (e : End) (p block : List ℕ) : Type 0 where
   pub room : blockRoom (e .entry) ≤ length block
 
 -- the answer is Data, the block holds these payloads and beyond its end nothing altered, and an acknowledgement of s
--- waits behind all others
+-- waits behind all others [A1, B1, B3, B4]
 pub record Told (m m′ : Machine) (a : Answer) (i s : ℕ) (ps : List (List ℕ)) (block : List ℕ) : Type 0 where
   pub numbers : a .numbers ≡ 0 ∷ 4 ∷ length (blockOf ps) ∷ []
   pub holds : readBlock (a .out) ≡ ps
@@ -84,7 +85,7 @@ pub record Told (m m′ : Machine) (a : Answer) (i s : ℕ) (ps : List (List ℕ
   pub behind : WaitsLast m m′ acks i s
 
 -- the number at the start: its payload is delivered first, and then every one held after it without a gap; the start
--- passes them all, and what is held behind the gap stays
+-- passes them all, and what is held behind the gap stays [W5]
 pub record Delivers (m m′ : Machine) (a : Answer) (i : ℕ) (e : End) (s : ℕ) (p block : List ℕ) : Type 0 where
   pub more : List (List ℕ)
   pub told : Told m m′ a i s (p ∷ more) block
@@ -94,19 +95,19 @@ pub record Delivers (m m′ : Machine) (a : Answer) (i : ℕ) (e : End) (s : ℕ
       Is m′ i (holding (byteOf (e .start + n)) (drop n (e .places) ++ replicate n none) e)
 
 -- rules out the one that delivers the first payload and afterwards only acknowledges: each payload at the start is
--- delivered
+-- delivered [W5, A1, B1, B2, B3, B4, O4]
 unfoldable pub StartDelivers : Type 0
 StartDelivers = (t : List ℕ) (m : Machine) → Sound t m → (i : ℕ) (e : End) (s : ℕ) (p block f : List ℕ)
     → Comes m f i e type.Data s p → Ready m e p block → Free e → offset e s ≡ 0
     → Delivers m (after m (arrives block f)) (answer m (arrives block f)) i e s p block
 
 -- a number in the window, after the start, and new: nothing is delivered yet; it is held at its place, and all else of
--- the end point stays
+-- the end point stays [W4]
 pub record Holds (m m′ : Machine) (a : Answer) (i : ℕ) (e : End) (s : ℕ) (p block : List ℕ) : Type 0 where
   pub told : Told m m′ a i s [] block
   pub end : Is m′ i (holding (e .start) (set (e .places) (offset e s) (some p)) e)
 
--- rules out the one that leaves its state alone: what comes out of order is kept for later
+-- rules out the one that leaves its state alone: what comes out of order is kept for later [W4, A1, B3, O4]
 unfoldable pub LaterHeld : Type 0
 LaterHeld = (t : List ℕ) (m : Machine) → Sound t m → (i : ℕ) (e : End) (s : ℕ) (p block f : List ℕ)
     → Comes m f i e type.Data s p → Ready m e p block → Free e
@@ -115,16 +116,17 @@ LaterHeld = (t : List ℕ) (m : Machine) → Sound t m → (i : ℕ) (e : End) (
 
 -- rules out the one that answers "ignored", and the one that does not acknowledge data outside the window: a number
 -- held already or outside is acknowledged again, nothing is delivered, and every end point is as it was
+-- [W6, A1, B3, O4]
 unfoldable pub OtherAcked : Type 0
 OtherAcked = (t : List ℕ) (m : Machine) → Sound t m → (i : ℕ) (e : End) (s : ℕ) (p block f : List ℕ)
     → Comes m f i e type.Data s p → Ready m e p block → getElem? (e .places) (offset e s) ≢ some none
     → Told m (after m (arrives block f)) (answer m (arrives block f)) i s [] block
     × (after m (arrives block f) .ends ≡ m .ends)
 
--- ---- a Reset and an Urgent ("Receiver, Reset arrives"; "Urgent at Open")
+-- ---- a Reset and an Urgent
 
 -- Open, start 1, nothing held; the answer says how many were held; the entry's waiting acknowledgements go, and
--- acknowledgement 0 waits behind all others'
+-- acknowledgement 0 waits behind all others' [E11, E12, E13]
 pub record Begins (m m′ : Machine) (a : Answer) (i : ℕ) (e : End) : Type 0 where
   pub numbers : a .numbers ≡ 0 ∷ 3 ∷ heldCount (e .places) ∷ []
   pub end : End
@@ -134,7 +136,8 @@ pub record Begins (m m′ : Machine) (a : Answer) (i : ℕ) (e : End) : Type 0 w
   pub behind : m′ .waiting acks ≡ without (ofEntry i) (m .waiting acks) ++ (item i 0 ∷ [])
   pub others : (q : Sort) → q ≢ acks → m′ .waiting q ≡ without (ofEntry i) (m .waiting q)
 
--- rules out the one that refuses all and the one that leaves its state alone: a Reset opens a receiver, Enabled or Open
+-- rules out the one that refuses all and the one that leaves its state alone: a Reset opens a receiver, Enabled or
+-- Open [E11, E12, E13, O4]
 unfoldable pub ResetBegins : Type 0
 ResetBegins = (t : List ℕ) (m : Machine) → Sound t m → (i : ℕ) (e : End) (s : ℕ) (p block f : List ℕ)
     → Comes m f i e type.Reset s p → e .state ≢ Closed → length (m .waiting acks) < mostAcks
@@ -142,7 +145,7 @@ ResetBegins = (t : List ℕ) (m : Machine) → Sound t m → (i : ℕ) (e : End)
     × (answer m (arrives block f) .out ≡ block)
 
 -- rules out the one that delivers only Data: an Urgent that comes at Open is delivered, is not acknowledged, and alters
--- nothing
+-- nothing [E16, B1, B2, B3, B4]
 unfoldable pub UrgentDelivers : Type 0
 UrgentDelivers = (t : List ℕ) (m : Machine) → Sound t m → (i : ℕ) (e : End) (s : ℕ) (p block f : List ℕ)
     → Comes m f i e type.Urgent s p → e .state ≡ Open → length p ≤ e .entry .largest
@@ -152,9 +155,9 @@ UrgentDelivers = (t : List ℕ) (m : Machine) → Sound t m → (i : ℕ) (e : E
     × (drop (10 + length p) (answer m (arrives block f) .out) ≡ drop (10 + length p) block)
     × (after m (arrives block f) ≡ m)
 
--- ---- acknowledgements ("Sender Enabled"; "Acknowledgement at Open or Failing")
+-- ---- acknowledgements
 
--- Open, start 1, nothing taken, counts 0, and nothing of it waits: its Reset is gone
+-- Open, start 1, nothing taken, counts 0, and nothing of it waits: its Reset is gone [E9, E10]
 pub record Opens (m m′ : Machine) (i : ℕ) (e : End) : Type 0 where
   pub end : End
   pub is : Is m′ i end
@@ -164,39 +167,41 @@ pub record Opens (m m′ : Machine) (i : ℕ) (e : End) : Type 0 where
   pub waiting : (q : Sort) → m′ .waiting q ≡ without (ofEntry i) (m .waiting q)
 
 -- rules out the one that always answers "ignored": acknowledgement 0 after a Reset handed out opens a sender
+-- [E9, E10, O4]
 unfoldable pub AckOpens : Type 0
 AckOpens = (t : List ℕ) (m : Machine) → Sound t m → (i : ℕ) (e : End) (timer : ℕ) (p block f : List ℕ)
     → Comes m f i e type.Acknowledge 0 p → e .state ≡ Enabled timer true
     → (answer m (arrives block f) .numbers ≡ 0 ∷ 2 ∷ []) × (answer m (arrives block f) .out ≡ block)
     × Opens m (after m (arrives block f)) i e
 
--- ignored: so it is answered, and nothing alters
+-- ignored: so it is answered, and nothing alters [A5]
 pub record Ignored (m m′ : Machine) (a : Answer) (block : List ℕ) : Type 0 where
   pub numbers : a .numbers ≡ 0 ∷ 0 ∷ []
   pub out : a .out ≡ block
   pub same : m′ ≡ m
 
--- rules out a sender that opens by itself: without a Reset handed out, or with another number, it is ignored
+-- rules out a sender that opens by itself: without a Reset handed out, or with another number, it is ignored [E9, A5]
 unfoldable pub EnabledIgnores : Type 0
 EnabledIgnores = (t : List ℕ) (m : Machine) → Sound t m
     → (i : ℕ) (e : End) (s timer : ℕ) (sent : Bool) (p block f : List ℕ)
     → Comes m f i e type.Acknowledge s p → e .state ≡ Enabled timer sent → (sent && eqb s 0) ≡ false
     → Ignored m (after m (arrives block f)) (answer m (arrives block f)) block
 
--- a sender's window is in use at Open and at Failing
+-- a sender's window is in use at Open and at Failing [A2]
 abbrev pub Runs : State → Type 0
 Runs Closed = ⊥
 Runs (Enabled t sent) = ⊥
 Runs Open = Unit {0}
 Runs (Failing n) = Unit {0}
 
--- at Open a waiting retransmission of s goes; Failing says how many timers still run
+-- at Open a waiting retransmission of s goes [A3]
 abbrev pub stopped : State → ℕ → ℕ → Sort → List Item → List Item
 stopped Closed i s q xs = xs
 stopped (Enabled t sent) i s q xs = xs
 stopped Open i s q xs = only resends (without (λ x. eqb (x .entry) i && eqb (x .number) s)) q xs
 stopped (Failing n) i s q xs = xs
 
+-- Failing says how many timers still run [E2]
 abbrev pub stateAfter : State → List Number → State
 stateAfter Closed ns = Closed
 stateAfter (Enabled t sent) ns = Enabled t sent
@@ -205,7 +210,7 @@ stateAfter (Failing n) ns = Failing (running ns)
 
 -- an acknowledgement of s, which is x, that counts. Of the numbers with s acknowledged and its timer stopped, the start
 -- passes those acknowledged without a gap: all that it passes are, and the next is not or there is none. As many are
--- answered and confirmed; the retransmission of s, if it waits, goes.
+-- answered and confirmed; the retransmission of s, if it waits, goes. [W8, A3, A4]
 pub record Confirms (m m′ : Machine) (a : Answer) (i : ℕ) (e : End) (s : ℕ) (x : Number) : Type 0 where
   pub passed : ℕ
   pub numbers : a .numbers ≡ 0 ∷ 1 ∷ passed ∷ []
@@ -227,6 +232,7 @@ pub record Confirms (m m′ : Machine) (a : Answer) (i : ℕ) (e : End) (s : ℕ
   pub waiting : (q : Sort) → m′ .waiting q ≡ stopped (e .state) i s q (m .waiting q)
 
 -- rules out the one that always answers "ignored": a number handed out and not yet acknowledged counts
+-- [W8, A2, A3, A4, O4]
 unfoldable pub AckConfirms : Type 0
 AckConfirms = (t : List ℕ) (m : Machine) → Sound t m → (i : ℕ) (e : End) (s : ℕ) (x : Number) (p block f : List ℕ)
     → Comes m f i e type.Acknowledge s p → Runs (e .state)
@@ -234,7 +240,7 @@ AckConfirms = (t : List ℕ) (m : Machine) → Sound t m → (i : ℕ) (e : End)
     → Confirms m (after m (arrives block f)) (answer m (arrives block f)) i e s x
     × (answer m (arrives block f) .out ≡ block)
 
--- rules out a confirmed count out of thin air: any other is ignored
+-- rules out a confirmed count out of thin air: any other is ignored [A2, A5, O5]
 unfoldable pub OtherIgnored : Type 0
 OtherIgnored = (t : List ℕ) (m : Machine) → Sound t m → (i : ℕ) (e : End) (s : ℕ) (p block f : List ℕ)
     → Comes m f i e type.Acknowledge s p → Runs (e .state)

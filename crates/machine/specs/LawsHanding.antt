@@ -12,8 +12,8 @@ use Rattle.frame.specs.Reading.{soundOf, headerOf, readOf}
 use Rattle.frame.specs.Types.{forSender}
 use Rattle.frame.specs.declared.Header.{Header}
 use Rattle.frame.specs.declared.Read.the-variants as read
-use Rattle.ends.specs.States.{isSends}
-use Rattle.ends.specs.declared.State.the-variants.{Enabled}
+use Rattle.end_points.specs.States.{isSends}
+use Rattle.end_points.specs.declared.State.the-variants.{Enabled}
 use Rattle.machine.specs.Calls.{Answer, hands-out}
 use Rattle.machine.specs.Machine.{Number, End, Item, Sort, acks, resets, urgents, resends, datas, Machine}
 use Rattle.machine.specs.Machine.{number, stated, numbered, urging, offset, isOurs, typeOf, carried, frameOf}
@@ -21,21 +21,21 @@ use Rattle.machine.specs.Sound.{Sound}
 use Rattle.machine.specs.Laws.{Is, answer, after, Next}
 use Rattle.machine.specs.LawsArriving.{Comes}
 
--- ---- what goes out ("Handing out")
+-- ---- what goes out
 
--- something goes out next, or nothing waits: the laws below speak of every machine
+-- something goes out next, or nothing waits: the laws below speak of every machine [H1, H5]
 unfoldable pub NextOrNone : Type 0
 NextOrNone = (m : Machine)
     → ((q : Sort) × (x : Item) × (xs : List Item) × Next m q x xs) ⊎ ((q : Sort) → m .waiting q ≡ [])
 
--- of e the number s is handed out and its timer starts at T, its payload and retries stay, and so does all else
+-- of e the number s is handed out and its timer starts at T, its payload and retries stay, and so does all else [D2]
 pub record Timed (e : End) (s : ℕ) (d : End) : Type 0 where
   pub was : Number
   pub there : getElem? (e .numbers) (offset e s) ≡ some was
   pub is : let x = number (was .payload) (was .retries) true false (e .entry .timeout) in
       d ≡ numbered (e .start) (set (e .numbers) (offset e s) x) e
 
--- how an end point alters when number s of a sort goes out: a timer starts at T; an Urgent is no longer kept
+-- how an end point alters when number s of a sort goes out: a timer starts at T; an Urgent is no longer kept [D2]
 abbrev pub Sent : Sort → End → ℕ → End → Type 0
 Sent acks e s d = d ≡ e
 Sent resets e s d = d ≡ stated (Enabled (e .entry .timeout) true) e
@@ -44,7 +44,7 @@ Sent resends e s d = Timed e s d
 Sent datas e s d = Timed e s d
 
 -- x of sort q goes out, and its entry is e: its frame, of 9 bytes or more, stands at the buffer's start, the bytes
--- after it stay, and its length is answered; of the sort the rest stays, and all other sorts
+-- after it stay, and its length is answered; of the sort the rest stays, and all other sorts [H1, H4]
 pub record HandsOut (m m′ : Machine) (a : Answer) (q : Sort) (x : Item) (xs : List Item) (e : End)
     (buffer : List ℕ) : Type 0 where
   pub long : 9 ≤ length (frameOf m q e (x .number))
@@ -57,28 +57,28 @@ pub record HandsOut (m m′ : Machine) (a : Answer) (q : Sort) (x : Item) (xs : 
   pub is : Is m′ (x .entry) end
   pub sent : Sent q e (x .number) end
 
--- rules out the one that refuses all, and one that never hands out what waits
+-- rules out the one that refuses all, and one that never hands out what waits [D2, H1, H2, H3, H4, O4]
 unfoldable pub WaitingGoesOut : Type 0
 WaitingGoesOut = (t : List ℕ) (m : Machine) → Sound t m → (q : Sort) (x : Item) (xs : List Item) → Next m q x xs
     → (e : End) × Is m (x .entry) e × ((buffer : List ℕ) → length (frameOf m q e (x .number)) ≤ length buffer
     → HandsOut m (after m (hands-out buffer)) (answer m (hands-out buffer)) q x xs e buffer)
 
--- a buffer that is too short: 6, and all is as it was
+-- a buffer that is too short: 6, and all is as it was [R6, R38, R44]
 unfoldable pub TooShortStays : Type 0
 TooShortStays = (t : List ℕ) (m : Machine) → Sound t m → (q : Sort) (x : Item) (xs : List Item) → Next m q x xs
     → (e : End) → Is m (x .entry) e → (buffer : List ℕ) → length buffer < length (frameOf m q e (x .number))
     → (answer m (hands-out buffer) .numbers ≡ 6 ∷ []) × (answer m (hands-out buffer) .out ≡ buffer)
     × (after m (hands-out buffer) ≡ m)
 
--- nothing waiting: length 0, with any frame buffer, and all is as it was
+-- nothing waiting: length 0, with any frame buffer, and all is as it was [H5]
 unfoldable pub NothingOut : Type 0
 NothingOut = (t : List ℕ) (m : Machine) → Sound t m → ((q : Sort) → m .waiting q ≡ []) → (buffer : List ℕ)
     → (answer m (hands-out buffer) .numbers ≡ 0 ∷ 0 ∷ []) × (answer m (hands-out buffer) .out ≡ buffer)
     × (after m (hands-out buffer) ≡ m)
 
--- ---- how it reads ("The frame")
+-- ---- how it reads
 
--- f is read as the frame of number s of a sort, from our address to the entry's remote end, with what it carries
+-- f is read as the frame of number s of a sort, from our address to the entry's remote end, with what it carries [H6]
 pub record ReadsAs (m : Machine) (q : Sort) (e : End) (s : ℕ) (f : List ℕ) : Type 0 where
   pub header : Header
   pub reads : readOf f ≡ read.Frame header
@@ -91,19 +91,19 @@ pub record ReadsAs (m : Machine) (q : Sort) (e : End) (s : ℕ) (f : List ℕ) :
   pub size : header .length ≡ length (carried q e s)
   pub payload : payloadOf f ≡ carried q e s
 
--- what waits goes out as a frame that reads as what was meant
+-- what waits goes out as a frame that reads as what was meant [H6]
 unfoldable pub ReadsBack : Type 0
 ReadsBack = (t : List ℕ) (m : Machine) → Sound t m → (q : Sort) (x : Item) → List·Memᴰ x (m .waiting q)
     → (e : End) → Is m (x .entry) e → ReadsAs m q e (x .number) (frameOf m q e (x .number))
 
--- and the machine n at its other end does not refuse it with 10, 11 or 12
+-- and the machine n at its other end does not refuse it with 10, 11 or 12 [R10, R11, R12]
 unfoldable pub PairedTakes : Type 0
 PairedTakes = (m n : Machine) (q : Sort) (e : End) (s : ℕ) (f : List ℕ) → (r : ReadsAs m q e s f)
     → n .own ≡ e .entry .remote → n .protocol ≡ m .protocol
     → (soundOf f ≡ true) × (isOurs n f ≡ true) × (headerOf f ≡ read.Frame (r .header))
 
 -- at an entry of n that names m, over the same channel and of the kind that takes such frames, it comes: so what is
--- handed out here does there what LawsArriving.antt says
+-- handed out here does there what LawsArriving.antt says [F16, H6]
 unfoldable pub HandedComes : Type 0
 HandedComes = (m n : Machine) (q : Sort) (e : End) (s : ℕ) (f : List ℕ) → ReadsAs m q e s f → s < 256
     → n .own ≡ e .entry .remote → n .protocol ≡ m .protocol

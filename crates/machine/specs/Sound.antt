@@ -11,22 +11,22 @@ use Rattle.table.specs.Layout.{countOf, ownOf, protocolOf, entryOf}
 use Rattle.table.specs.Areas.{storeOf}
 use Rattle.table.specs.Rules.{goodTable}
 use Rattle.table.specs.declared.Entry.{Entry}
-use Rattle.ends.specs.States.{isSends}
-use Rattle.ends.specs.declared.State.the-variants.{Enabled, Open, Failing}
+use Rattle.end_points.specs.States.{isSends}
+use Rattle.end_points.specs.declared.State.the-variants.{Enabled, Open, Failing}
 use Rattle.machine.specs.Machine.{Number, End, Item, Sort, acks, resets, urgents, resends, datas, Machine}
 use Rattle.machine.specs.Machine.{mostAcks, offset, numberAt}
 
--- a payload of 1 to P bytes
+-- a payload of 1 to P bytes [R5]
 pub record Sized (x : Entry) (p : List ℕ) : Type 0 where
   pub some : 1 ≤ length p
   pub most : length p ≤ x .largest
 
--- a receiver takes no numbers, and never fails
+-- a receiver takes no numbers, and never fails [H7]
 pub record Receives (e : End) : Type 0 where
   pub numbers : e .numbers ≡ []
   pub runs : (timers : ℕ) → e .state ≡ Failing timers → ⊥
 
--- an end point of the entry x
+-- an end point of the entry x [E15, W3, W4]
 pub record Bounded (x : Entry) (e : End) : Type 0 where
   pub entry : e .entry ≡ x
   pub start : e .start < 256
@@ -39,10 +39,12 @@ pub record Bounded (x : Entry) (e : End) : Type 0 where
 
 -- ---- what may wait for end point e
 
+-- an acknowledgement: of a receiver that is Open [E14, H7]
 pub record WaitsAck (e : End) : Type 0 where
   pub receives : isSends (e .entry .kind) ≡ false
   pub opened : e .state ≡ Open
 
+-- a Reset, with number 0: of a sender that is Enabled [F14, E5, E14, H7]
 pub record WaitsReset (e : End) (s : ℕ) : Type 0 where
   pub sends : isSends (e .entry .kind) ≡ true
   pub zero : s ≡ 0
@@ -50,19 +52,21 @@ pub record WaitsReset (e : End) (s : ℕ) : Type 0 where
   pub sent : Bool
   pub enabled : e .state ≡ Enabled timer sent
 
+-- an Urgent, with number 0 and its payload: of a sender [F15, E15, H7]
 pub record WaitsUrgent (e : End) (s : ℕ) : Type 0 where
   pub sends : isSends (e .entry .kind) ≡ true
   pub zero : s ≡ 0
   pub payload : List ℕ
   pub there : e .urgent ≡ some payload
 
--- a number taken and not yet acknowledged
+-- a number taken and not yet acknowledged [E14, H7]
 pub record WaitsData (e : End) (s : ℕ) : Type 0 where
   pub sends : isSends (e .entry .kind) ≡ true
   pub opened : e .state ≡ Open
   pub taken : offset e s < length (e .numbers)
   pub missing : numberAt e s .acked ≡ false
 
+-- what may wait, by its sort [H7]
 abbrev pub Waits : Sort → End → ℕ → Type 0
 Waits acks e s = WaitsAck e
 Waits resets e s = WaitsReset e s
@@ -70,6 +74,7 @@ Waits urgents e s = WaitsUrgent e s
 Waits resends e s = WaitsData e s
 Waits datas e s = WaitsData e s
 
+-- what waits is a frame of an end point that there is, and may go out [H7]
 pub record Owned (m : Machine) (q : Sort) (x : Item) : Type 0 where
   pub end : End
   pub there : getElem? (m .ends) (x .entry) ≡ some end
@@ -78,6 +83,8 @@ pub record Owned (m : Machine) (q : Sort) (x : Item) : Type 0 where
 
 -- ---- the whole, for the table that it was set up from
 
+-- set up from the table t, with a store that is long enough; every end point within its bounds, and nothing waits
+-- that may not go out [T17, I2, O2]
 pub record Sound (t : List ℕ) (m : Machine) : Type 0 where
   pub table : goodTable t ≡ true
   pub own : m .own ≡ ownOf t

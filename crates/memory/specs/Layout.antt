@@ -1,6 +1,6 @@
 -- What lies where in the node (words of 64 bits) and in the book (words of 16 bits). One field a word, nothing packed
 -- but the index. Cited by whatever reads or writes either. All zeros is a new node. Assumes nothing.
-use Prim.Native.Nat.{ℕ, _+_, _*_}
+use Prim.Native.Nat.{ℕ, _+_, _-_, _*_, _/_, _%_}
 
 -- ---- the node
 
@@ -20,15 +20,19 @@ protocolAt = 2
 abbrev pub needAt : ℕ
 needAt = 3
 
--- the waiting acknowledgements: the oldest one's place, how many, and 32 places
+-- the waiting acknowledgements: the oldest one's place, how many, and their places
 abbrev pub oldestAt : ℕ
 oldestAt = 4
 
 abbrev pub acksAt : ℕ
 acksAt = 5
 
+-- and 32 places [I2]
 abbrev pub ackAt : ℕ → ℕ
 ackAt k = 32 + k
+
+abbrev pub ackPlaces : ℕ
+ackPlaces = 32
 
 -- the number of the last tick, and how many more pass before a timer can run out (crates/timing)
 abbrev pub clockAt : ℕ
@@ -37,17 +41,80 @@ clockAt = 6
 abbrev pub quietAt : ℕ
 quietAt = 7
 
--- row v of the index, where frames find their entry: three sets of entries, a binary digit each (crates/lookup)
+-- row v of the index, where frames find their entry: three sets of entries, a binary digit each (crates/arrive_lookup)
 abbrev pub rowAt : ℕ → ℕ
 rowAt v = 64 + v
 
--- entry i: eight words of the table's, from the ninth on its state and its run
+-- entry i, of 32 words
 abbrev pub entryAt : ℕ → ℕ
 entryAt i = 320 + 32 * i
 
+-- an entry's words: what the table says of it, and where its part of the store begins
+abbrev pub kindWord : ℕ
+kindWord = 0
+
+abbrev pub remoteWord : ℕ
+remoteWord = 1
+
+abbrev pub channelWord : ℕ
+channelWord = 2
+
+abbrev pub retriesWord : ℕ
+retriesWord = 3
+
+abbrev pub windowWord : ℕ
+windowWord = 4
+
+abbrev pub largestWord : ℕ
+largestWord = 5
+
+abbrev pub timeoutWord : ℕ
+timeoutWord = 6
+
+abbrev pub placeWord : ℕ
+placeWord = 7
+
+-- its state: which one, its timer or count of timers, and whether a Reset went out
+abbrev pub stateWord : ℕ
+stateWord = 8
+
+abbrev pub stateValueWord : ℕ
+stateValueWord = 9
+
+abbrev pub stateFlagWord : ℕ
+stateFlagWord = 10
+
+-- its run
+abbrev pub startWord : ℕ
+startWord = 11
+
+abbrev pub lowMarksWord : ℕ
+lowMarksWord = 12
+
+abbrev pub highMarksWord : ℕ
+highMarksWord = 13
+
+abbrev pub takenWord : ℕ
+takenWord = 14
+
+abbrev pub handedWord : ℕ
+handedWord = 15
+
+abbrev pub acceptedWord : ℕ
+acceptedWord = 16
+
+abbrev pub confirmedWord : ℕ
+confirmedWord = 17
+
+abbrev pub urgentWord : ℕ
+urgentWord = 18
+
 -- ---- the book
 
--- what can wait has a number: 0 to 3 are the four queues themselves
+abbrev pub bookHalves : ℕ
+bookHalves = 10368
+
+-- what can wait has a number: first the four queues themselves
 abbrev pub resets : ℕ
 resets = 0
 
@@ -60,27 +127,48 @@ resends = 2
 abbrev pub datas : ℕ
 datas = 3
 
--- entry i's Reset and its Urgent; the payload in slot k of entry i
+abbrev pub queues : ℕ
+queues = 4
+
+-- then entry i's Reset, and whose Reset x is
 abbrev pub resetId : ℕ → ℕ
 resetId i = 16 + i
 
+abbrev pub resetEntry : ℕ → ℕ
+resetEntry x = (x - 16) % 256
+
+-- entry i's Urgent, and whose Urgent x is
 abbrev pub urgentId : ℕ → ℕ
 urgentId i = 32 + i
 
-abbrev pub slotOf : ℕ → ℕ → ℕ
-slotOf i k = 128 * i + k
+abbrev pub urgentEntry : ℕ → ℕ
+urgentEntry x = (x - 32) % 256
 
-abbrev pub slotId : ℕ → ℕ
-slotId g = 64 + g
+-- the payload in cell g, and which cell x is
+abbrev pub cellId : ℕ → ℕ
+cellId g = 64 + g
 
--- its links: what waits behind it, and what before it
+abbrev pub idCell : ℕ → ℕ
+idCell x = x - 64
+
+-- the cell of slot k of entry i, and whose cell and which slot of its x is
+abbrev pub cellOf : ℕ → ℕ → ℕ
+cellOf i k = 128 * i + k
+
+abbrev pub idEntry : ℕ → ℕ
+idEntry x = idCell x / 128 % 256
+
+abbrev pub idSlot : ℕ → ℕ
+idSlot x = idCell x % 128
+
+-- the links of what waits: what is behind it, and what before it
 abbrev pub nextAt : ℕ → ℕ
 nextAt x = x
 
 abbrev pub prevAt : ℕ → ℕ
 prevAt x = 2112 + x
 
--- slot g: the payload's length, its timer (the tick at which it runs out, crates/timing), its retries
+-- cell g: the payload's length, its timer (the tick at which it runs out, crates/timing), its retries
 abbrev pub lengthAt : ℕ → ℕ
 lengthAt g = 4224 + g
 

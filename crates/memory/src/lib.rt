@@ -1,15 +1,12 @@
 // The node's memory: lent words of 64 bits (the node) and of 16 bits (its book), and what lies where in them.
 // Proved: a read is `getD`, a store is `set`, for every index: past the end a read gives 0 and a store
 // alters nothing, so that no caller has to say how long what it was lent is. specs/Layout.antt is the map.
+pub mod layout; // layout.rt: what lies where
+
 use units::bytes::least;
 ghost use mathlib.Core.Path.{_≡_};
 ghost use lib.ListN.{getD, set};
 ghost use lib.Seq.{sets};
-
-// The node: a head, the waiting acknowledgements, the index, sixteen entries (Layout.antt).
-pub const NODE_WORDS: usize = 832;
-// The book: links of what waits, and each slot's length, timer and retries (Layout.antt).
-pub const BOOK_HALVES: usize = 10368;
 
 // The word at an index.
 pub fn word_at(ws: &[u64], i: usize) -> u64

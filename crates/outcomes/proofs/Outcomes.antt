@@ -29,15 +29,15 @@ use Rattle.frame.specs.Types.{typeNumber}
 use Rattle.frame.specs.Writing.{writeAnswer, writtenOf}
 use Rattle.frame.specs.declared.Fields.{Fields}
 use Rattle.frame.specs.declared.FrameType.{FrameType}
-use Rattle.ends.specs.Answers.{answerOf, countedOf, arrivedOf, handedOf}
-use Rattle.ends.specs.Lent.{Lent}
-use Rattle.opening.specs.Opening.{openAnswer, openAfter, closeAnswer, closeAfter, countsAnswer}
-use Rattle.opening.specs.Setup.{setupAnswer, setupAfter}
-use Rattle.sending.specs.Sending.{sendAnswer, sendAfter, urgentAnswer, urgentAfter}
-use Rattle.arriving.specs.Arriving.{arrivalAnswer, arrivalAfter}
-use Rattle.handing.specs.Handing.{handAnswer, handAfter}
-use Rattle.ticking.specs.Ticking.{tickAnswer, tickAfter}
-use Rattle.lent.specs.Received.{receivedOf}
+use Rattle.end_points.specs.Answers.{answerOf, countedOf, arrivedOf, handedOf}
+use Rattle.end_points.specs.Lent.{Lent}
+use Rattle.call_open.specs.Opening.{openAnswer, openAfter, closeAnswer, closeAfter, countsAnswer}
+use Rattle.call_open.specs.Setup.{setupAnswer, setupAfter}
+use Rattle.call_send.specs.Sending.{sendAnswer, sendAfter, urgentAnswer, urgentAfter}
+use Rattle.call_arrive.specs.Arriving.{arrivalAnswer, arrivalAfter}
+use Rattle.call_hand_out.specs.Handing.{handOutAnswer, handOutAfter}
+use Rattle.call_tick.specs.Ticking.{tickAnswer, tickAfter}
+use Rattle.lent_window.specs.Received.{receivedOf}
 use Rattle.firmware.specs.Firmware.{readNumber, readFields, fieldsIn, writeNumber, windowNumber}
 use Rattle.firmware.specs.Nodes.{refusalIn, valueIn, valuesIn}
 use Rattle.io.specs.Digits.{Fewest}
@@ -72,7 +72,7 @@ urgent-one x i p = one-outcome
 pub arrival-one : (x : Lent) (f : List ℕ) → One (arrivalAnswer x f) (λ _. arrivalAfter x f)
 arrival-one x f = one-outcome
 
-pub hand-out-one : (x : Lent) → One (handAnswer x) (handAfter x)
+pub hand-out-one : (x : Lent) → One (handOutAnswer x) (handOutAfter x)
 hand-out-one x = one-outcome
 
 pub tick-one : (x : Lent) → One (tickAnswer x) (λ _. tickAfter x)
@@ -138,7 +138,7 @@ window-reset-one w = one-outcome
 pub window-held-count-one : (w : Window) → OneAnswer (heldCount w)
 window-held-count-one w = one-outcome
 
--- ---- the window that is lent (crates/lent)
+-- ---- the window that is lent (crates/lent_window)
 
 pub lent-inside-one : (w : Window) (s : Seq) → OneAnswer (insideOf w (s .0))
 lent-inside-one w s = one-outcome
@@ -245,7 +245,7 @@ shelugvar-urgent-one x i p = one-outcome
 pub shelugvar-arrival-one : (x : Lent) (f values : List ℕ) → One {B = Lent × List ℕ} (refusalIn (arrivedOf (arrivalAnswer x f))) (λ _. (arrivalAfter x f, valuesIn (arrivedOf (arrivalAnswer x f)) values))
 shelugvar-arrival-one x f values = one-outcome
 
-pub shelugvar-hand-out-one : (x : Lent) (value : ℕ) → One {B = Lent × ℕ} (refusalIn (handedOf (handAnswer x))) (λ _. (handAfter x (handAnswer x), valueIn (handedOf (handAnswer x)) value))
+pub shelugvar-hand-out-one : (x : Lent) (value : ℕ) → One {B = Lent × ℕ} (refusalIn (handedOf (handOutAnswer x))) (λ _. (handOutAfter x (handOutAnswer x), valueIn (handedOf (handOutAnswer x)) value))
 shelugvar-hand-out-one x value = one-outcome
 
 pub shelugvar-tick-one : (x : Lent) → One (tickAnswer x) (λ _. tickAfter x)

@@ -20,25 +20,25 @@ use Rattle.frame.specs.declared.FrameType.the-variants as type
 use Rattle.frame.specs.declared.Read.{Read}
 use Rattle.frame.specs.declared.Read.the-variants as read
 use Rattle.frame.specs.declared.Written.the-variants as written
-use Rattle.ends.specs.Answers.{answerOf, countedOf, arrivedOf, handedOf}
-use Rattle.ends.specs.Ends.{endOf}
-use Rattle.ends.specs.Lent.{Lent}
-use Rattle.ends.specs.declared.EndPoint.{EndPoint}
-use Rattle.ends.specs.declared.State.{State}
-use Rattle.ends.specs.declared.State.the-variants.{Closed, Enabled, Open, Failing}
-use Rattle.ends.specs.declared.answers.Arrived.{Arrived}
-use Rattle.ends.specs.declared.answers.Arrived.the-variants as arrived
-use Rattle.ends.specs.declared.answers.Counted.{Counted}
-use Rattle.ends.specs.declared.answers.Counted.the-variants as counted
-use Rattle.ends.specs.declared.answers.HandedOut.{HandedOut}
-use Rattle.ends.specs.declared.answers.HandedOut.the-variants as handed
-use Rattle.opening.specs.Opening.{openAnswer, openAfter, closeAnswer, closeAfter, countsAnswer}
-use Rattle.opening.specs.Setup.{setupAnswer, setupAfter}
-use Rattle.sending.specs.Sending.{sendAnswer, sendAfter, urgentAnswer, urgentAfter}
-use Rattle.acking.specs.Acking.{counts, passing, ackAnswer}
-use Rattle.receiving.specs.Receiving.{resetAnswer, dataAnswer, urgentAnswer as urgentTaken}
-use Rattle.arriving.specs.Arriving.{frameTests, entryOf, entryVerdict, takenAnswer, answerAs, afterAs, entryAnswer, entryAfter, readAnswer, readAfter, arrivalAnswer, arrivalAfter}
-use Rattle.handing.specs.Handing.{handAnswer, handAfter}
+use Rattle.end_points.specs.Answers.{answerOf, countedOf, arrivedOf, handedOf}
+use Rattle.end_points.specs.Ends.{endOf}
+use Rattle.end_points.specs.Lent.{Lent}
+use Rattle.end_points.specs.declared.EndPoint.{EndPoint}
+use Rattle.end_points.specs.declared.State.{State}
+use Rattle.end_points.specs.declared.State.the-variants.{Closed, Enabled, Open, Failing}
+use Rattle.end_points.specs.declared.answers.Arrived.{Arrived}
+use Rattle.end_points.specs.declared.answers.Arrived.the-variants as arrived
+use Rattle.end_points.specs.declared.answers.Counted.{Counted}
+use Rattle.end_points.specs.declared.answers.Counted.the-variants as counted
+use Rattle.end_points.specs.declared.answers.HandedOut.{HandedOut}
+use Rattle.end_points.specs.declared.answers.HandedOut.the-variants as handed
+use Rattle.call_open.specs.Opening.{openAnswer, openAfter, closeAnswer, closeAfter, countsAnswer}
+use Rattle.call_open.specs.Setup.{setupAnswer, setupAfter}
+use Rattle.call_send.specs.Sending.{sendAnswer, sendAfter, urgentAnswer, urgentAfter}
+use Rattle.arrive_ack.specs.Acking.{counts, passing, ackAnswer}
+use Rattle.arrive_data.specs.Receiving.{resetAnswer, dataAnswer, urgentAnswer as urgentTaken}
+use Rattle.call_arrive.specs.Arriving.{frameTests, entryOf, entryVerdict, takenAnswer, answerAs, afterAs, entryAnswer, entryAfter, readAnswer, readAfter, arrivalAnswer, arrivalAfter}
+use Rattle.call_hand_out.specs.Handing.{handOutAnswer, handOutAfter}
 use Rattle.firmware.specs.Firmware.{readNumber, readFields, fieldsIn, writeNumber}
 use Rattle.firmware.specs.Nodes.{refusalIn, valueIn, valuesIn}
 use Rattle.outcomes.specs.Outcome.{Spares, IsRefused, NotZero}
@@ -69,9 +69,9 @@ pub urgent-refused : (x : Lent) (i : ℕ) (p : List ℕ) → Spares (IsRefused v
 unfolding urgentAfter
 urgent-refused x i p = spares (IsRefused verdicts.Refused) (λ u. ap (urgentAfter x i p) (u .1))
 
-pub hand-out-refused : (x : Lent) → Spares (IsRefused handed.Refused) (handAnswer x) (handAfter x) x
-unfolding handAfter
-hand-out-refused x = spares (IsRefused handed.Refused) (λ u. ap (handAfter x) (u .1))
+pub hand-out-refused : (x : Lent) → Spares (IsRefused handed.Refused) (handOutAnswer x) (handOutAfter x) x
+unfolding handOutAfter
+hand-out-refused x = spares (IsRefused handed.Refused) (λ u. ap (handOutAfter x) (u .1))
 
 -- ---- an arrival: refused by a test, it alters nothing; taken in, it is not refused
 
@@ -175,13 +175,13 @@ arrived-in x f values (arrived.Refused w) e z = (arrival-spared w x f e, refl)
 pub shelugvar-arrival-refused : (x : Lent) (f values : List ℕ) → Spares {B = Lent × List ℕ} NotZero (refusalIn (arrivedOf (arrivalAnswer x f))) (λ _. (arrivalAfter x f, valuesIn (arrivedOf (arrivalAnswer x f)) values)) (x, values)
 shelugvar-arrival-refused x f values = spares NotZero (λ z. let b = arrived-in x f values (arrivalAnswer x f) refl z in rw (b .0, b .1))
 
-handed-in : (x : Lent) (value : ℕ) (a : HandedOut) → NotZero (refusalIn (handedOf a)) → (handAfter x a ≡ x) × (valueIn (handedOf a) value ≡ value)
-unfolding handAfter valueIn
+handed-in : (x : Lent) (value : ℕ) (a : HandedOut) → NotZero (refusalIn (handedOf a)) → (handOutAfter x a ≡ x) × (valueIn (handedOf a) value ≡ value)
+unfolding handOutAfter valueIn
 handed-in x value (handed.Length n) z = absurd (z refl)
 handed-in x value (handed.Refused w) z = (refl, refl)
 
-pub shelugvar-hand-out-refused : (x : Lent) (value : ℕ) → Spares {B = Lent × ℕ} NotZero (refusalIn (handedOf (handAnswer x))) (λ _. (handAfter x (handAnswer x), valueIn (handedOf (handAnswer x)) value)) (x, value)
-shelugvar-hand-out-refused x value = spares NotZero (λ z. let b = handed-in x value (handAnswer x) z in rw (b .0, b .1))
+pub shelugvar-hand-out-refused : (x : Lent) (value : ℕ) → Spares {B = Lent × ℕ} NotZero (refusalIn (handedOf (handOutAnswer x))) (λ _. (handOutAfter x (handOutAnswer x), valueIn (handedOf (handOutAnswer x)) value)) (x, value)
+shelugvar-hand-out-refused x value = spares NotZero (λ z. let b = handed-in x value (handOutAnswer x) z in rw (b .0, b .1))
 
 read-in : (r : Read) (fields : List ℕ) → NotZero (readNumber r) → readFields r fields ≡ fields
 unfolding readFields

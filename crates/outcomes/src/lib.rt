@@ -1,2 +1,2 @@
-// Only one outcome is possible (01, "How tight the contracts are"), for each public function, and a refused call leaves
-// all as it was. No code: what an outcome is in specs/Outcome.antt, the laws in proofs/.
+// Only one outcome is possible, for each public function, and a refused call leaves all as it was. No code: what an
+// outcome is in specs/Outcome.antt, the laws in proofs/.

@@ -25,11 +25,11 @@ use Rattle.frame.specs.declared.Read.{Read}
 use Rattle.frame.specs.declared.Read.the-variants as read
 use Rattle.frame.specs.declared.FrameType.{FrameType}
 use Rattle.frame.specs.declared.FrameType.the-variants as type
-use Rattle.ends.specs.States.{isSends}
-use Rattle.ends.specs.declared.State.{State}
-use Rattle.ends.specs.declared.State.the-variants.{Closed, Enabled, Open, Failing}
-use Rattle.ends.specs.declared.answers.Arrived.the-variants as was
-use Rattle.lookup.proofs.Found.{Fitting}
+use Rattle.end_points.specs.States.{isSends}
+use Rattle.end_points.specs.declared.State.{State}
+use Rattle.end_points.specs.declared.State.the-variants.{Closed, Enabled, Open, Failing}
+use Rattle.end_points.specs.declared.answers.Arrived.the-variants as was
+use Rattle.arrive_lookup.proofs.Found.{Fitting}
 use Rattle.machine.specs.Machine.{End, Machine, Outcome, found, judged, told, isOurs, entryTests, entryFor, isNew, numberAt, acking, receiving, resetting, taken, reading, arriving, step}
 use Rattle.machine.specs.Calls.{arrives}
 use Rattle.machine.specs.Sound.{Sound}

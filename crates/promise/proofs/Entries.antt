@@ -18,9 +18,9 @@ use Rattle.table.proofs.Every.{both}
 use Rattle.table.proofs.Good.{one-entry}
 use Rattle.frame.specs.Types.{forSender}
 use Rattle.frame.specs.declared.Header.{Header}
-use Rattle.ends.specs.States.{isSends}
-use Rattle.lookup.specs.Fitting.{fits}
-use Rattle.lookup.proofs.Found.{Fitting, fitting}
+use Rattle.end_points.specs.States.{isSends}
+use Rattle.arrive_lookup.specs.Fitting.{fits}
+use Rattle.arrive_lookup.proofs.Found.{Fitting, fitting}
 use Rattle.machine.specs.Machine.{End, Machine, placeOf, entryFor}
 use Rattle.machine.specs.Sound.{Receives, Sound}
 use Rattle.machine.proofs.Entries.{not-none, elem-lt}

@@ -17,7 +17,7 @@ use Rattle.table.specs.Layout.{entryOf}
 use Rattle.frame.specs.Reading.{soundOf, readOf}
 use Rattle.frame.specs.declared.Header.{Header}
 use Rattle.frame.specs.declared.Read.the-variants as read
-use Rattle.ends.specs.States.{isSends}
+use Rattle.end_points.specs.States.{isSends}
 use Rattle.good.proofs.Stores.{read-own}
 use Rattle.machine.specs.Calls.{hands-out}
 use Rattle.machine.specs.Machine.{End, Item, Sort, Machine, Outcome, typeOf, carried, frameOf, handed, step}

@@ -9,18 +9,18 @@ use mathlib.Core.List.{List, [], _∷_, map}
 use lib.ListN.{length, replicate, getElem?, length-replicate}
 use Rattle.units.specs.Sizes.{isSize}
 use Rattle.units.specs.declared.refusals.Verdict.the-variants.{Passed}
-use Rattle.memory.specs.Layout.{nodeWords}
-use Rattle.order.specs.Order.{acksIn}
+use Rattle.memory.specs.Layout.{nodeWords, bookHalves}
+use Rattle.waiting.specs.Order.{acksIn}
 use Rattle.table.specs.Layout.{countOf, entryOf}
 use Rattle.table.specs.declared.Entry.{Entry}
 use Rattle.table.specs.declared.Kind.the-variants.{Sends, Receives}
 use Rattle.table.proofs.Good.{good-entry}
-use Rattle.ends.specs.Lent.{Lent}
-use Rattle.ends.specs.declared.State.{State}
-use Rattle.ends.specs.declared.State.the-variants.{Closed, Enabled, Open, Failing}
-use Rattle.ends.specs.Ends.{endOf}
-use Rattle.ends.specs.States.{isSends}
-use Rattle.opening.specs.Setup.{setupAfter}
+use Rattle.end_points.specs.Lent.{Lent}
+use Rattle.end_points.specs.declared.State.{State}
+use Rattle.end_points.specs.declared.State.the-variants.{Closed, Enabled, Open, Failing}
+use Rattle.end_points.specs.Ends.{endOf}
+use Rattle.end_points.specs.States.{isSends}
+use Rattle.call_open.specs.Setup.{setupAfter}
 use Rattle.good.specs.Calls.{Memory, kept, answer, after}
 use Rattle.good.specs.Calls as nodes
 use Rattle.machine.specs.Calls.{Call, opens, closes, counts, sends, urges, arrives, hands-out, ticks, Fed}
@@ -103,7 +103,7 @@ set-up t i h n u =
 
 -- a machine's: the node that setup makes of zeros stands for it
 zeros : ℕ → Lent
-zeros room = record { node = replicate nodeWords 0; book = replicate 10368 0; store = replicate room 0; out = [] }
+zeros room = record { node = replicate nodeWords 0; book = replicate bookHalves 0; store = replicate room 0; out = [] }
 
 zeros-up : (t : List ℕ) (m : Machine) → (u : SetUp t m) → nodes.SetUp t (kept (setupAfter (zeros (u .room)) t Passed))
 unfolding SetupAnswers zeros
@@ -111,7 +111,7 @@ zeros-up t m u =
     record {
       before = zeros (u .room);
       node = length-replicate {A = ℕ} nodeWords 0;
-      book = length-replicate {A = ℕ} 10368 0;
+      book = length-replicate {A = ℕ} bookHalves 0;
       bytes = u .bytes;
       passed = setup-answers (zeros (u .room)) t ∙ rw (length-replicate {A = ℕ} (u .room) 0) (u .passed);
       is = refl;

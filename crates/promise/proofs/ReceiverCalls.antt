@@ -11,7 +11,7 @@ use Rattle.table.specs.Layout.{entryOf}
 use Rattle.table.specs.declared.Entry.{Entry}
 use Rattle.frame.specs.Layout.{payloadOf}
 use Rattle.frame.specs.Reading.{readOf}
-use Rattle.ends.specs.States.{isSends, isClosed}
+use Rattle.end_points.specs.States.{isSends, isClosed}
 use Rattle.good.proofs.Known.{is-closed}
 use Rattle.blocks.specs.Reading.{readBlock}
 use Rattle.machine.specs.Calls.{Call, opens, closes, counts, sends, urges, arrives, hands-out, Answer}

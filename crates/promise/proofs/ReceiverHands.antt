@@ -8,7 +8,7 @@ use mathlib.Core.List.{List, _∷_}
 use lib.ListN.{drop, getElem?}
 use borrow.Author.Tests.{eq-eqb}
 use Rattle.table.specs.Layout.{entryOf}
-use Rattle.ends.specs.States.{isSends}
+use Rattle.end_points.specs.States.{isSends}
 use Rattle.machine.specs.Calls.{hands-out}
 use Rattle.machine.specs.Machine.{End, Item, Sort, acks, resets, urgents, resends, datas, Machine, typeOf, step}
 use Rattle.machine.specs.Sound.{Sound}

@@ -5,9 +5,9 @@ use mathlib.Core.Bool.{false, and-false}
 use mathlib.Core.Option.{some}
 use mathlib.Core.List.{List, append-nil}
 use lib.ListN.{getElem?}
-use Rattle.ends.specs.States.{isOpen}
-use Rattle.ends.specs.declared.State.{State}
-use Rattle.ends.specs.declared.State.the-variants.{Closed, Enabled, Open, Failing}
+use Rattle.end_points.specs.States.{isOpen}
+use Rattle.end_points.specs.declared.State.{State}
+use Rattle.end_points.specs.declared.State.the-variants.{Closed, Enabled, Open, Failing}
 use Rattle.machine.specs.Calls.{ticks}
 use Rattle.machine.specs.Machine.{End, acks, Machine, anySpent, step}
 use Rattle.machine.specs.Sound.{Receives}

@@ -13,8 +13,8 @@ use lib.Seq.{getD-drop, getD-append-add}
 use lib.Dec.{ltb}
 use borrow.Author.Tests.{lt-ltb, le-ltb}
 use Rattle.units.specs.Refusals.{pick}
-use Rattle.ends.specs.declared.State.{State}
-use Rattle.ends.specs.declared.State.the-variants.{Closed, Enabled, Open, Failing}
+use Rattle.end_points.specs.declared.State.{State}
+use Rattle.end_points.specs.declared.State.the-variants.{Closed, Enabled, Open, Failing}
 use Rattle.machine.specs.Machine.{End, offset, isSome, orNone, heldRun, handing-on, isNew}
 use Rattle.machine.proofs.Entries.{elem-there, elem-getD}
 use Rattle.machine.proofs.Blocks.{Places}

@@ -11,9 +11,9 @@ use Rattle.table.specs.Layout.{entryOf}
 use Rattle.table.proofs.Every.{both}
 use Rattle.frame.specs.declared.FrameType.{FrameType}
 use Rattle.frame.specs.declared.FrameType.the-variants as type
-use Rattle.ends.specs.States.{isSends}
-use Rattle.ends.specs.declared.State.{State}
-use Rattle.ends.specs.declared.State.the-variants.{Closed, Enabled, Open, Failing}
+use Rattle.end_points.specs.States.{isSends}
+use Rattle.end_points.specs.declared.State.{State}
+use Rattle.end_points.specs.declared.State.the-variants.{Closed, Enabled, Open, Failing}
 use Rattle.machine.specs.Calls.{arrives}
 use Rattle.machine.specs.Machine.{End, Number, Machine, Outcome, turned, notAgain, counted, anew, stated, offset, numberAt, timed, ackedRun, running, passing, acked, acking, taken, step}
 use Rattle.machine.specs.Sound.{Sound}

@@ -10,7 +10,7 @@ use Rattle.units.specs.Refusals.{pick}
 use Rattle.window.specs.Numbers.{byteOf}
 use Rattle.window.proofs.WindowLaw.{distance-back}
 use Rattle.table.specs.Layout.{entryOf}
-use Rattle.ends.specs.States.{isSends}
+use Rattle.end_points.specs.States.{isSends}
 use Rattle.machine.specs.Calls.{hands-out}
 use Rattle.machine.specs.Machine.{End, Sort, acks, resets, urgents, resends, datas, Machine, offset, numbered, numberAt, timed, typeOf, carried, handed, step}
 use Rattle.machine.specs.Sound.{WaitsData, Sound}

@@ -10,9 +10,9 @@ use lib.Dec.{eqb}
 use borrow.Author.Tests.{eq-eqb, ne-eqb}
 use Rattle.units.specs.Refusals.{pick}
 use Rattle.table.specs.Layout.{entryOf}
-use Rattle.ends.specs.States.{isOver}
-use Rattle.ends.specs.declared.State.{State}
-use Rattle.ends.specs.declared.State.the-variants.{Closed, Enabled, Open, Failing}
+use Rattle.end_points.specs.States.{isOver}
+use Rattle.end_points.specs.declared.State.{State}
+use Rattle.end_points.specs.declared.State.the-variants.{Closed, Enabled, Open, Failing}
 use Rattle.machine.specs.Calls.{ticks}
 use Rattle.machine.specs.Machine.{End, Machine, anew, anySpent, tickedAll, step}
 use Rattle.machine.specs.LawsTick.{timers, Recovers, TickRecovers}

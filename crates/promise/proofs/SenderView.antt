@@ -12,7 +12,7 @@ use lib.Seq.{getD-at, getD-drop}
 use lib.Dec.{ltb}
 use borrow.Author.Tests.{eq-eqb, ne-eqb, lt-ltb}
 use Rattle.window.specs.Numbers.{byteOf}
-use Rattle.ends.specs.declared.State.{State}
+use Rattle.end_points.specs.declared.State.{State}
 use Rattle.machine.specs.Machine.{Number, number, End, stated, numbered, offset, numberAt, taking, timed, ackedRun, passing, isSpent, fallen, tickedAll}
 use Rattle.machine.proofs.Numbers.{count-fallen}
 use Rattle.promise.specs.History.{Pay, SState}

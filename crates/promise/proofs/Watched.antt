@@ -17,8 +17,8 @@ use Rattle.frame.specs.Layout.{payloadOf}
 use Rattle.frame.specs.Reading.{readOf}
 use Rattle.frame.specs.declared.Read.{Read}
 use Rattle.frame.specs.declared.Read.the-variants as read
-use Rattle.ends.specs.States.{isSends}
-use Rattle.ends.specs.declared.State.the-variants.{Closed, Enabled}
+use Rattle.end_points.specs.States.{isSends}
+use Rattle.end_points.specs.declared.State.the-variants.{Closed, Enabled}
 use Rattle.machine.specs.Calls.{Call, opens, closes, counts, sends, urges, arrives, hands-out, Answer}
 use Rattle.machine.specs.Machine.{End, acks, resets, urgents, datas, Machine, Outcome, turned, urging, anew, enabled, silent, waits, past, done, unless, onEntry, sendTests, taking, opening, closing, sending, urgentSending, step}
 use Rattle.machine.specs.Sound.{Sound}

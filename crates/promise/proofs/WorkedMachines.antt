@@ -20,7 +20,7 @@ use Rattle.table.specs.Rules.{goodTable, headGood, isAddress, everyBelow, entry
 use Rattle.frame.specs.Layout.{payloadOf, frameBytes, bodyBytes, headBytes}
 use Rattle.frame.specs.Reading.{soundOf, headerOf, readOf}
 use Rattle.frame.proofs.Parts.{byte}
-use Rattle.lookup.specs.Fitting as fitting
+use Rattle.arrive_lookup.specs.Fitting as fitting
 use Rattle.blocks.specs.Blocks.{offsets, joinedUp, blockOf}
 use Rattle.blocks.specs.Reading.{get32Of, payloadIn, payloadsIn, readBlock}
 use Rattle.machine.specs.Calls.{Call, opens, sends, arrives, hands-out, ticks, Answer, Fed}

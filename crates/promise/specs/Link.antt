@@ -15,13 +15,13 @@ use Rattle.promise.specs.Seen.{Event, s-seen, r-seen, s-state-of}
 
 -- ---- the two sides
 
--- what the machine says of a call
+-- what the machine says of a call [O1]
 pub record Did (m : Machine) (e : Event) (m′ : Machine) : Type 0 where
   pub fed : Fed (e .call)
   pub answered : e .answer ≡ step m (e .call) .answer
   pub left : m′ ≡ step m (e .call) .machine
 
--- entry i of a machine that was set up from table t
+-- entry i of a machine that was set up from table t [P11]
 abbrev pub sender : List ℕ → ℕ → SSide
 sender t i =
     record {
@@ -54,7 +54,7 @@ receiver u j =
 -- ---- the entries
 
 -- entry i of table t sends to entry j of table u: each names the other, on one channel, with one protocol ID and one
--- window in force
+-- window in force [P5]
 pub record Paired (t : List ℕ) (i : ℕ) (u : List ℕ) (j : ℕ) : Type 0 where
   pub known : i < countOf t
   pub known′ : j < countOf u
@@ -66,7 +66,7 @@ pub record Paired (t : List ℕ) (i : ℕ) (u : List ℕ) (j : ℕ) : Type 0 whe
   pub protocol : protocolOf t ≡ protocolOf u
   pub window : entryOf t i .window ≡ entryOf u j .window
 
--- THE PROMISE, of two machines
+-- THE PROMISE, of two machines [P1, P2, P3, P4, P5, P6, P7, P8, P9, P10, P11, P12, P13, O5]
 unfoldable pub Promise : Type 0
 Promise = (t : List ℕ) (i : ℕ) (u : List ℕ) (j : ℕ) → Paired t i u j
     → Demand3 (entryOf t i .window) (sender t i) (receiver u j)

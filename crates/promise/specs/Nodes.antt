@@ -5,22 +5,22 @@ use mathlib.Core.Path.{_≡_}
 use mathlib.Core.List.{List, [], _∷_}
 use lib.Dec.{eqb}
 use Rattle.units.specs.Refusals.{pick}
-use Rattle.order.specs.Order.{acksIn}
+use Rattle.waiting.specs.Order.{acksIn}
 use Rattle.table.specs.Layout.{entryOf}
-use Rattle.ends.specs.Ends.{endOf}
+use Rattle.end_points.specs.Ends.{endOf}
 use Rattle.good.specs.Calls.{Memory, answer, after, SetUp}
 use Rattle.machine.specs.Calls.{Fed}
 use Rattle.promise.specs.Promise.{SSide, RSide, Demand3}
 use Rattle.promise.specs.Seen.{Event, s-seen, r-seen, s-state-of}
 use Rattle.promise.specs.Link.{Paired}
 
--- what the contracts say of a call
+-- what the contracts say of a call [O1]
 pub record Did (n : Memory) (e : Event) (m : Memory) : Type 0 where
   pub fed : Fed (e .call)
   pub answered : e .answer ≡ answer n (e .call)
   pub left : m ≡ after n (e .call)
 
--- entry i of a node that was set up from table t
+-- entry i of a node that was set up from table t [P11]
 abbrev pub sender : List ℕ → ℕ → SSide
 sender t i =
     record {
@@ -50,7 +50,7 @@ receiver u j =
       waiting = λ n. owedIn j (acksIn (n .node));
     }
 
--- THE PROMISE, of two nodes
+-- THE PROMISE, of two nodes [P1, P2, P3, P4, P5, P6, P7, P8, P9, P10, P11, P12, P13, O5]
 unfoldable pub NodesPromise : Type 0
 NodesPromise = (t : List ℕ) (i : ℕ) (u : List ℕ) (j : ℕ) → Paired t i u j
     → Demand3 (entryOf t i .window) (sender t i) (receiver u j)

@@ -13,7 +13,7 @@ use Rattle.promise.specs.History.{SSeen, s-hears, RSeen, r-resets, r-tak
 
 -- ---- the two nodes
 
--- the sender's node with the entry that sends
+-- the sender's node with the entry that sends [P11]
 pub record SSide : Type 1 where
   pub Node : Type 0  -- a node's value with its lent memory
   pub Call : Type 0  -- a call with its answer
@@ -24,7 +24,7 @@ pub record SSide : Type 1 where
   pub accepted : Node → ℕ  -- the entry's counts
   pub confirmed : Node → ℕ
 
--- the receiver's node with the entry that receives
+-- the receiver's node with the entry that receives [P11]
 pub record RSide : Type 1 where
   pub Node : Type 0
   pub Call : Type 0
@@ -33,14 +33,14 @@ pub record RSide : Type 1 where
   pub seen : Call → RSeen
   pub waiting : Node → List ℕ  -- the sequence bytes of the entry's waiting acknowledgements, the oldest first
 
--- the nodes that setup and calls can give
+-- the nodes that setup and calls can give [P11]
 pub data Reach (Node Call : Type 0) (SetUp : Node → Type 0) (Did : Node → Call → Node → Type 0) : Node → Type 0 where
   at-setup : (n : Node) → SetUp n → Reach Node Call SetUp Did n
   by-call : (n m : Node) (c : Call) → Reach Node Call SetUp Did n → Did n c m → Reach Node Call SetUp Did m
 
 -- ---- what is promised
 
--- of a moment: the sender's two counts and the history of the run
+-- of a moment: the sender's two counts and the history of the run [P12, P13, O5]
 pub record Kept (accepted confirmed : ℕ) (h : Hist) : Type 0 where
   -- the count of accepted payloads is right
   pub counted : accepted ≡ length (h .accepted)
@@ -70,24 +70,25 @@ module _ (A : SSide) (B : RSide) where
   abbrev pub r-then : Sys → B .Node → Hist → Sys
   r-then s b h = record { sender = s .sender; receiver = b; hist = h }
 
-  -- a run begins: what waits at the receiver answers earlier runs; what it delivered before is of no matter
+  -- a run begins: what waits at the receiver answers earlier runs; what it delivered before is of no matter [P1, P4]
   abbrev pub begin : A .Node → B .Node → List Pay → Sys
   begin a b delivered = record { sender = a; receiver = b; hist = blank delivered (map old (B .waiting b)) }
 
 module _ (W : ℕ) (A : SSide) (B : RSide) where
+  -- one move of a run, with its premises [P6, P10]
   pub data Move : Sys A B → Sys A B → Type 0 where
     -- any call on the sender's node that brings no frame in for the entry, and neither opens nor closes it: what host
-    -- and driver please
+    -- and driver please [P1, P10]
     at-sender : (s : Sys A B) (c : A .Call) (a : A .Node)
         (did : A .Did (s .sender) c a)
         (own : SOwn (A .seen c))
         → Move s (s-then A B s a (s-note (A .confirmed (s .sender)) (A .seen c) (s .hist)))
-    -- any call on the receiver's node that brings no frame in for the entry: it may be closed, and opened again
+    -- any call on the receiver's node that brings no frame in for the entry: it may be closed, and opened again [P10]
     at-receiver : (s : Sys A B) (c : B .Call) (b : B .Node)
         (did : B .Did (s .receiver) c b)
         (own : ROwn (B .seen c))
         → Move s (r-then A B s b (r-note (old 0) (s .hist .dataIn) (B .seen c) (s .hist)))
-    -- an acknowledgement reaches the sender; it may have been overtaken, and may come again
+    -- an acknowledgement reaches the sender; it may have been overtaken, and may come again [P4, P6, P9]
     ack-comes : (s : Sys A B) (c : A .Call) (a : A .Node) (n x : ℕ)
         (did : A .Did (s .sender) c a)
         (heard : A .seen c ≡ s-hears x)
@@ -96,7 +97,7 @@ module _ (W : ℕ) (A : SSide) (B : RSide) where
         -- the sender's start is not past that number by more than 256 - W
         (not-late : NotLate W (s-first (A .state (s .sender)) (A .confirmed (s .sender))) n)
         → Move s (s-then A B s a (s .hist))
-    -- a Reset reaches the receiver
+    -- a Reset reaches the receiver [P4, P6, P8]
     reset-comes : (s : Sys A B) (c : B .Call) (b : B .Node)
         (did : B .Did (s .receiver) c b)
         (took : B .seen c ≡ r-resets)
@@ -105,7 +106,7 @@ module _ (W : ℕ) (A : SSide) (B : RSide) where
         -- no Data of this run has reached the receiver
         (before-data : s .hist .dataIn ≡ false)
         → Move s (r-then A B s b (r-note (new 0) false r-resets (s .hist)))
-    -- Data reaches the receiver
+    -- Data reaches the receiver [P4, P6, P9]
     data-comes : (s : Sys A B) (c : B .Call) (b : B .Node) (n x : ℕ) (p : Pay) (given : List Pay)
         (did : B .Did (s .receiver) c b)
         (took : B .seen c ≡ r-takes x p given)
@@ -114,15 +115,17 @@ module _ (W : ℕ) (A : SSide) (B : RSide) where
         -- the receiver's start is not past that number by more than 256 - W
         (not-late : NotLate W (1 + length (s .hist .delivered)) n)
         → Move s (r-then A B s b (r-note (new n) true (r-takes x p given) (s .hist)))
-    -- any other frame, of an earlier run or of none, as long as this run's first Reset is not handed out
+    -- any other frame, of an earlier run or of none, as long as this run's first Reset is not handed out [P4, P7]
     old-ack-comes : (s : Sys A B) (c : A .Call) (a : A .Node) (x : ℕ)
         (did : A .Did (s .sender) c a)
         (heard : A .seen c ≡ s-hears x) (before-ours : s .hist .sent ≡ [])
         → Move s (s-then A B s a (s .hist))
+    -- the same of a Reset [P4, P7]
     old-reset-comes : (s : Sys A B) (c : B .Call) (b : B .Node)
         (did : B .Did (s .receiver) c b)
         (took : B .seen c ≡ r-resets) (before-ours : s .hist .sent ≡ [])
         → Move s (r-then A B s b (r-note (old 0) (s .hist .dataIn) r-resets (s .hist)))
+    -- and of Data [P4, P7]
     old-data-comes : (s : Sys A B) (c : B .Call) (b : B .Node) (x : ℕ) (p : Pay) (given : List Pay)
         (did : B .Did (s .receiver) c b)
         (took : B .seen c ≡ r-takes x p given) (before-ours : s .hist .sent ≡ [])
@@ -133,7 +136,7 @@ module _ (W : ℕ) (A : SSide) (B : RSide) where
     and-then : {s t u : Sys A B} → Moves s t → Move t u → Moves s u
 
   -- DEMAND 3: from two nodes that setup and calls can give, the sender's entry just Enabled, by any moves: whenever
-  -- the sender is open, what is promised holds.
+  -- the sender is open, what is promised holds. [P1, P11, P12, P13]
   unfoldable pub Demand3 : Type 0
   Demand3 = (a : A .Node) (b : B .Node) (delivered : List Pay)
       → Reach (A .Node) (A .Call) (A .SetUp) (A .Did) a

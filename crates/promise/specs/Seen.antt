@@ -14,8 +14,8 @@ use Rattle.frame.specs.declared.Read.{Read}
 use Rattle.frame.specs.declared.Read.the-variants as read
 use Rattle.frame.specs.declared.FrameType.{FrameType}
 use Rattle.frame.specs.declared.FrameType.the-variants as type
-use Rattle.ends.specs.declared.State.{State}
-use Rattle.ends.specs.declared.State.the-variants as state
+use Rattle.end_points.specs.declared.State.{State}
+use Rattle.end_points.specs.declared.State.the-variants as state
 use Rattle.blocks.specs.Reading.{readBlock}
 use Rattle.machine.specs.Calls.{Call, opens, closes, counts, sends, urges, arrives, hands-out, ticks, Answer}
 use Rattle.promise.specs.History.{Pay, SState, s-closed, s-enabled, s-open, s-failing}
@@ -28,12 +28,12 @@ pub record Event : Type 0 where
   pub call : Call
   pub answer : Answer
 
--- the first number is 0 where it was not refused
+-- the first number is 0 where it was not refused [P6]
 abbrev pub isDone : List ℕ → Bool
 isDone [] = false
 isDone (n ∷ ns) = eqb n 0
 
--- a frame names an entry by the other end's address and the channel
+-- a frame names an entry by the other end's address and the channel [F16, P6]
 abbrev pub names : Entry → ℕ → ℕ → Bool
 names e address channel = eqb (e .remote .0) address && eqb (e .channel .0) channel
 
@@ -67,6 +67,7 @@ abbrev pub s-out : Entry → Read → List ℕ → SSeen
 s-out e (read.Frame h) p = s-went e h p (h .kind)
 s-out e (read.Refused w) p = s-quiet
 
+-- what a call was for the sender's entry e, its i-th; a refused one is nothing to it [P1, P2, P6]
 unfoldable pub s-seen : Entry → ℕ → Call → Answer → SSeen
 s-seen e i (opens j) a = pick (isDone (a .numbers) && eqb j i) s-ends s-quiet
 s-seen e i (closes j) a = pick (isDone (a .numbers) && eqb j i) s-ends s-quiet
@@ -100,6 +101,7 @@ abbrev pub r-out : Entry → Read → RSeen
 r-out e (read.Frame h) = r-went e h (h .kind)
 r-out e (read.Refused w) = r-quiet
 
+-- what a call was for the receiver's entry e, its j-th [P2, P3, P6]
 unfoldable pub r-seen : Entry → ℕ → Call → Answer → RSeen
 r-seen e j (opens i) a = r-quiet
 r-seen e j (closes i) a = pick (isDone (a .numbers) && eqb i j) r-closes r-quiet
@@ -113,6 +115,7 @@ r-seen e j ticks a = r-quiet
 
 -- ---- a sender's state, as far as the promise speaks of it
 
+-- an end point's state, as the promise has it [E1, E2]
 abbrev pub s-state-of : State → SState
 s-state-of state.Closed = s-closed
 s-state-of (state.Enabled t sent) = s-enabled sent

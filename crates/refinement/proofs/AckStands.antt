@@ -12,31 +12,31 @@ use lib.Seq.{getD-set-other}
 use lib.Dec.{eqb}
 use borrow.Author.Tests.{eq-eqb, ne-eqb, eqb-true, eqb-false, ltb-true}
 use Rattle.units.specs.Refusals.{pick}
-use Rattle.memory.specs.Layout.{timerAt, retriesAt, slotId, quietAt}
+use Rattle.memory.specs.Layout.{timerAt, retriesAt, cellId, quietAt}
 use Rattle.waiting.specs.Queues.{unlinked}
-use Rattle.order.specs.Order.{acksIn}
+use Rattle.waiting.specs.Order.{acksIn}
 use Rattle.window.specs.Numbers.{byteOf}
 use Rattle.window.specs.Windows.{offsetOf, Good as GoodWindow}
 use Rattle.window.specs.declared.Window.{Window}
 use Rattle.window.proofs.WindowLaw.{distance-back}
 use Rattle.window.proofs.Sizes.{size-le}
 use Rattle.table.specs.Areas.{storeOf}
-use Rattle.ends.specs.Ends.{endOf, saved}
-use Rattle.ends.specs.Heads.{countIn}
-use Rattle.ends.specs.States.{isSends}
-use Rattle.ends.specs.Answers.{arrivedOf}
-use Rattle.ends.specs.Lent.{Lent}
-use Rattle.ends.specs.declared.State.{State}
-use Rattle.ends.specs.declared.State.the-variants.{Closed, Enabled, Open, Failing}
-use Rattle.ends.specs.declared.Run.{Run}
-use Rattle.ends.specs.declared.EndPoint.{EndPoint}
-use Rattle.ends.specs.declared.answers.Arrived.{Arrived}
-use Rattle.ends.specs.declared.answers.Arrived.the-variants.{Ignored, Acknowledged, Opened}
+use Rattle.end_points.specs.Ends.{endOf, saved}
+use Rattle.end_points.specs.Heads.{countIn}
+use Rattle.end_points.specs.States.{isSends}
+use Rattle.end_points.specs.Answers.{arrivedOf}
+use Rattle.end_points.specs.Lent.{Lent}
+use Rattle.end_points.specs.declared.State.{State}
+use Rattle.end_points.specs.declared.State.the-variants.{Closed, Enabled, Open, Failing}
+use Rattle.end_points.specs.declared.Run.{Run}
+use Rattle.end_points.specs.declared.EndPoint.{EndPoint}
+use Rattle.end_points.specs.declared.answers.Arrived.{Arrived}
+use Rattle.end_points.specs.declared.answers.Arrived.the-variants.{Ignored, Acknowledged, Opened}
 use Rattle.slots.specs.Slots.{cell, past, timerIn, retriesIn}
 use Rattle.timing.specs.Timing.{clockIn, roused}
 use Rattle.timing.proofs.Falling.{left-zero}
-use Rattle.acking.specs.Acking as memory
-use Rattle.acking.specs.Acking.{ackAnswer, ackNode, ackBook, ackAfter, stopped}
+use Rattle.arrive_ack.specs.Acking as memory
+use Rattle.arrive_ack.specs.Acking.{ackAnswer, ackNode, ackBook, ackAfter, stopped}
 use Rattle.good.specs.Good as good
 use Rattle.good.specs.Good.{Lists, Lines, Sending, OpenSender, FailingSender, Good, ownerOf, mine, idAt}
 use Rattle.good.specs.Calls.{Memory, lent, kept}
@@ -229,10 +229,10 @@ module _ (t : List ℕ) (n : Memory) (l : Lists) (g : Good t (n .node) (n .book)
       end = ends Open q (λ z. let y : Acknowledged p ≡ Ignored = sym (rw (q, c)) ∙ z in let v : _≡_ {A = ℕ} 0 1 = cc in omega arith)
 
       abbrev x₀ : ℕ
-      x₀ = slotId c₀
+      x₀ = cellId c₀
 
       x₀-is : idAt i w at ≡ x₀
-      x₀-is = ap (λ (z : ℕ). slotId (cell i w z)) number-here
+      x₀-is = ap (λ (z : ℕ). cellId (cell i w z)) number-here
 
       -- it waits as a retransmission, in queue 2, where its timer stands
       waits-if : timerIn (n .book) c₀ ≡ 0 → List·Memᴰ x₀ (l 2)
@@ -334,7 +334,7 @@ module _ (t : List ℕ) (n : Memory) (l : Lists) (g : Good t (n .node) (n .book)
           item-for (now Open .node) i low u v (P .good) k (rw (P .size) (omega arith))
           ∙ ap (λ (y : ℕ). record { entry = i; number = y })
           (let g : byteOf (u .start .0 + k) ≡ byteOf (w .start .0 + (p + k)) = omega arith in g)
-          ∙ sym (ap (slotItem (n .node)) (ap slotId (P .cells k)) ∙ item-at (n .node) i low window (p + k) (omega arith))
+          ∙ sym (ap (slotItem (n .node)) (ap cellId (P .cells k)) ∙ item-at (n .node) i low window (p + k) (omega arith))
 
       O′ : OpenSender (now Open .book) (K .lists) i (turnedTo e Open acked)
       O′ = stated-then K li true kind Open end

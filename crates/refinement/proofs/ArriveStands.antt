@@ -16,8 +16,8 @@ use Rattle.units.specs.declared.refusals.Verdict.{Verdict}
 use Rattle.units.specs.declared.refusals.Verdict.the-variants.{Passed, Refused}
 use Rattle.units.proofs.Judging.{clear}
 use Rattle.waiting.specs.Acks.{placeOf as oldestPlace, waitingOf}
-use Rattle.order.specs.Order.{acksIn}
-use Rattle.order.proofs.Ringed.{from-length}
+use Rattle.waiting.specs.Order.{acksIn}
+use Rattle.waiting.proofs.Ringed.{from-length}
 use Rattle.table.specs.Layout.{countOf}
 use Rattle.table.specs.Areas.{storeOf}
 use Rattle.frame.specs.Layout.{payloadOf}
@@ -28,21 +28,21 @@ use Rattle.frame.specs.declared.Read.the-variants as read
 use Rattle.frame.specs.declared.FrameType.{FrameType}
 use Rattle.frame.specs.declared.FrameType.the-variants as type
 use Rattle.frame.specs.Types.{forSender, carries, answered}
-use Rattle.ends.specs.Ends.{loadEntry, endOf}
-use Rattle.ends.specs.Heads.{countIn}
-use Rattle.ends.specs.States.{isSends, isOpen}
-use Rattle.ends.specs.Lent.{Lent}
-use Rattle.ends.specs.declared.State.the-variants.{Open}
-use Rattle.ends.specs.declared.EndPoint.{EndPoint}
-use Rattle.ends.specs.declared.answers.Arrived.{Arrived}
-use Rattle.ends.specs.declared.answers.Arrived.the-variants as arrived
-use Rattle.lookup.specs.Lookup.{firstFrom, entryFor}
-use Rattle.lookup.specs.Fitting.{fits}
-use Rattle.lookup.proofs.First.{first-is}
-use Rattle.lookup.proofs.Found.{found-fits}
-use Rattle.arriving.specs.Arriving as memory
-use Rattle.arriving.specs.Arriving.{entryVerdict, takenAnswer, takenAfter, answerAs, afterAs, entryAnswer, entryAfter}
-use Rattle.arriving.specs.Arriving.{readAnswer, readAfter, frameTests, arrivalAnswer, arrivalAfter}
+use Rattle.end_points.specs.Ends.{loadEntry, endOf}
+use Rattle.end_points.specs.Heads.{countIn}
+use Rattle.end_points.specs.States.{isSends, isOpen}
+use Rattle.end_points.specs.Lent.{Lent}
+use Rattle.end_points.specs.declared.State.the-variants.{Open}
+use Rattle.end_points.specs.declared.EndPoint.{EndPoint}
+use Rattle.end_points.specs.declared.answers.Arrived.{Arrived}
+use Rattle.end_points.specs.declared.answers.Arrived.the-variants as arrived
+use Rattle.arrive_lookup.specs.Lookup.{firstFrom, entryFor}
+use Rattle.arrive_lookup.specs.Fitting.{fits}
+use Rattle.arrive_lookup.proofs.First.{first-is}
+use Rattle.arrive_lookup.proofs.Found.{found-fits}
+use Rattle.call_arrive.specs.Arriving as memory
+use Rattle.call_arrive.specs.Arriving.{entryVerdict, takenAnswer, takenAfter, answerAs, afterAs, entryAnswer, entryAfter}
+use Rattle.call_arrive.specs.Arriving.{readAnswer, readAfter, frameTests, arrivalAnswer, arrivalAfter}
 use Rattle.good.specs.Good.{Lists, Good}
 use Rattle.good.specs.Calls.{Memory, lent, answer, after}
 use Rattle.machine.specs.Calls.{arrives, Bytes}

@@ -16,16 +16,16 @@ use Rattle.memory.specs.Layout.{lengthAt, timerAt, retriesAt}
 use Rattle.window.specs.Windows.{held, Good as GoodWindow}
 use Rattle.table.specs.Layout.{countOf, entryOf}
 use Rattle.table.specs.Areas.{storeOf, slotsOf}
-use Rattle.ends.specs.Ends.{endOf}
-use Rattle.ends.specs.Heads.{countIn}
-use Rattle.ends.specs.States.{isSends}
-use Rattle.ends.specs.Lent.{Lent}
-use Rattle.ends.specs.declared.State.{State}
-use Rattle.ends.specs.declared.State.the-variants.{Closed, Enabled, Open, Failing}
-use Rattle.ends.specs.declared.EndPoint.{EndPoint}
+use Rattle.end_points.specs.Ends.{endOf}
+use Rattle.end_points.specs.Heads.{countIn}
+use Rattle.end_points.specs.States.{isSends}
+use Rattle.end_points.specs.Lent.{Lent}
+use Rattle.end_points.specs.declared.State.{State}
+use Rattle.end_points.specs.declared.State.the-variants.{Closed, Enabled, Open, Failing}
+use Rattle.end_points.specs.declared.EndPoint.{EndPoint}
 use Rattle.timing.specs.Timing.{leftOf}
 use Rattle.slots.specs.Slots.{cell, past, spot, timerIn, retriesIn}
-use Rattle.handing.specs.Handing.{urgentPayload}
+use Rattle.call_hand_out.specs.Handing.{urgentPayload}
 use Rattle.good.specs.Good.{Lists, Stated, Good}
 use Rattle.good.specs.Calls.{Memory}
 use Rattle.good.proofs.Turns.{Kept}

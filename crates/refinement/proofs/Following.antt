@@ -21,17 +21,17 @@ use Rattle.window.proofs.Resetting.{new-held}
 use Rattle.table.specs.Layout.{countOf}
 use Rattle.table.specs.Areas.{storeOf}
 use Rattle.table.specs.declared.Entry.{Entry}
-use Rattle.ends.specs.Ends.{endOf}
-use Rattle.ends.specs.Heads.{countIn}
-use Rattle.ends.specs.Runs as runs
-use Rattle.ends.specs.Answers.{answerOf}
-use Rattle.ends.specs.declared.State.{State}
-use Rattle.ends.specs.declared.State.the-variants.{Closed, Enabled, Open, Failing}
-use Rattle.ends.specs.declared.EndPoint.{EndPoint}
-use Rattle.ends.specs.States.{isSends, isClosed, isOpen}
-use Rattle.ends.specs.declared.Run.{Run}
+use Rattle.end_points.specs.Ends.{endOf}
+use Rattle.end_points.specs.Heads.{countIn}
+use Rattle.end_points.specs.Runs as runs
+use Rattle.end_points.specs.Answers.{answerOf}
+use Rattle.end_points.specs.declared.State.{State}
+use Rattle.end_points.specs.declared.State.the-variants.{Closed, Enabled, Open, Failing}
+use Rattle.end_points.specs.declared.EndPoint.{EndPoint}
+use Rattle.end_points.specs.States.{isSends, isClosed, isOpen}
+use Rattle.end_points.specs.declared.Run.{Run}
 use Rattle.slots.specs.Slots.{slotFor, past}
-use Rattle.handing.specs.Handing.{slotIn}
+use Rattle.memory.specs.Layout.{idSlot}
 use Rattle.good.specs.Good.{Lists, Sending, Stated, Entered, Good, idAt}
 use Rattle.good.specs.Calls.{Memory, answer, after}
 use Rattle.machine.specs.Calls.{Call}
@@ -119,7 +119,7 @@ pub item-for : (ws : List ℕ) (i : ℕ) → i < 16 → (w : Window) → endOf w
 item-for ws i low w e g k h =
     let s = slot-lt w (past w k) g in
     let z = size-le (w .size) (g .sized) in
-    let d : slotIn (idAt i w k) ≡ slotFor w (past w k) = omega arith in
+    let d : idSlot (idAt i w k) ≡ slotFor w (past w k) = omega arith in
     rw (id-owner i low w g k, e, d, number-at w g k h)
 
 pub item-at : (ws : List ℕ) (i : ℕ) → i < 16 → GoodWindow (endOf ws i .run .window) → (k : ℕ) → k < endOf ws i .run .window .size

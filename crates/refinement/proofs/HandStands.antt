@@ -18,8 +18,8 @@ use Rattle.memory.specs.Layout.{timerAt, retriesAt}
 use Rattle.waiting.specs.Acks.{waitingOf, ackOf}
 use Rattle.waiting.specs.Queues.{nextOf, unlinked}
 use Rattle.waiting.specs.declared.acks.Ack.{Ack}
-use Rattle.order.specs.Order.{from, acksIn}
-use Rattle.order.proofs.Linked.{first, queue-first}
+use Rattle.waiting.specs.Order.{from, acksIn}
+use Rattle.waiting.proofs.Linked.{first, queue-first}
 use Rattle.window.specs.Windows.{held, Good as GoodWindow}
 use Rattle.window.specs.declared.Window.{Window}
 use Rattle.window.proofs.Sizes.{size-le}
@@ -29,23 +29,24 @@ use Rattle.frame.specs.Layout.{frameBytes}
 use Rattle.frame.specs.Types.{typeNumber}
 use Rattle.frame.specs.declared.FrameType.{FrameType}
 use Rattle.frame.specs.declared.FrameType.the-variants as type
-use Rattle.ends.specs.Ends.{endOf}
-use Rattle.ends.specs.Heads.{countIn, needIn}
-use Rattle.ends.specs.Runs.{urgentGone}
-use Rattle.ends.specs.States.{isSends}
-use Rattle.ends.specs.Lent.{Lent}
-use Rattle.ends.specs.declared.State.{State}
-use Rattle.ends.specs.declared.State.the-variants.{Enabled, Open}
-use Rattle.ends.specs.declared.EndPoint.{EndPoint}
-use Rattle.ends.specs.declared.answers.HandedOut.the-variants as handed
+use Rattle.end_points.specs.Ends.{endOf}
+use Rattle.end_points.specs.Heads.{countIn, needIn}
+use Rattle.end_points.specs.Runs.{urgentGone}
+use Rattle.end_points.specs.States.{isSends}
+use Rattle.end_points.specs.Lent.{Lent}
+use Rattle.end_points.specs.declared.State.{State}
+use Rattle.end_points.specs.declared.State.the-variants.{Enabled, Open}
+use Rattle.end_points.specs.declared.EndPoint.{EndPoint}
+use Rattle.end_points.specs.declared.answers.HandedOut.the-variants as handed
 use Rattle.slots.specs.Slots.{cell, past, numberIn, retriesIn}
 use Rattle.timing.specs.Timing.{clockIn, later, leftOf}
 use Rattle.timing.proofs.Falling.{left-zero, left-starts}
-use Rattle.handing.specs.Handing.{nextOut, cellOf, slotEntry, slotIn, fieldsTo, ackFrame, resetFrame, slotPayload}
-use Rattle.handing.specs.Handing.{urgentFrame, dataFrame, frameOut, fitted, handAnswer, handedRun, outNode, outBook}
-use Rattle.handing.specs.Handing.{handedOut, handAfter, urgentPayload}
-use Rattle.handing.specs.declared.Next.{Next}
-use Rattle.handing.specs.declared.Next.the-variants as next
+use Rattle.call_hand_out.specs.Handing.{nextOut, fieldsTo, ackFrame, resetFrame, slotPayload}
+use Rattle.memory.specs.Layout.{idCell, idEntry, idSlot}
+use Rattle.call_hand_out.specs.Handing.{urgentFrame, dataFrame, frameOut, fitted, handOutAnswer, handedRun, outNode, outBook}
+use Rattle.call_hand_out.specs.Handing.{handedOut, handOutAfter, urgentPayload}
+use Rattle.call_hand_out.specs.declared.Next.{Next}
+use Rattle.call_hand_out.specs.declared.Next.the-variants as next
 use Rattle.good.specs.Good.{Lists, Lines, OpenSender, Good, ownerOf}
 use Rattle.good.specs.Calls.{Memory, lent, kept, answer, after}
 use Rattle.machine.specs.Calls.{Call, hands-out}
@@ -94,7 +95,7 @@ OutAs x x′ l l′ (next.Resend k) = ResendOut x x′ l l′ k
 OutAs x x′ l l′ (next.Data k) = DataOut x x′ l l′ k
 
 out-as : (x x′ : Lent) (l l′ : Lists) (d : Next) (n : ℕ) → nextOut (x .node) (x .book) ≡ d
-    → handAnswer x ≡ handed.Length n → Handed x x′ l l′ → OutAs x x′ l l′ d
+    → handOutAnswer x ≡ handed.Length n → Handed x x′ l l′ → OutAs x x′ l l′ d
 out-as x x′ l l′ d n is fits (was.refused w z y) = absurd (let u : _≡_ {A = ℕ} 0 1 = cc in omega arith)
 out-as x x′ l l′ d n is fits (was.nothing W z y) = subst (OutAs x x′ l l′) (sym (W .sort) ∙ is) tt
 out-as x x′ l l′ d n is fits (was.acked w W o) = subst (OutAs x x′ l l′) (sym (W .sort) ∙ is) (w, refl, o)
@@ -140,8 +141,8 @@ module _ (t : List ℕ) (n : Memory) (l : Lists) (g : Good t (n .node) (n .book)
   frame-any (next.Data k) a b = refl
 
   module _ (d : Next) (is : nextOut (n .node) (n .book) ≡ d) where
-    fits : handAnswer (X d) ≡ handed.Length (length (frameOut (lent n []) d))
-    unfolding handAnswer
+    fits : handOutAnswer (X d) ≡ handed.Length (length (frameOut (lent n []) d))
+    unfolding handOutAnswer
     fits =
         rw (
           le-ltb (length (n .store)) (needIn (n .node)) (rw (g .tabled .need) room),
@@ -151,9 +152,9 @@ module _ (t : List ℕ) (n : Memory) (l : Lists) (g : Good t (n .node) (n .book)
         )
 
     keeps : HandKept t (X d) (Y d) l
-    unfolding handAfter
+    unfolding handOutAfter
     keeps =
-        let z : handAfter (X d) (handAnswer (X d)) ≡ Y d = rw (fits, is) in
+        let z : handOutAfter (X d) (handOutAnswer (X d)) ≡ Y d = rw (fits, is) in
         subst (λ (y : Lent). HandKept t (X d) y l) z (hand-keeps t (X d) l g)
 
     knows : OutAs (X d) (Y d) l (keeps .lists) d
@@ -297,7 +298,7 @@ module _ (t : List ℕ) (n : Memory) (l : Lists) (g : Good t (n .node) (n .book)
     w = e .run .window
 
     abbrev slot-book : List ℕ
-    slot-book = set (unlinked (n .book) k) (timerAt (cellOf k)) (over (slotEntry k))
+    slot-book = set (unlinked (n .book) k) (timerAt (idCell k)) (over (idEntry k))
 
     low : i < 16
     low = low-at g (S .alone .known)
@@ -313,12 +314,12 @@ module _ (t : List ℕ) (n : Memory) (l : Lists) (g : Good t (n .node) (n .book)
 
     slot-lines : Lines slot-book (less l k)
     slot-lines =
-        set-lines (unlinked (n .book) k) (less l k) (plain-lines v k hv f) (timerAt (cellOf k))
-        (over (slotEntry k)) (omega arith)
+        set-lines (unlinked (n .book) k) (less l k) (plain-lines v k hv f) (timerAt (idCell k))
+        (over (idEntry k)) (omega arith)
 
     book-is : slot-book ≡ set (unlinked (n .book) k) (timerAt (cell i w (past w j))) (over i)
     book-is =
-        ap (λ (c : ℕ). set (unlinked (n .book) k) (timerAt c) (over (slotEntry k))) (S .here)
+        ap (λ (c : ℕ). set (unlinked (n .book) k) (timerAt c) (over (idEntry k))) (S .here)
         ∙ ap (λ (z : ℕ). set (unlinked (n .book) k) (timerAt (cell i w (past w j))) (over z)) (S .entry)
 
     inside : j < w .size
@@ -358,7 +359,7 @@ module _ (t : List ℕ) (n : Memory) (l : Lists) (g : Good t (n .node) (n .book)
     unfolding dataFrame frameOf endFor
     slot-frame =
         ap (λ (z : ℕ). frameBytes
-        (fieldsTo (n .node) (endOf (n .node) z .entry) type.Data (numberIn (endOf (n .node) z .run .window) (slotIn k)))
+        (fieldsTo (n .node) (endOf (n .node) z .entry) type.Data (numberIn (endOf (n .node) z .run .window) (idSlot k)))
         (slotPayload (n .book) (n .store) (endOf (n .node) z) k)) (S .entry)
         ∙ ap (λ (z : ℕ). frameBytes (fieldsTo (n .node) (e .entry) type.Data z) (slotPayload (n .book) (n .store) e k)) (S .number)
         ∙ fields-are i type.Data (past w j) (slotPayload (n .book) (n .store) e k) ∙ rw slot-payload
@@ -436,8 +437,8 @@ module _ (t : List ℕ) (n : Memory) (l : Lists) (g : Good t (n .node) (n .book)
     abbrev call : Call
     call = hands-out buffer
 
-    answered : (d : Next) → nextOut (n .node) (n .book) ≡ d → handAnswer x ≡ fitted buffer (frameOut x d)
-    unfolding handAnswer
+    answered : (d : Next) → nextOut (n .node) (n .book) ≡ d → handOutAnswer x ≡ fitted buffer (frameOut x d)
+    unfolding handOutAnswer
     answered d is = rw (le-ltb (length (n .store)) (needIn (n .node)) (rw (g .tabled .need) room), is)
 
     -- what the machine makes of the call is o where d goes out next
@@ -447,7 +448,7 @@ module _ (t : List ℕ) (n : Memory) (l : Lists) (g : Good t (n .node) (n .book)
     -- the first of a sort goes out, where the frame fits
     hands-first : (d : Next) (is : nextOut (n .node) (n .book) ≡ d) (q : Sort) (qs : List Sort) (i s : ℕ) → Went d is q i s
         → step M call ≡ inOrder M buffer (q ∷ qs) → Follows t n M call
-    unfolding answer after handAfter inOrder goingOut
+    unfolding answer after handOutAfter inOrder goingOut
     hands-first d is q qs i s W stepped = sides (ltb (length buffer) (length F)) refl
       where
         F : List ℕ
@@ -472,11 +473,11 @@ module _ (t : List ℕ) (n : Memory) (l : Lists) (g : Good t (n .node) (n .book)
 
         sides : (z : Bool) → ltb (length buffer) (length F) ≡ z → Follows t n M call
         sides true h =
-            let a : handAnswer x ≡ handed.Refused TooShort = answered d is ∙ ap (fitted buffer) (W .frame buffer) ∙ rw h in
+            let a : handOutAnswer x ≡ handed.Refused TooShort = answered d is ∙ ap (fitted buffer) (W .frame buffer) ∙ rw h in
             let m : step M call ≡ answers (6 ∷ []) buffer M = step-is ∙ rw h in
             record { answers = rw (a, m); stands = rw (a, m) (still g room) }
         sides false h =
-            let a : handAnswer x ≡ handed.Length (length F) = answered d is ∙ ap (fitted buffer) (W .frame buffer) ∙ rw h in
+            let a : handOutAnswer x ≡ handed.Length (length F) = answered d is ∙ ap (fitted buffer) (W .frame buffer) ∙ rw h in
             let m : step M call ≡ answers (0 ∷ length F ∷ []) (sets buffer 0 F) then = step-is ∙ rw h in
             record {
               answers = rw (a, is, m, W .frame buffer);
@@ -497,9 +498,9 @@ module _ (t : List ℕ) (n : Memory) (l : Lists) (g : Good t (n .node) (n .book)
         waiting-is (n .node) l q ∙ ap (map (itemOf (n .node) q)) (o .1 ∙ none-in (n .book) l (g .lines) j (o .0) h)
 
     nothing : Hands (inOrder M buffer []) next.Nothing
-    unfolding answer after handAfter frameOut outNode outBook inOrder
+    unfolding answer after handOutAfter frameOut outNode outBook inOrder
     nothing is s =
-        let a : handAnswer x ≡ handed.Length 0 = answered next.Nothing is ∙ rw (le-ltb (length buffer) 0 (omega arith)) in
+        let a : handOutAnswer x ≡ handed.Length 0 = answered next.Nothing is ∙ rw (le-ltb (length buffer) 0 (omega arith)) in
         record { answers = rw (a, is, s); stands = rw (a, is, s) (still g room) }
 
     pub hand-follows : Follows t n M call

@@ -8,8 +8,9 @@ use native.Mathlib.Decide.{decLt}
 use native.Mathlib.Omega.{arith}
 use lib.ListN.{getD, set, length-set}
 use lib.Seq.{getD-set-same, getD-set-other}
+use Rattle.memory.specs.Layout.{bookHalves}
 use Rattle.waiting.specs.Queues.{appended}
-use Rattle.order.specs.Order.{Chain, Out, Queue}
+use Rattle.waiting.specs.Order.{Chain, Out, Queue}
 use Rattle.good.specs.Good.{Lists, Lines}
 use Rattle.good.proofs.Lined.{added, append-lines, append-cells, set-lines}
 
@@ -57,7 +58,7 @@ pub record Put (b b′ : List ℕ) (l : Lists) (c v d w q x : ℕ) : Type 0 wher
   pub second : getD b′ d 0 ≡ w
   pub others : (k : ℕ) → 4224 ≤ k → k ≢ c → k ≢ d → getD b′ k 0 ≡ getD b k 0
 
-pub put-both : {b : List ℕ} {l : Lists} → Lines b l → (c v d w q x : ℕ) → 4224 ≤ c → c < d → d < 10368 → q < 4 → 4 ≤ x → x < 2112
+pub put-both : {b : List ℕ} {l : Lists} → Lines b l → (c v d w q x : ℕ) → 4224 ≤ c → c < d → d < bookHalves → q < 4 → 4 ≤ x → x < 2112
     → ((r : ℕ) → r < 4 → List·Memᴰ x (l r) → ⊥) → Put b (appended (set (set b c v) d w) q x) l c v d w q x
 put-both {b} {l} L c v d w q x hc hd long hq hx low free =
     record {

@@ -15,15 +15,15 @@ use Rattle.frame.specs.Layout.{payloadOf}
 use Rattle.frame.specs.Reading.{headerOf}
 use Rattle.frame.specs.declared.Read.{Read}
 use Rattle.frame.specs.declared.Read.the-variants as read
-use Rattle.ends.specs.Heads.{countIn}
-use Rattle.ends.specs.Lent.{Lent}
-use Rattle.ends.specs.Answers.{arrivedOf}
-use Rattle.opening.specs.Opening.{openAnswer, closeAnswer, countsAnswer}
-use Rattle.sending.specs.Sending.{sendAnswer, urgentAnswer}
-use Rattle.arriving.specs.Arriving as memory
-use Rattle.handing.specs.Handing.{nextOut, frameOut, handAnswer, handAfter, outNode, outBook}
+use Rattle.end_points.specs.Heads.{countIn}
+use Rattle.end_points.specs.Lent.{Lent}
+use Rattle.end_points.specs.Answers.{arrivedOf}
+use Rattle.call_open.specs.Opening.{openAnswer, closeAnswer, countsAnswer}
+use Rattle.call_send.specs.Sending.{sendAnswer, urgentAnswer}
+use Rattle.call_arrive.specs.Arriving as memory
+use Rattle.call_hand_out.specs.Handing.{nextOut, frameOut, handOutAnswer, handOutAfter, outNode, outBook}
 use Rattle.timing.specs.Timing.{clockIn, later}
-use Rattle.ticking.specs.Ticking.{tickAnswer, tickBoth, scanAfter, scanBoth, stillAfter, recoverAll, tickEntries}
+use Rattle.call_tick.specs.Ticking.{tickAnswer, tickBoth, scanAfter, scanBoth, stillAfter, recoverAll, tickEntries}
 use Rattle.good.specs.Calls.{Memory, lent, bare, answer}
 use Rattle.good.specs.NewNode.{newAt}
 use Rattle.good.proofs.NewStays.{new-stays}
@@ -66,7 +66,7 @@ module _ (store : List ℕ) (c q : ℕ) where
   urges-same i p = (rw (none i), refl)
 
   hands-same : (buffer : List ℕ) → same (hands-out buffer)
-  unfolding answer step handing inOrder goingOut handAnswer handAfter nextOut frameOut outNode outBook
+  unfolding answer step handing inOrder goingOut handOutAnswer handOutAfter nextOut frameOut outNode outBook
   hands-same buffer =
       let long = le-ltb (length store) 0 (omega arith) in
       (rw (long, le-ltb (length buffer) 0 (omega arith)), rw long)

@@ -17,13 +17,13 @@ use Rattle.window.specs.declared.Window.{Window}
 use Rattle.window.specs.declared.Accepted.{Accepted}
 use Rattle.window.specs.Numbers.{distanceOf}
 use Rattle.window.proofs.Sizes.{size-le}
-use Rattle.ends.specs.Runs.{isNew}
-use Rattle.ends.specs.declared.State.{State}
-use Rattle.ends.specs.declared.Run.{Run}
-use Rattle.ends.specs.declared.EndPoint.{EndPoint}
-use Rattle.ends.specs.States.{isSends}
+use Rattle.end_points.specs.Runs.{isNew}
+use Rattle.end_points.specs.declared.State.{State}
+use Rattle.end_points.specs.declared.Run.{Run}
+use Rattle.end_points.specs.declared.EndPoint.{EndPoint}
+use Rattle.end_points.specs.States.{isSends}
 use Rattle.slots.specs.Slots.{cell, past, timerIn, retriesIn}
-use Rattle.acking.specs.Acking as acking
+use Rattle.arrive_ack.specs.Acking as acking
 use Rattle.good.specs.Good.{Sending}
 use Rattle.good.specs.Good as good
 use Rattle.good.proofs.Framing.{cell-low}

@@ -10,17 +10,17 @@ use Rattle.units.specs.declared.refusals.Refusal.the-variants.{WrongState, Othe
 use Rattle.memory.specs.Layout as layout
 use Rattle.waiting.specs.Queues.{appended}
 use Rattle.waiting.specs.Acks.{dropped}
-use Rattle.order.specs.Order.{acksIn, notOf}
-use Rattle.order.proofs.Ringed.{drop-acks}
+use Rattle.waiting.specs.Order.{acksIn, notOf}
+use Rattle.waiting.proofs.Ringed.{drop-acks}
 use Rattle.table.specs.Areas.{storeOf}
-use Rattle.ends.specs.Ends.{endOf}
-use Rattle.ends.specs.Heads.{countIn}
-use Rattle.ends.specs.Runs as runs
-use Rattle.ends.specs.States.{isSends, isClosed}
-use Rattle.ends.specs.declared.State.the-variants.{Closed, Enabled}
-use Rattle.ends.specs.declared.EndPoint.{EndPoint}
-use Rattle.ends.specs.Answers.{countedOf}
-use Rattle.opening.specs.Opening.{countedAs, openAnswer, openAfter, closeAnswer, closeAfter, countsAnswer}
+use Rattle.end_points.specs.Ends.{endOf}
+use Rattle.end_points.specs.Heads.{countIn}
+use Rattle.end_points.specs.Runs as runs
+use Rattle.end_points.specs.States.{isSends, isClosed}
+use Rattle.end_points.specs.declared.State.the-variants.{Closed, Enabled}
+use Rattle.end_points.specs.declared.EndPoint.{EndPoint}
+use Rattle.end_points.specs.Answers.{countedOf}
+use Rattle.call_open.specs.Opening.{countedAs, openAnswer, openAfter, closeAnswer, closeAfter, countsAnswer}
 use Rattle.good.specs.Good.{Lists, Silent, Good, mine}
 use Rattle.good.specs.Calls.{Memory, bare, keptBare, answer, after}
 use Rattle.machine.specs.Calls.{opens, closes, counts}

@@ -18,12 +18,12 @@ use Rattle.window.specs.declared.Accepted.{Accepted}
 use Rattle.window.specs.declared.Found.the-variants.{New, Held}
 use Rattle.window.proofs.Holding as holding
 use Rattle.window.proofs.Holding.{held-beyond, count-below}
-use Rattle.ends.specs.States.{isSends}
-use Rattle.ends.specs.Runs.{isNew}
-use Rattle.ends.specs.declared.EndPoint.{EndPoint}
-use Rattle.ends.specs.declared.State.{State}
+use Rattle.end_points.specs.States.{isSends}
+use Rattle.end_points.specs.Runs.{isNew}
+use Rattle.end_points.specs.declared.EndPoint.{EndPoint}
+use Rattle.end_points.specs.declared.State.{State}
 use Rattle.blocks.specs.Payloads.{payloads}
-use Rattle.receiving.specs.Receiving.{withWindow}
+use Rattle.arrive_data.specs.Receiving.{withWindow}
 use Rattle.good.proofs.Turns.{turnedTo}
 use Rattle.good.proofs.AckRuns.{Passes}
 use Rattle.machine.specs.Machine as machine

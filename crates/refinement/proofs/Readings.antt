@@ -8,9 +8,9 @@ use native.Mathlib.Omega.{arith}
 use lib.ListN.{length, set}
 use Rattle.table.specs.Layout.{countOf, ownOf, protocolOf}
 use Rattle.table.specs.Areas.{storeOf}
-use Rattle.order.specs.Order.{acksIn, notOf}
-use Rattle.ends.specs.Ends.{endOf}
-use Rattle.ends.specs.Heads.{countIn}
+use Rattle.waiting.specs.Order.{acksIn, notOf}
+use Rattle.end_points.specs.Ends.{endOf}
+use Rattle.end_points.specs.Heads.{countIn}
 use Rattle.good.specs.Good.{Lists, Good, mine}
 use Rattle.good.specs.Calls.{Memory}
 use Rattle.good.proofs.Payloads.{stored-long}

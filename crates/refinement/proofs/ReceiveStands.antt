@@ -12,7 +12,7 @@ use borrow.Author.Tests.{ltb-true}
 use Rattle.units.specs.Refusals.{pick}
 use Rattle.memory.specs.Layout.{lengthAt}
 use Rattle.waiting.specs.Acks.{dropped, waitingOf}
-use Rattle.order.specs.Order.{acksIn, notOf}
+use Rattle.waiting.specs.Order.{acksIn, notOf}
 use Rattle.window.specs.Windows.{offsetOf, held, acceptOf, Good as GoodWindow}
 use Rattle.window.specs.declared.Window.{Window}
 use Rattle.window.proofs.Accepting.{accept-size, accept-good, found-new}
@@ -22,21 +22,21 @@ use Rattle.window.proofs.Holding.{held-below}
 use Rattle.table.specs.Areas.{slotsOf, storeOf}
 use Rattle.table.specs.Layout.{entryOf}
 use Rattle.frame.specs.declared.FrameType.the-variants as type
-use Rattle.ends.specs.Ends.{endOf, saved}
-use Rattle.ends.specs.Heads.{countIn}
-use Rattle.ends.specs.Runs as runs
-use Rattle.ends.specs.Runs.{isNew}
-use Rattle.ends.specs.States.{isSends}
-use Rattle.ends.specs.Lent.{Lent}
-use Rattle.ends.specs.declared.State.{State}
-use Rattle.ends.specs.declared.State.the-variants.{Open}
-use Rattle.ends.specs.declared.EndPoint.{EndPoint}
-use Rattle.ends.specs.declared.answers.Arrived.the-variants as arrived
+use Rattle.end_points.specs.Ends.{endOf, saved}
+use Rattle.end_points.specs.Heads.{countIn}
+use Rattle.end_points.specs.Runs as runs
+use Rattle.end_points.specs.Runs.{isNew}
+use Rattle.end_points.specs.States.{isSends}
+use Rattle.end_points.specs.Lent.{Lent}
+use Rattle.end_points.specs.declared.State.{State}
+use Rattle.end_points.specs.declared.State.the-variants.{Open}
+use Rattle.end_points.specs.declared.EndPoint.{EndPoint}
+use Rattle.end_points.specs.declared.answers.Arrived.the-variants as arrived
 use Rattle.slots.specs.Slots.{slotFor, cell, past}
 use Rattle.blocks.specs.Blocks.{blockOf}
-use Rattle.receiving.specs.Receiving as memory
-use Rattle.receiving.specs.Receiving.{acknowledged, resetAnswer, resetNode, resetAfter, withWindow, putStore, putBook}
-use Rattle.receiving.specs.Receiving.{delivered, given, dataAnswer, dataAfter, urgentAnswer, urgentAfter}
+use Rattle.arrive_data.specs.Receiving as memory
+use Rattle.arrive_data.specs.Receiving.{acknowledged, resetAnswer, resetNode, resetAfter, withWindow, putStore, putBook}
+use Rattle.arrive_data.specs.Receiving.{delivered, given, dataAnswer, dataAfter, urgentAnswer, urgentAfter}
 use Rattle.good.specs.Good.{Lists, Lines, Silent, Good, mine}
 use Rattle.good.specs.Calls.{Memory, lent, kept}
 use Rattle.good.proofs.Known.{is-new, receiver-silent, silent-nil}

@@ -17,24 +17,24 @@ use Rattle.units.specs.declared.refusals.Verdict.the-variants.{Passed}
 use Rattle.units.specs.declared.refusals.Refusal.{Refusal}
 use Rattle.units.specs.declared.refusals.Refusal.the-variants.{UrgentWaits}
 use Rattle.memory.specs.Layout as layout
-use Rattle.memory.specs.Layout.{lengthAt, timerAt, retriesAt, slotId}
+use Rattle.memory.specs.Layout.{lengthAt, timerAt, retriesAt, cellId}
 use Rattle.waiting.specs.Queues.{appended}
-use Rattle.order.specs.Order.{acksIn}
+use Rattle.waiting.specs.Order.{acksIn}
 use Rattle.window.specs.Windows.{Good as GoodWindow}
 use Rattle.window.specs.declared.Window.{Window}
 use Rattle.window.proofs.Sizes.{size-le}
 use Rattle.table.specs.Layout.{entryOf}
 use Rattle.table.specs.Areas.{slotsOf, storeOf}
-use Rattle.ends.specs.Ends.{endOf}
-use Rattle.ends.specs.Heads.{countIn, needIn}
-use Rattle.ends.specs.Lent.{Lent}
-use Rattle.ends.specs.declared.State.{State}
-use Rattle.ends.specs.declared.State.the-variants.{Open}
-use Rattle.ends.specs.declared.EndPoint.{EndPoint}
+use Rattle.end_points.specs.Ends.{endOf}
+use Rattle.end_points.specs.Heads.{countIn, needIn}
+use Rattle.end_points.specs.Lent.{Lent}
+use Rattle.end_points.specs.declared.State.{State}
+use Rattle.end_points.specs.declared.State.the-variants.{Open}
+use Rattle.end_points.specs.declared.EndPoint.{EndPoint}
 use Rattle.slots.specs.Slots.{slotFor, cell, past, timerIn, retriesIn, spot}
-use Rattle.handing.specs.Handing.{urgentPayload}
-use Rattle.sending.specs.Sending as memory
-use Rattle.sending.specs.Sending.{nextNumber, sentRun, sentBook, sendAnswer, sendAfter, urgentRun, urgentAnswer, urgentAfter}
+use Rattle.call_hand_out.specs.Handing.{urgentPayload}
+use Rattle.call_send.specs.Sending as memory
+use Rattle.call_send.specs.Sending.{nextNumber, sentRun, sentBook, sendAnswer, sendAfter, urgentRun, urgentAnswer, urgentAfter}
 use Rattle.good.specs.Good.{Lists, OpenSender, Good, Ranged}
 use Rattle.good.specs.Calls.{Memory, lent, kept, answer, after}
 use Rattle.machine.specs.Calls.{sends, urges}
@@ -107,11 +107,11 @@ module _ (t : List ℕ) (n : Memory) (l : Lists) (g : Good t (n .node) (n .book)
     was = stated-at g li true (went .sends) Open (went .opened)
 
     -- a length and the retries put, and one more that waits as data
-    put-s : Put (n .book) (sentBook (n .book) at (length p)) l (lengthAt at) (length p) (retriesAt at) 0 3 (slotId at)
+    put-s : Put (n .book) (sentBook (n .book) at (length p)) l (lengthAt at) (length p) (retriesAt at) 0 3 (cellId at)
     unfolding sentBook
     put-s =
         let h = cell-low i low w good (past w (e .run .taken)) in
-        put-both (g .lines) (lengthAt at) (length p) (retriesAt at) 0 3 (slotId at) (omega arith) (omega arith) (omega arith) (omega arith)
+        put-both (g .lines) (lengthAt at) (length p) (retriesAt at) 0 3 (cellId at) (omega arith) (omega arith) (omega arith) (omega arith)
         (omega arith) (omega arith) (next-waits t (n .node) (n .book) l g i li was (went .room))
 
     book : now .book ≡ sentBook (n .book) at (length p)
@@ -191,14 +191,14 @@ module _ (t : List ℕ) (n : Memory) (l : Lists) (g : Good t (n .node) (n .book)
     abbrev next : ℕ
     next = machine.past E (length (E .numbers))
 
-    new-item : slotItem (now .node) (slotId at) ≡ record { entry = i; number = next }
+    new-item : slotItem (now .node) (cellId at) ≡ record { entry = i; number = next }
     unfolding endFor
     new-item = item-for (now .node) i low w window-stays good (e .run .taken) (went .room) ∙ rw long
 
     sent-stands : Stands t now (waits datas i next (turned i (taking p E) M))
     sent-stands =
         turned-stands g room li left here
-        (waits-more left (window-steady window-stays) acks-stay datas 3 refl book (slotId at ∷ [])
+        (waits-more left (window-steady window-stays) acks-stay datas 3 refl book (cellId at ∷ [])
         (put-s .lines) (rw new-item))
 
   -- ---- send, the call

@@ -7,7 +7,7 @@ use Rattle.units.specs.declared.refusals.Verdict.the-variants.{Passed}
 use Rattle.window.proofs.Resetting.{new-held}
 use Rattle.table.specs.Layout.{countOf, entryOf}
 use Rattle.table.specs.Areas.{storeOf}
-use Rattle.opening.specs.Setup.{setupAnswer, setupAfter}
+use Rattle.call_open.specs.Setup.{setupAnswer, setupAfter}
 use Rattle.good.specs.Calls.{Memory, kept, SetUp}
 use Rattle.good.proofs.Entering.{closedAt}
 use Rattle.good.proofs.SetupGood.{setup-good, setup-ends}

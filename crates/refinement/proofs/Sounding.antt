@@ -15,8 +15,8 @@ use borrow.Author.Tests.{eqb-false}
 use Rattle.units.specs.Refusals.{pick}
 use Rattle.memory.specs.Layout as layout
 use Rattle.waiting.specs.Acks.{placeOf, waitingOf}
-use Rattle.order.specs.Order.{acksIn}
-use Rattle.order.proofs.Ringed.{from-length}
+use Rattle.waiting.specs.Order.{acksIn}
+use Rattle.waiting.proofs.Ringed.{from-length}
 use Rattle.window.specs.Numbers.{distanceOf}
 use Rattle.window.specs.Windows.{held}
 use Rattle.window.proofs.Sizes.{size-le}
@@ -24,14 +24,14 @@ use Rattle.window.specs.declared.Window.{Window}
 use Rattle.table.specs.Layout.{countOf, entryOf}
 use Rattle.table.specs.Areas.{slotsOf, storeOf}
 use Rattle.table.specs.declared.Entry.{Entry}
-use Rattle.ends.specs.Ends.{endOf}
-use Rattle.ends.specs.Heads.{countIn}
-use Rattle.ends.specs.States.{isSends}
-use Rattle.ends.specs.declared.State.{State}
-use Rattle.ends.specs.declared.State.the-variants.{Closed, Enabled, Open, Failing}
-use Rattle.ends.specs.declared.EndPoint.{EndPoint}
+use Rattle.end_points.specs.Ends.{endOf}
+use Rattle.end_points.specs.Heads.{countIn}
+use Rattle.end_points.specs.States.{isSends}
+use Rattle.end_points.specs.declared.State.{State}
+use Rattle.end_points.specs.declared.State.the-variants.{Closed, Enabled, Open, Failing}
+use Rattle.end_points.specs.declared.EndPoint.{EndPoint}
 use Rattle.slots.specs.Slots.{slotFor, cell, past, spot, lengthIn}
-use Rattle.handing.specs.Handing.{urgentPayload}
+use Rattle.call_hand_out.specs.Handing.{urgentPayload}
 use Rattle.good.specs.Good.{Lists, Good, Stated, Filled, mine, ownerOf, idAt}
 use Rattle.good.specs.Calls.{Memory}
 use Rattle.good.proofs.Known.{stated-as, receiver-silent, silent-out}

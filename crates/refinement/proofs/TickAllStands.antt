@@ -16,18 +16,18 @@ use Rattle.memory.specs.Layout.{resetId}
 use Rattle.waiting.specs.Queues.{appended}
 use Rattle.table.specs.Layout.{countOf}
 use Rattle.table.specs.Areas.{storeOf}
-use Rattle.ends.specs.Ends.{endOf, saved}
-use Rattle.ends.specs.Heads.{countIn}
-use Rattle.ends.specs.Runs as runs
-use Rattle.ends.specs.States.{isSends, isOver}
-use Rattle.ends.specs.Lent.{Lent}
-use Rattle.ends.specs.declared.State.{State}
-use Rattle.ends.specs.declared.State.the-variants.{Closed, Enabled, Open, Failing}
-use Rattle.ends.specs.declared.EndPoint.{EndPoint}
+use Rattle.end_points.specs.Ends.{endOf, saved}
+use Rattle.end_points.specs.Heads.{countIn}
+use Rattle.end_points.specs.Runs as runs
+use Rattle.end_points.specs.States.{isSends, isOver}
+use Rattle.end_points.specs.Lent.{Lent}
+use Rattle.end_points.specs.declared.State.{State}
+use Rattle.end_points.specs.declared.State.the-variants.{Closed, Enabled, Open, Failing}
+use Rattle.end_points.specs.declared.EndPoint.{EndPoint}
 use Rattle.timing.specs.Timing.{clockIn, quietIn, later, leftOf, passed}
 use Rattle.timing.proofs.Falling.{later-next}
-use Rattle.ticking.specs.Ticking as memory
-use Rattle.ticking.specs.Ticking.{Scanned, Recovered, recover, recoverAll, tickEntry, tickEntries, scanBoth, scanAfter, stillAfter, tickBoth, tickAfter, tickAnswer}
+use Rattle.call_tick.specs.Ticking as memory
+use Rattle.call_tick.specs.Ticking.{Scanned, Recovered, recover, recoverAll, tickEntry, tickEntries, scanBoth, scanAfter, stillAfter, tickBoth, tickAfter, tickAnswer}
 use Rattle.good.specs.Good.{Lists, Silent, Good}
 use Rattle.good.specs.Calls.{Memory, bare, keptBare, answer, after}
 use Rattle.machine.specs.Calls.{ticks}

@@ -13,17 +13,17 @@ use lib.Dec.{eqb, leb, ltb}
 use borrow.Author.Tests.{lt-ltb, le-ltb, le-leb, lt-leb, eqb-true, eqb-false, eq-eqb, ne-eqb, ltb-true, ltb-false}
 use Rattle.units.specs.Refusals.{pick}
 use Rattle.memory.specs.Layout as layout
-use Rattle.memory.specs.Layout.{timerAt, retriesAt, slotId}
+use Rattle.memory.specs.Layout.{timerAt, retriesAt, cellId, bookHalves}
 use Rattle.waiting.specs.Queues.{appended}
 use Rattle.window.specs.Windows.{Good as GoodWindow}
 use Rattle.window.specs.declared.Window.{Window}
-use Rattle.ends.specs.declared.State.{State}
-use Rattle.ends.specs.declared.Run.{Run}
-use Rattle.ends.specs.declared.EndPoint.{EndPoint}
+use Rattle.end_points.specs.declared.State.{State}
+use Rattle.end_points.specs.declared.Run.{Run}
+use Rattle.end_points.specs.declared.EndPoint.{EndPoint}
 use Rattle.slots.specs.Slots.{cell, past, timerIn, retriesIn, idled}
 use Rattle.timing.specs.Timing.{leftOf, later, soonest}
 use Rattle.timing.proofs.Falling.{left-one, left-ticks}
-use Rattle.ticking.specs.Ticking.{Ticked, expired, tickSlot, tickSlots}
+use Rattle.call_tick.specs.Ticking.{Ticked, expired, tickSlot, tickSlots}
 use Rattle.good.specs.Good.{Lists, Lines, OpenSender, idAt}
 use Rattle.good.proofs.Turns.{turnedTo}
 use Rattle.good.proofs.Lined.{added}
@@ -156,7 +156,7 @@ module _ (st b : List ℕ) (l : Lists) (L : Lines b l) (i : ℕ) (low : i < 16) 
     S : Slots i low e g b l k t
     S = slots k (omega arith)
 
-    long : length (t .book) ≡ 10368
+    long : length (t .book) ≡ bookHalves
     long = S .within .lines .long
 
     inside : k < w .size
@@ -211,7 +211,7 @@ module _ (st b : List ℕ) (l : Lists) (L : Lines b l) (i : ℕ) (low : i < 16) 
     quiet z = (on-next ∙ rw z (and-true (good-to k)), rw z, rw z (ap (λ (y : Bool). pick y (r + 1) r) (and-false (good-to (suc k)))))
 
     -- a timer put anew, and nothing else
-    timer-moved : (c : List ℕ) → ((x : ℕ) → 4224 ≤ x → getD c x 0 ≡ getD (t .book) x 0) → length c ≡ 10368 → (y : ℕ) → y ≡ stays d
+    timer-moved : (c : List ℕ) → ((x : ℕ) → 4224 ≤ x → getD c x 0 ≡ getD (t .book) x 0) → length c ≡ bookHalves → (y : ℕ) → y ≡ stays d
         → pick (good-to (suc k) && eqb v 1) (r + 1) r ≡ r → Moved (set c (timerAt (at k)) y)
     timer-moved c same c-long y is none =
         record {
@@ -258,7 +258,7 @@ module _ (st b : List ℕ) (l : Lists) (L : Lines b l) (i : ℕ) (low : i < 16) 
 
     -- it comes to zero, and the end is Failing then: nothing is tried again, in a book c that differs in links at most
     fails : d ≡ now → good-to (suc k) ≡ false → (c : List ℕ) → ((x : ℕ) → 4224 ≤ x → getD c x 0 ≡ getD (t .book) x 0)
-        → length c ≡ 10368 → (x u : ℕ)
+        → length c ≡ bookHalves → (x u : ℕ)
         → Next (come-to (set c (timerAt (at k)) 0) true x u)
     fails z o c same c-long x u =
         further (come-to (set c (timerAt (at k)) 0) true x u) (sym (rw o)) (timer-moved c same c-long 0 (due-stops z) (rw o))
@@ -275,14 +275,14 @@ module _ (st b : List ℕ) (l : Lists) (L : Lines b l) (i : ℕ) (low : i < 16) 
     tried-book = set timer-book (retriesAt (at k)) (retriesIn (t .book) (at k) + 1)
 
     tries : d ≢ 0 → d ≡ now → good-to k ≡ true → leb M r ≡ false → (x u : ℕ)
-        → Next (come-to (appended tried-book layout.resends (slotId (at k))) false x u)
+        → Next (come-to (appended tried-book layout.resends (cellId (at k))) false x u)
     unfolding again
     tries n due y u x least =
         let z = due-one n due in
         let o : good-to (suc k) ≡ true = on-next ∙ rw (y, u) (ap not (and-false (eqb v 1))) in
         let q = due-stops due in
         let s = at-small k in
-        further (come-to (appended tried-book layout.resends (slotId (at k))) false x least) (sym (rw o))
+        further (come-to (appended tried-book layout.resends (cellId (at k))) false x least) (sym (rw o))
         (record {
           timer = P .first ∙ q;
           timers = λ j h d. let a = at-small j in P .others (timerAt (at j)) (omega arith)
@@ -290,34 +290,34 @@ module _ (st b : List ℕ) (l : Lists) (L : Lines b l) (i : ℕ) (low : i < 16) 
           retries = P .second ∙ ap (λ (a : ℕ). a + 1) r-here ∙ sym (rw (o, z));
           others = λ j h d. P .others (retriesAt (at j)) (omega arith) (λ p. omega arith) (λ p. other j h d (omega arith));
         })
-        (λ p. rw z (subst (Lines (appended tried-book layout.resends (slotId (at k)))) (fun-ext joins) (P .lines)))
+        (λ p. rw z (subst (Lines (appended tried-book layout.resends (cellId (at k)))) (fun-ext joins) (P .lines)))
       where
         so-far : Lists
         so-far = λ r. pick (eqb r layout.resends) (l r ++ again k) (l r)
 
-        none : (q : ℕ) → q < 4 → List·Memᴰ (slotId (at k)) (so-far q) → ⊥
+        none : (q : ℕ) → q < 4 → List·Memᴰ (cellId (at k)) (so-far q) → ⊥
         none q h m =
             runs-alone i low e g (t .book) (S .lists) (open-now y) k hk (λ u. n (sym here ∙ u)) q h
-            (subst (λ (xs : List ℕ). List·Memᴰ (slotId (at k)) xs) (lists-are refl (C .queued y) (S .within .lines) q h) m)
+            (subst (λ (xs : List ℕ). List·Memᴰ (cellId (at k)) xs) (lists-are refl (C .queued y) (S .within .lines) q h) m)
 
         r′ : ℕ
         r′ = retriesIn (t .book) (at k) + 1
 
-        P : Put (t .book) (appended tried-book layout.resends (slotId (at k))) so-far (timerAt (at k)) 0
-            (retriesAt (at k)) r′ 2 (slotId (at k))
+        P : Put (t .book) (appended tried-book layout.resends (cellId (at k))) so-far (timerAt (at k)) 0
+            (retriesAt (at k)) r′ 2 (cellId (at k))
         P =
             let s = at-small k in
-            put-both (C .queued y) (timerAt (at k)) 0 (retriesAt (at k)) r′ 2 (slotId (at k)) (omega arith)
+            put-both (C .queued y) (timerAt (at k)) 0 (retriesAt (at k)) r′ 2 (cellId (at k)) (omega arith)
             (omega arith) (omega arith) (omega arith)
             (omega arith) (id-high i low w g k) none
 
-        joins : (q : ℕ) → added so-far layout.resends (slotId (at k)) q
+        joins : (q : ℕ) → added so-far layout.resends (cellId (at k)) q
             ≡ pick (eqb q layout.resends) (l q ++ (again k ++ (idAt i w k ∷ []))) (l q)
         joins q = sides (eqb q layout.resends)
           where
-            sides : (a : Bool) → pick a (pick a (l q ++ again k) (l q) ++ (slotId (at k) ∷ [])) (pick a (l q ++ again k) (l q))
+            sides : (a : Bool) → pick a (pick a (l q ++ again k) (l q) ++ (cellId (at k) ∷ [])) (pick a (l q ++ again k) (l q))
                 ≡ pick a (l q ++ (again k ++ (idAt i w k ∷ []))) (l q)
-            sides true = append-assoc (l q) (again k) (slotId (at k) ∷ [])
+            sides true = append-assoc (l q) (again k) (cellId (at k) ∷ [])
             sides false = refl
 
     -- all of them
@@ -339,7 +339,7 @@ module _ (st b : List ℕ) (l : Lists) (L : Lines b l) (i : ℕ) (low : i < 16) 
     -- Failing before; tried again; or spent, so that the end is Failing and what of it waits goes
     by-end : d ≢ 0 → d ≡ now → (a : Bool) → t .failing ≡ a → (c : Bool) → ltb r₁ M ≡ c
         → Next (pick a (come-to timer-book true (t .running) (t .least))
-        (pick c (come-to (appended tried-book layout.resends (slotId (at k))) false (t .running) (t .least))
+        (pick c (come-to (appended tried-book layout.resends (cellId (at k))) false (t .running) (t .least))
         (come-to (set (idled i w (e .run .handed) (e .run .taken) (e .run .urgent) (t .book)) (timerAt (at k)) 0) true (t .running) (t .least))))
     by-end n z true h c q = fails z (on-next ∙ rw (good-is true h)) (t .book) (λ u h. refl) long (t .running) (t .least)
     by-end n z false h true q = tries n z (good-is false h) (lt-leb M r (let y = ltb-true r₁ M q in let u = r-here in omega arith)) (t .running) (t .least)

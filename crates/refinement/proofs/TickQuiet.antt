@@ -15,12 +15,12 @@ use Rattle.units.specs.Refusals.{pick}
 use Rattle.window.specs.declared.Window.{Window}
 use Rattle.table.specs.Layout.{countOf}
 use Rattle.table.specs.Areas.{storeOf}
-use Rattle.ends.specs.Ends.{endOf}
-use Rattle.ends.specs.Heads.{countIn}
-use Rattle.ends.specs.States.{isSends}
-use Rattle.ends.specs.declared.State.{State}
-use Rattle.ends.specs.declared.State.the-variants.{Closed, Enabled, Open, Failing}
-use Rattle.ends.specs.declared.EndPoint.{EndPoint}
+use Rattle.end_points.specs.Ends.{endOf}
+use Rattle.end_points.specs.Heads.{countIn}
+use Rattle.end_points.specs.States.{isSends}
+use Rattle.end_points.specs.declared.State.{State}
+use Rattle.end_points.specs.declared.State.the-variants.{Closed, Enabled, Open, Failing}
+use Rattle.end_points.specs.declared.EndPoint.{EndPoint}
 use Rattle.slots.specs.Slots.{cell, past, timerIn}
 use Rattle.timing.specs.Timing.{clockIn, quietIn, later, leftOf}
 use Rattle.timing.proofs.Falling.{left-zero}

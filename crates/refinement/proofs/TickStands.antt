@@ -13,24 +13,24 @@ use Rattle.units.specs.Refusals.{pick}
 use Rattle.memory.specs.Layout as layout
 use Rattle.memory.specs.Layout.{resetId}
 use Rattle.waiting.specs.Queues.{appended}
-use Rattle.order.specs.Order.{acksIn}
+use Rattle.waiting.specs.Order.{acksIn}
 use Rattle.window.specs.Windows.{Good as GoodWindow}
 use Rattle.window.specs.declared.Window.{Window}
 use Rattle.table.specs.Areas.{storeOf}
-use Rattle.ends.specs.Ends.{endOf, saved}
-use Rattle.ends.specs.Heads.{countIn}
-use Rattle.ends.specs.States.{isSends}
-use Rattle.ends.specs.Runs.{urgentGone}
-use Rattle.ends.specs.Lent.{Lent}
-use Rattle.ends.specs.declared.State.the-variants.{Open, Failing, Closed, Enabled}
-use Rattle.ends.specs.declared.EndPoint.{EndPoint}
-use Rattle.ends.specs.declared.Run.{Run}
-use Rattle.ends.specs.declared.State.{State}
+use Rattle.end_points.specs.Ends.{endOf, saved}
+use Rattle.end_points.specs.Heads.{countIn}
+use Rattle.end_points.specs.States.{isSends}
+use Rattle.end_points.specs.Runs.{urgentGone}
+use Rattle.end_points.specs.Lent.{Lent}
+use Rattle.end_points.specs.declared.State.the-variants.{Open, Failing, Closed, Enabled}
+use Rattle.end_points.specs.declared.EndPoint.{EndPoint}
+use Rattle.end_points.specs.declared.Run.{Run}
+use Rattle.end_points.specs.declared.State.{State}
 use Rattle.slots.specs.Slots.{cell, past, timerIn}
-use Rattle.ticking.specs.Ticking as memory
+use Rattle.call_tick.specs.Ticking as memory
 use Rattle.timing.specs.Timing.{clockIn, quietIn, later, leftOf}
 use Rattle.timing.proofs.Falling.{left-zero, left-one, left-ticks}
-use Rattle.ticking.specs.Ticking.{Ticked, Scanned, tickState, tickEntry, tickSlots}
+use Rattle.call_tick.specs.Ticking.{Ticked, Scanned, tickState, tickEntry, tickSlots}
 use Rattle.good.specs.Good as good
 use Rattle.good.specs.Good.{Lists, OpenSender, FailingSender, Good, mine, idAt, Silent, Timely}
 use Rattle.good.proofs.Timely.{outlasts-number}

@@ -13,12 +13,12 @@ use borrow.Author.Tests.{eq-eqb, ne-eqb}
 use Rattle.units.specs.Refusals.{pick}
 use Rattle.memory.specs.Layout as layout
 use Rattle.waiting.specs.Queues.{appended}
-use Rattle.order.specs.Order.{acksIn, Distinct, notOf}
+use Rattle.waiting.specs.Order.{acksIn, Distinct, notOf}
 use Rattle.table.specs.Areas.{storeOf}
-use Rattle.ends.specs.Ends.{endOf}
-use Rattle.ends.specs.declared.EndPoint.{EndPoint}
-use Rattle.ends.specs.Heads.{countIn}
-use Rattle.ends.specs.States.{isSends}
+use Rattle.end_points.specs.Ends.{endOf}
+use Rattle.end_points.specs.declared.EndPoint.{EndPoint}
+use Rattle.end_points.specs.Heads.{countIn}
+use Rattle.end_points.specs.States.{isSends}
 use Rattle.good.specs.Good.{Lists, Lines, Silent, ownerOf, Good, mine}
 use Rattle.good.specs.Calls.{Memory}
 use Rattle.good.proofs.Members as members

@@ -10,21 +10,22 @@ use lib.ListN.{length}
 use lib.Dec.{eqb, ltb}
 use Rattle.units.specs.Refusals.{pick, verdict}
 use Rattle.memory.specs.Layout as layout
-use Rattle.order.specs.Order.{acksIn}
+use Rattle.waiting.specs.Order.{acksIn}
 use Rattle.window.specs.Windows.{held}
 use Rattle.table.specs.Layout.{countOf, ownOf, protocolOf}
 use Rattle.table.specs.Areas.{storeOf}
-use Rattle.ends.specs.Ends.{endOf}
-use Rattle.ends.specs.Lent.{Lent}
-use Rattle.ends.specs.States.{isSends}
-use Rattle.ends.specs.declared.State.{State}
-use Rattle.ends.specs.declared.State.the-variants.{Closed, Enabled, Open, Failing}
-use Rattle.ends.specs.declared.EndPoint.{EndPoint}
+use Rattle.end_points.specs.Ends.{endOf}
+use Rattle.end_points.specs.Lent.{Lent}
+use Rattle.end_points.specs.States.{isSends}
+use Rattle.end_points.specs.declared.State.{State}
+use Rattle.end_points.specs.declared.State.the-variants.{Closed, Enabled, Open, Failing}
+use Rattle.end_points.specs.declared.EndPoint.{EndPoint}
 use Rattle.timing.specs.Timing.{clockIn, later, leftOf}
 use Rattle.slots.specs.Slots.{cell, past, numberIn, timerIn, retriesIn}
-use Rattle.opening.specs.Setup.{setupAnswer}
+use Rattle.call_open.specs.Setup.{setupAnswer}
 use Rattle.blocks.specs.Payloads.{payloadAt}
-use Rattle.handing.specs.Handing.{slotIn, urgentPayload}
+use Rattle.call_hand_out.specs.Handing.{urgentPayload}
+use Rattle.memory.specs.Layout.{idSlot}
 use Rattle.good.specs.Good.{Lists, Good, ownerOf}
 use Rattle.good.specs.Calls.{Memory, answer, after, SetUp, Reach}
 use Rattle.good.specs.NewNode.{newNode, newAt, newAfter}
@@ -35,6 +36,7 @@ use Rattle.machine.specs.Machine.{Machine, listed, begun, blank, setupTests, st
 
 -- ---- an end point, of a store and a book, as entry i
 
+-- the payload of the number k past the start, from its slot [S3, S5]
 abbrev pub payloadFor : List ℕ → List ℕ → ℕ → EndPoint → ℕ → List ℕ
 payloadFor st b i e k = payloadAt st b i (e .place) (e .entry .largest) (e .run .window) k
 
@@ -93,7 +95,7 @@ abbrev pub plainItem : ℕ → Item
 plainItem x = record { entry = ownerOf x; number = 0 }
 
 abbrev pub slotItem : List ℕ → ℕ → Item
-slotItem ws x = record { entry = ownerOf x; number = numberIn (endOf ws (ownerOf x) .run .window) (slotIn x) }
+slotItem ws x = record { entry = ownerOf x; number = numberIn (endOf ws (ownerOf x) .run .window) (idSlot x) }
 
 unfoldable pub waitingFor : List ℕ → Lists → Sort → List Item
 waitingFor ws l acks = map ackItem (acksIn ws)
@@ -115,7 +117,7 @@ standsFor t n l =
       waiting = waitingFor (n .node) l;
     }
 
--- a good memory, and the machine that it stands for
+-- a good memory, and the machine that it stands for [O2]
 pub record Stands (t : List ℕ) (n : Memory) (m : Machine) : Type 0 where
   pub lists : Lists
   pub good : Good t (n .node) (n .book) lists
@@ -124,29 +126,32 @@ pub record Stands (t : List ℕ) (n : Memory) (m : Machine) : Type 0 where
 
 -- ---- the theorem
 
--- setup answers as the machine does, and what it leaves, where it does not refuse, stands for the machine begun
+-- setup answers as the machine does, and what it leaves, where it does not refuse, stands for the machine begun [R31]
 unfoldable pub SetupAnswers : Type 0
 SetupAnswers = (x : Lent) (t : List ℕ) → setupAnswer x t ≡ verdict (setupTests t (length (x .store)))
 
+-- what setup leaves stands for the machine begun [E3]
 unfoldable pub Begins : Type 0
 Begins = (t : List ℕ) (n : Memory) → SetUp t n → Stands t n (begun t (length (n .store)))
 
--- a call does what the machine does: what it answers, and what it leaves
+-- a call does what the machine does: what it answers, and what it leaves [O1]
 pub record Follows (t : List ℕ) (n : Memory) (m : Machine) (c : Call) : Type 0 where
   pub answers : answer n c ≡ step m c .answer
   pub stands : Stands t (after n c) (step m c .machine)
 
+-- on what stands for a machine every call does what the machine does [O1, O2]
 unfoldable pub Refines : Type 0
 Refines = (t : List ℕ) (n : Memory) (m : Machine) → Stands t n m → (c : Call) → Fed c → Follows t n m c
 
--- so every node that setup and calls can give stands for a machine, and for no other
+-- so every node that setup and calls can give stands for a machine, and for no other [O2]
 unfoldable pub ReachStands : Type 0
 ReachStands = (t : List ℕ) (n : Memory) → Reach t n → (m : Machine) × Stands t n m
 
+-- no other machine, whatever table it is said to be of [O1]
 unfoldable pub OneMachine : Type 0
 OneMachine = (t u : List ℕ) (n : Memory) (m k : Machine) → Stands t n m → Stands u n k → m ≡ k
 
--- and that machine is sound
+-- and that machine is sound [E14, W3, H7, I2]
 unfoldable pub StandsSound : Type 0
 StandsSound = (t : List ℕ) (n : Memory) (m : Machine) → Stands t n m → Sound t m
 
@@ -157,6 +162,7 @@ pub record Blank (store : List ℕ) (c q : ℕ) (k : Call) : Type 0 where
   pub node : after (newAt store c q) k ≡ newAfter store c q k
   pub machine : step (blank (length store)) k .machine ≡ blank (length store)
 
+-- so it begins, and so it stays after any calls but setup [N1]
 pub record NewIsBlank : Type 0 where
   pub begins : (store : List ℕ) → newNode store ≡ newAt store 0 0
   pub stays : (store : List ℕ) (c q : ℕ) → c ≤ 65535 → (k : Call) → Blank store c q k

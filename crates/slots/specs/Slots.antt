@@ -6,25 +6,25 @@ use mathlib.Core.List.{List}
 use lib.ListN.{getD}
 use lib.Dec.{eqb, leb}
 use Rattle.units.specs.Refusals.{pick}
-use Rattle.memory.specs.Layout.{slotOf, slotId, urgentId, lengthAt, timerAt, retriesAt}
+use Rattle.memory.specs.Layout.{cellOf, cellId, urgentId, lengthAt, timerAt, retriesAt}
 use Rattle.waiting.specs.Queues.{unlinked}
 use Rattle.window.specs.Numbers.{distanceOf, byteOf}
 use Rattle.window.specs.Windows.{held}
 use Rattle.window.specs.declared.Window.{Window}
 
--- sequence s uses slot s mod W (01, "The channel table")
+-- sequence s uses slot s mod W [S3]
 abbrev pub slotFor : Window → ℕ → ℕ
 slotFor w s = pick (eqb (w .size) 0) 0 (s % w .size)
 
 -- its cell in the book, as entry i's
 abbrev pub cell : ℕ → Window → ℕ → ℕ
-cell i w s = slotOf i (slotFor w s)
+cell i w s = cellOf i (slotFor w s)
 
--- where a slot begins in the store: the entry's part begins at a place and has slots of P bytes
+-- where a slot begins in the store: the entry's part begins at a place and has slots of P bytes [S2, S5]
 abbrev pub spot : ℕ → ℕ → ℕ → ℕ
 spot place largest slot = place + slot * largest
 
--- the number k past the start
+-- the number k past the start [W2]
 abbrev pub past : Window → ℕ → ℕ
 past w k = byteOf (w .start .0 + k)
 
@@ -49,7 +49,7 @@ waitsIn b i w handed k = leb handed k || (not (held w k) && eqb (timerIn b (cell
 
 -- it waits no more
 unfoldable pub dropSlot : ℕ → Window → ℕ → ℕ → List ℕ → List ℕ
-dropSlot i w handed k b = pick (waitsIn b i w handed k) (unlinked b (slotId (cell i w (past w k)))) b
+dropSlot i w handed k b = pick (waitsIn b i w handed k) (unlinked b (cellId (cell i w (past w k)))) b
 
 -- nor does any of the first n numbers
 unfoldable pub dropSlots : ℕ → Window → ℕ → ℕ → List ℕ → List ℕ
@@ -57,5 +57,6 @@ dropSlots i w handed zero b = b
 dropSlots i w handed (suc n) b = dropSlot i w handed n (dropSlots i w handed n b)
 
 -- nothing of an open sender waits any more: its Urgent, where one of some length does, its data and retransmissions
+-- [E7, D8]
 unfoldable pub idled : ℕ → Window → ℕ → ℕ → ℕ → List ℕ → List ℕ
 idled i w handed taken urgent b = dropSlots i w handed taken (pick (eqb urgent 0) b (unlinked b (urgentId i)))

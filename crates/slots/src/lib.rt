@@ -1,6 +1,7 @@
 // The slots: where a numbered payload lies in the store and in the book, and what of an entry waits there.
 // Proved: each function is the definition of specs/Slots.antt that it cites, for every memory.
 use memory::half_at;
+use memory::layout;
 use units::Seq;
 use waiting::queues::unlink;
 use window::Window;
@@ -25,7 +26,7 @@ pub fn slot_for(w: Window, s: Seq) -> u8
 pub fn cell_of(i: u8, w: Window, s: Seq) -> u16
     ensures { λ r. ⌜ r ≡ cell i w (s .0) ⌝ }
 {
-    128 * i as u16 + slot_for(w, s) as u16
+    layout::CELLS * i as u16 + slot_for(w, s) as u16
 }
 
 // The first byte of a slot in the store, for an entry whose part begins at place and whose largest payload is P.
@@ -74,7 +75,7 @@ pub fn waits(book: &[u16], i: u8, w: Window, handed: u8, k: u8) -> bool
         return false;
     }
     let g = cell_of(i, w, advance(w.start, k));
-    half_at(book, 6272 + g as usize) == 0
+    half_at(book, layout::TIMER_AT + g as usize) == 0
 }
 
 // The number k past the start waits no more.
@@ -83,7 +84,7 @@ fn drop_slot(book: &mut [u16], i: u8, w: Window, handed: u8, k: u8)
 {
     if waits(book, i, w, handed, k) {
         let g = cell_of(i, w, advance(w.start, k));
-        unlink(book, 64 + g);
+        unlink(book, layout::CELL_ID + g);
     }
 }
 
@@ -106,6 +107,6 @@ pub fn idle(book: &mut [u16], i: u8, w: Window, taken: u8, handed: u8, urgent: u
         drop_slots(book, i, w, taken, handed);
         return;
     }
-    unlink(book, 32 + i as u16);
+    unlink(book, layout::URGENT_ID + i as u16);
     drop_slots(book, i, w, taken, handed)
 }

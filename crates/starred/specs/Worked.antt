@@ -1,4 +1,4 @@
--- The starred numbers of paper 01 ("Worked numbers"), in one table, and what the table claims. Assumes nothing.
+-- The starred numbers, in one table, and what the table claims. Assumes nothing.
 use mathlib.Core.Path.{_≡_}
 use mathlib.Core.Bool.{true, false}
 use mathlib.Core.List.{List, [], _∷_}
@@ -11,7 +11,7 @@ use Rattle.window.specs.Windows.{insideOf}
 use Rattle.window.specs.declared.Window.{Window}
 
 -- what a row gives: the check byte of some bytes; a number that is in a window, or out of it; a size at which only the
--- start is in
+-- start is in [O6]
 pub data Row : Type 0 where
   check : (bytes : List ℕ) (byte : ℕ) → Row
   is-in : (start size number : ℕ) → Row
@@ -22,19 +22,19 @@ pub data Row : Type 0 where
 abbrev pub windowAt : ℕ → ℕ → Window
 windowAt start size = record { start = seqOf start; size = size; marks = parted 0 }
 
--- what a row says
+-- what a row says [O6]
 abbrev pub Holds : Row → Type 0
 Holds (check bytes byte) = checkOf bytes ≡ byte
 Holds (is-in start size s) = insideOf (windowAt start size) s ≡ true
 Holds (is-out start size s) = insideOf (windowAt start size) s ≡ false
 Holds (only-start size) = (start s : ℕ) → start < 256 → s < 256 → insideOf (windowAt start size) s ≡ eqb s start
 
--- the claim: each row of a table holds
+-- the claim: each row of a table holds [O6]
 abbrev pub Claim : List Row → Type 0
 Claim [] = Unit
 Claim (r ∷ rs) = Holds r × Claim rs
 
--- the starred numbers, in the paper's order
+-- the starred numbers, in the rules' order [V1, V2, V3, V4, V5, O6]
 abbrev pub worked : List Row
 worked =
     check [] 0xFF

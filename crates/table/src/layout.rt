@@ -8,7 +8,8 @@ use units::bytes::get16;
 use units::sizes::in_force;
 ghost use mathlib.Core.Path.{_≡_};
 ghost use Prim.Native.Nat.{_+_, _^_, _<_};
-ghost use Rattle.table.specs.Layout.{entrySize, countOf, firstOf, ownOf, protocolOf, headZerosOf, byteOf, kindOf, windowFrom, zerosFrom, entryFrom, entryOf};
+ghost use Rattle.table.specs.Layout.{entrySize, countOf, firstOf, ownOf, protocolOf, headZerosOf, byteOf, kindOf};
+ghost use Rattle.table.specs.Layout.{windowFrom, zerosFrom, entryFrom, entryOf};
 
 // The bytes of the head, and of an entry.
 pub const HEAD: usize = 8;

@@ -21,7 +21,8 @@ ghost use mathlib.Core.Path.{_≡_};
 ghost use Prim.Native.Nat.{_<_};
 ghost use Rattle.units.specs.Sizes.{mayWrite};
 ghost use Rattle.table.specs.Layout.{countOf};
-ghost use Rattle.table.specs.Rules.{everyBelow, isAddress, headGood, timed as Rules·timed, numbersGood, formGood, entryGood, agree as Rules·agree, apart as Rules·apart, goodTable};
+ghost use Rattle.table.specs.Rules.{everyBelow, isAddress, headGood, timed as Rules·timed, numbersGood, formGood};
+ghost use Rattle.table.specs.Rules.{entryGood, agree as Rules·agree, apart as Rules·apart, goodTable};
 
 // Whether a table breaks no rule.
 pub fn is_good(table: &[u8]) -> bool

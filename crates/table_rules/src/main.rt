@@ -1,6 +1,6 @@
-// Runs the table's rules: tables that keep them all, and tables that each break one (01, "The channel table").
-// A line each: what was altered in the paper's table, or what another table is; then `refused 1`, or `good`
-// and the store that it takes.
+// Runs the table's rules: tables that keep them all, and tables that each break one.
+// A line each: what was altered in the paper's table, or what another table is; then `refused 1`, or `good` and the
+// store that it takes.
 use libc::STDOUT_FILENO;
 use units::bytes::put_all;
 use units::bytes::put8;

@@ -1,7 +1,7 @@
--- Timers by the tick at which they run out (01, "Tick": every running timer falls by one). Ticks are numbered 1 to
--- 65,535 and round again. A timer's place holds the number of the tick at which it runs out, and 0 where it does not
--- run; what is left of it is how far that number lies after the last tick's. T is at most 65,535, one whole round, so
--- that no two lengths share a number. Cited by whatever starts, stops or looks at a timer. Assumes nothing.
+-- Timers by the tick at which they run out. Ticks are numbered 1 to 65,535 and round again. A timer's place holds the
+-- number of the tick at which it runs out, and 0 where it does not run; what is left of it is how far that number
+-- lies after the last tick's. T is at most 65,535, one whole round, so that no two lengths share a number. Cited by
+-- whatever starts, stops or looks at a timer. Assumes nothing.
 use Prim.Native.Nat.{ℕ, _+_, _-_, _%_, min}
 use mathlib.Core.List.{List}
 use lib.ListN.{getD, set}
@@ -21,7 +21,7 @@ quietIn ws = getD ws quietAt 0
 abbrev pub later : ℕ → ℕ → ℕ
 later c n = pick (leb (c + n) 65535) (c + n) (c + n - 65535)
 
--- what is left after tick c of a timer that runs out at tick d: 1 to 65,535 where it runs
+-- what is left after tick c of a timer that runs out at tick d: 1 to 65,535 where it runs [D3]
 abbrev pub leftOf : ℕ → ℕ → ℕ
 leftOf c d = pick (eqb d 0) 0 (pick (ltb c d) (d - c) (d + (65535 - c)))
 
@@ -33,10 +33,10 @@ soonest least c d = min least (leftOf c d)
 abbrev pub passed : List ℕ → ℕ → ℕ → List ℕ
 passed ws c quiet = set (set ws clockAt c) quietAt quiet
 
--- a timer starts at t: the tick at which it runs out goes through the entries
+-- a timer starts at t: the tick at which it runs out goes through the entries [D2]
 abbrev pub heeded : List ℕ → ℕ → List ℕ
 heeded ws t = set ws quietAt (min (quietIn ws) (t - 1))
 
--- the next tick goes through the entries
+-- the next tick goes through the entries [D10]
 abbrev pub roused : List ℕ → List ℕ
 roused ws = set ws quietAt 0

@@ -7,7 +7,7 @@ use Rattle.units.specs.declared.refusals.Refusal.the-variants as refusal
 use Rattle.units.specs.declared.refusals.Verdict.{Verdict}
 use Rattle.units.specs.declared.refusals.Verdict.the-variants.{Passed, Refused}
 
--- 01, "Refusal numbers"
+-- the paper's number of each refusal [R1, R2, R3, R4, R5, R6, R7, R8, R9, R10, R11, R12, R13, R14, O3]
 abbrev pub numberOf : Refusal → ℕ
 numberOf refusal.BadTable = 1
 numberOf refusal.NoEntry = 2
@@ -29,7 +29,7 @@ abbrev pub pick : {A : Type 0} → Bool → A → A → A
 pick true a b = a
 pick false a b = b
 
--- each test beside what it refuses with, in the paper's order: the first that fits decides
+-- each test beside what it refuses with, in the paper's order: the first that fits decides [R43]
 abbrev pub verdict : List (Bool × Refusal) → Verdict
 verdict [] = Passed
 verdict (t ∷ ts) = pick (t .0) (Refused (t .1)) (verdict ts)

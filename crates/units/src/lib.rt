@@ -6,14 +6,14 @@ pub mod bytes; // bytes.rt: reading and writing lent bytes
 pub mod sizes; // sizes.rt: which numbers are window sizes, and the default
 pub mod refusals; // refusals.rt: why a call is refused, and what it answers then
 
-// A sequence number, as a frame carries it.
+// A sequence number, as a frame carries it. [U1, U2]
 pub struct Seq(pub u8);
 
-// A channel number.
+// A channel number. [U1]
 pub struct Channel(pub u8);
 
-// A SpaceWire logical address.
+// A SpaceWire logical address. [U1]
 pub struct Address(pub u8);
 
-// A count of payloads from the start of a run on, which no byte folds.
+// A count of payloads from the start of a run on, which no byte folds. [U2]
 pub struct Unfolded(pub u32);

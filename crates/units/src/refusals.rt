@@ -1,7 +1,8 @@
-// Why a call is refused (01, "Refusal numbers").
+// Why a call is refused, and the number that it answers then.
 ghost use mathlib.Core.Path.{_≡_};
 ghost use Rattle.units.specs.Refusals.{numberOf};
 
+// The refusals, in the order of their numbers. [R1, R2, R3, R4, R5, R6, R7, R8, R9, R10, R11, R12, R13, R14]
 pub enum Refusal {
     BadTable,
     NoEntry,

@@ -9,7 +9,7 @@ pub fn default_size() -> u16
     16
 }
 
-// Whether n is a window's size: exactly one bit set, and at most 128.
+// Whether n is a window's size: exactly one bit set, and at most 128. [G2]
 pub fn is_size(n: u16) -> bool
     ensures { λ r. ⌜ r ≡ isSize n ⌝ }
 {

@@ -1,2 +1,3 @@
 pub mod Queues
 pub mod Acks
+pub mod Order

@@ -16,10 +16,10 @@ prevOf b x = getD b (prevAt x) 0
 abbrev pub joined : List ℕ → ℕ → ℕ → List ℕ
 joined b x y = set (set b (nextAt x) y) (prevAt y) x
 
--- x comes last in queue q: behind what was last there, and before the queue itself
+-- x comes last in queue q: behind what was last there, and before the queue itself [H3]
 unfoldable pub appended : List ℕ → ℕ → ℕ → List ℕ
 appended b q x = joined (joined b (prevOf b q) x) x q
 
--- what stood around x is joined
+-- what stood around x is joined [H1]
 unfoldable pub unlinked : List ℕ → ℕ → List ℕ
 unlinked b x = joined b (prevOf b x) (nextOf b x)

@@ -1,10 +1,16 @@
 // The waiting acknowledgements, oldest first: each is its entry and the number it acknowledges.
+use memory::layout;
 use memory::put_word;
 use memory::word_at;
 use units::Seq;
 ghost use mathlib.Core.Path.{_≡_};
 ghost use Prim.Native.Nat.{_+_, _*_, _<_};
 ghost use Rattle.waiting.specs.Acks.{waitingOf, oldestOf, ackOf, pushed, popped, turned, turns, dropped};
+
+// How many wait is read modulo this, so that no content of the memory makes a turn through them long.
+const COUNTS: u64 = 64;
+// What takes one away, modulo `COUNTS`.
+const ONE_FEWER: u64 = 63;
 
 // An acknowledgement that waits.
 pub struct Ack {
@@ -16,15 +22,15 @@ pub struct Ack {
 pub fn waiting(node: &[u64]) -> u8
     ensures { λ r. ⌜ r ≡ waitingOf (now (node .entry)) ⌝ }
 {
-    (word_at(node, 5) % 64) as u8
+    (word_at(node, layout::ACKS_AT) % COUNTS) as u8
 }
 
 // The word of the one that has waited longest.
 fn oldest_word(node: &[u64]) -> u64
     ensures { λ r. ⌜ r ≡ oldestOf (now (node .entry)) ⌝ }
 {
-    let k = word_at(node, 4) % 32;
-    word_at(node, 32 + k as usize)
+    let k = word_at(node, layout::OLDEST_AT) % layout::ACK_PLACES;
+    word_at(node, layout::ACK_AT + k as usize)
 }
 
 // The one that has waited longest.
@@ -42,10 +48,14 @@ pub fn oldest(node: &[u64]) -> Ack
 fn push_word(node: &mut [u64], w: u64)
     ensures { λ _. ⌜ now (node .exit) ≡ pushed (now (node .entry)) w ⌝ }
 {
-    let k = word_at(node, 4) % 32;
-    let n = word_at(node, 5) % 64;
-    put_word(node, 32 + ((k + n) % 32) as usize, w);
-    put_word(node, 5, n + 1);
+    let k = word_at(node, layout::OLDEST_AT) % layout::ACK_PLACES;
+    let n = word_at(node, layout::ACKS_AT) % COUNTS;
+    put_word(
+        node,
+        layout::ACK_AT + ((k + n) % layout::ACK_PLACES) as usize,
+        w,
+    );
+    put_word(node, layout::ACKS_AT, n + 1);
 }
 
 // An acknowledgement of s waits for entry i.
@@ -60,10 +70,10 @@ pub fn push(node: &mut [u64], i: u8, s: Seq)
 pub fn pop(node: &mut [u64])
     ensures { λ _. ⌜ now (node .exit) ≡ popped (now (node .entry)) ⌝ }
 {
-    let k = word_at(node, 4) % 32;
-    let n = word_at(node, 5) % 64;
-    put_word(node, 4, (k + 1) % 32);
-    put_word(node, 5, (n + 63) % 64);
+    let k = word_at(node, layout::OLDEST_AT) % layout::ACK_PLACES;
+    let n = word_at(node, layout::ACKS_AT) % COUNTS;
+    put_word(node, layout::OLDEST_AT, (k + 1) % layout::ACK_PLACES);
+    put_word(node, layout::ACKS_AT, (n + ONE_FEWER) % COUNTS);
 }
 
 // The oldest goes, and to the end where it is not entry i's.

@@ -18,7 +18,7 @@ parted n = record { 0 = n % 2 ^ 64; 1 = n / 2 ^ 64 % 2 ^ 64 }
 unfoldable pub bit : ℕ → ℕ → Bool
 bit n k = eqb (n / 2 ^ k % 2) 1
 
--- how many of the k lowest digits of n are 1 without a gap, from the lowest on
+-- how many of the k lowest digits of n are 1 without a gap, from the lowest on [G3]
 unfoldable pub runIn : ℕ → ℕ → ℕ
 runIn zero n = zero
 runIn (suc k) n = pick (eqb (n % 2) 1) (suc (runIn k (n / 2))) zero

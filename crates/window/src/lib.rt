@@ -37,7 +37,7 @@ pub struct Passed {
     pub run: u8,
 }
 
-// How far s lies after start, going up and from 255 on to 0.
+// How far s lies after start, going up and from 255 on to 0. [W1, G1]
 pub fn distance(start: Seq, s: Seq) -> u8
     ensures { λ r. ⌜ r ≡ distanceOf (start .0) (s .0) ⌝ }
 {
@@ -77,7 +77,7 @@ impl Window {
         words::is_set(self.marks, k)
     }
 
-    // The window with s held too, where s lies in it and is new; and what was found of s.
+    // The window with s held too, where s lies in it and is new; and what was found of s. [W4, W6, G6]
     pub fn accept(self, s: Seq) -> Accepted
         ensures { λ r. ⌜ r ≡ acceptOf self (s .0) ⌝ }
     {
@@ -108,7 +108,7 @@ impl Window {
         }
     }
 
-    // The window past all that is held from its start on without a gap, and how many those are.
+    // The window past all that is held from its start on without a gap, and how many those are. [W5, W8, G6]
     pub fn pass(self) -> Passed
         ensures { λ r. ⌜ r ≡ passOf self ⌝ }
     {
@@ -127,7 +127,7 @@ impl Window {
         }
     }
 
-    // The window at start 1 again, with nothing held.
+    // The window at start 1 again, with nothing held. [E8, G6]
     pub fn reset(self) -> Window
         ensures { λ r. ⌜ r ≡ resetOf self ⌝ }
     {

@@ -14,7 +14,7 @@ fn trailing_ones(word: u64) -> u8
     u64::trailing_zeros(!word) as u8
 }
 
-// How many marks are set without a gap, from mark 0 on.
+// How many marks are set without a gap, from mark 0 on. [G3]
 pub fn run(m: Marks) -> u8
     ensures { λ r. ⌜ r ≡ runIn 128 (joined m) ⌝ }
 {

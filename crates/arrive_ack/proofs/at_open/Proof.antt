@@ -1,0 +1,60 @@
+-- `arrive_ack::at_open` meets its contract. Assumes nothing.
+use Rattle.arrive_ack.proofs.Tallies.{ignored, counted}
+use Rattle.arrive_ack.specs.Acking.{ackAnswer, ackNode, ackBook}
+use Rattle.slots.proofs.Bounds.{cell-lt}
+use native.Mathlib.Omega.{arith}
+use mathlib.Core.Path.{refl, sym, _∙_}
+use borrow.Author.Needs.{needs}
+use Rattle.arrive_ack.proofs.at_open.Statement.{statement}
+use Rattle.arrive_ack.proofs.at_open.Tie as tie
+
+tally-of-requires : tie.Need-tally-of-requires
+tally-of-requires c κs = search needs
+
+enum-told : tie.Need-enum-told
+enum-told c = search needs
+
+enum-known-next : tie.Need-enum-known-next
+enum-known-next c = search needs
+
+cell-of-requires : tie.Need-cell-of-requires
+cell-of-requires c κs = search needs
+
+stop-requires : tie.Need-stop-requires
+stop-requires c κs =
+    let a = c .before .before .before .before .before .before .before .before .before .args in
+    omega (arith, c .cell-of .ensures, cell-lt (a .i) (a .e .run .window) (a .s .0) (search needs) (omega (arith, c .before .before .before .before .before .before .before .before .before .good .1 .1 .1 .1)))
+
+save-requires : tie.Need-save-requires
+save-requires c κs = search needs
+
+returns : tie.Need-returns
+unfolding ackAnswer ackNode ackBook
+returns c = rw (ignored _ _ (sym (c .before .before .tally-of .ensures) ∙ c .enum-told .given .1)) (refl, (refl, refl))
+
+same-length : tie.Need-same-length
+same-length c = search needs
+
+same-length-2 : tie.Need-same-length-2
+same-length-2 c = search needs
+
+returns-2 : tie.Need-returns-2
+unfolding ackAnswer ackNode ackBook
+returns-2 c =
+    let h = counted _ _ _ _ (sym (c .before .before .before .before .before .before .before .before .before .before .before .before .tally-of .ensures) ∙ c .before .before .before .before .before .before .before .before .before .before .next .given .1) in
+    rw (h .0) (rw (h .1 .1), (rw (c .before .before .save .ensures, h .1 .0), rw (c .before .before .before .before .before .before .stop .ensures, c .before .before .before .before .before .before .before .cell-of .ensures)))
+
+pub at-open-spec : {M : Type 1} → statement M
+at-open-spec =
+    tie.close
+    (tie.spec
+    tally-of-requires
+    enum-told
+    enum-known-next
+    cell-of-requires
+    stop-requires
+    save-requires
+    returns
+    same-length
+    same-length-2
+    returns-2)

@@ -1,0 +1,102 @@
+-- `call_open::open` meets its contract. Assumes nothing.
+use mathlib.Core.Path.{refl, sym, _∙_}
+use borrow.Author.Tests.{le-leb, lt-leb, not-true, not-false}
+use Rattle.call_open.specs.Opening.{openAnswer, openAfter}
+use borrow.Author.Needs.{needs}
+use Rattle.call_open.proofs.open.Statement.{statement}
+use Rattle.call_open.proofs.open.Tie as tie
+
+count-requires : tie.Need-count-requires
+count-requires c κs = search needs
+
+cast-if1 : tie.Need-cast-if1
+cast-if1 c = search needs
+
+same-length : tie.Need-same-length
+same-length c = search needs
+
+returns : tie.Need-returns
+unfolding openAnswer openAfter
+returns c = (rw (le-leb _ _ (rw (c .before .count .ensures) at (c .if1 .taken))), refl)
+
+load-requires : tie.Need-load-requires
+load-requires c κs = search needs
+
+is-closed-requires : tie.Need-is-closed-requires
+is-closed-requires c κs = search needs
+
+same-length-2 : tie.Need-same-length-2
+same-length-2 c = search needs
+
+returns-2 : tie.Need-returns-2
+unfolding openAnswer openAfter
+returns-2 c =
+    let l = c .before .before .before .before in
+    (rw (lt-leb _ _ (rw (l .before .before .before .count .ensures) at (l .before .before .if1 .left)), ← l .load .ensures, sym (c .before .is-closed .ensures) ∙ not-true _ (c .if2 .taken)), refl)
+
+anew-run-requires : tie.Need-anew-run-requires
+anew-run-requires c κs = search needs
+
+save-requires : tie.Need-save-requires
+save-requires c κs = search needs
+
+is-sends-requires : tie.Need-is-sends-requires
+is-sends-requires c κs = search needs
+
+cast-append : tie.Need-cast-append
+cast-append c = search needs
+
+add-append : tie.Need-add-append
+add-append c = search needs
+
+append-requires : tie.Need-append-requires
+append-requires c κs = search needs
+
+same-length-3 : tie.Need-same-length-3
+same-length-3 c = search needs
+
+same-length-4 : tie.Need-same-length-4
+same-length-4 c = search needs
+
+returns-3 : tie.Need-returns-3
+unfolding openAnswer openAfter
+returns-3 c =
+    let l = c .before .before .before .before .before .before .before .before .before .before .before .before .before .before .before in (
+      rw (lt-leb _ _ (rw (l .before .before .before .count .ensures) at (l .before .before .if1 .left)), ← l .load .ensures, sym (c .before .before .before .before .before .before .before .before .before .before .before .before .is-closed .ensures) ∙ not-false _ (c .before .before .before .before .before .before .before .before .before .before .before .if2 .left)),
+      rw (c .before .before .append .ensures, c .before .before .before .before .before .before .before .before .save .ensures, c .before .before .before .before .before .before .before .before .before .anew-run .ensures, ← l .load .ensures, sym (c .before .before .before .before .before .is-sends .ensures) ∙ c .before .before .before .before .if3 .taken),
+    )
+
+same-length-5 : tie.Need-same-length-5
+same-length-5 c = search needs
+
+returns-4 : tie.Need-returns-4
+unfolding openAnswer openAfter
+returns-4 c =
+    let l = c .before .before .before .before .before .before .before .before .before .before .before in (
+      rw (lt-leb _ _ (rw (l .before .before .before .count .ensures) at (l .before .before .if1 .left)), ← l .load .ensures, sym (c .before .before .before .before .before .before .before .before .is-closed .ensures) ∙ not-false _ (c .before .before .before .before .before .before .before .if2 .left)),
+      rw (c .before .before .before .before .save .ensures, c .before .before .before .before .before .anew-run .ensures, ← l .load .ensures, sym (c .before .is-sends .ensures) ∙ c .if3 .left),
+    )
+
+pub open-spec : {M : Type 1} → statement M
+open-spec =
+    tie.close
+    (tie.spec
+    count-requires
+    cast-if1
+    same-length
+    returns
+    load-requires
+    is-closed-requires
+    same-length-2
+    returns-2
+    anew-run-requires
+    save-requires
+    is-sends-requires
+    cast-append
+    add-append
+    append-requires
+    same-length-3
+    same-length-4
+    returns-3
+    same-length-5
+    returns-4)

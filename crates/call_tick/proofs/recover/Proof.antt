@@ -1,0 +1,83 @@
+-- `call_tick::recover` meets its contract. Assumes nothing.
+use mathlib.Core.Path.{_≡_, sym, _∙_}
+use mathlib.Core.Bool.{true, false}
+use native.Mathlib.Omega.{arith}
+use denote.Ref.{now}
+use borrow.Author.Needs.{needs}
+use Rattle.end_points.specs.Ends.{endOf, loadState}
+use Rattle.call_tick.specs.Ticking.{recover}
+use Rattle.end_points.specs.States.{isOver}
+use Rattle.call_tick.proofs.Answering.{bit-le, shifted}
+use Rattle.call_tick.proofs.recover.Statement.{statement}
+use Rattle.call_tick.proofs.recover.Tie as tie
+
+load-state-requires : tie.Need-load-state-requires
+load-state-requires c κs = search needs
+
+is-over-requires : tie.Need-is-over-requires
+is-over-requires c κs = search needs
+
+load-requires : tie.Need-load-requires
+load-requires c κs = search needs
+
+anew-run-requires : tie.Need-anew-run-requires
+anew-run-requires c κs = search needs
+
+save-requires : tie.Need-save-requires
+save-requires c κs = search needs
+
+add-append : tie.Need-add-append
+add-append c = omega (arith, c .before .before .before .before .before .before .before .before .before .before .before .before .before .before .fits .i)
+
+append-requires : tie.Need-append-requires
+append-requires c κs = search needs
+
+shl-result : tie.Need-shl-result
+shl-result c = c .before .before .before .before .before .before .before .before .before .before .before .before .before .before .before .before .before .pre .0
+
+add-result : tie.Need-add-result
+add-result c =
+    let s = c .before .before .before .before .before .before .before .before .before .before .before .before .before .before .before .before .before in
+    omega (arith, s .pre .1, bit-le (s .args .i) (s .pre .0), shifted (s .args .i) (s .pre .0))
+
+same-length : tie.Need-same-length
+same-length c = search needs
+
+same-length-2 : tie.Need-same-length-2
+same-length-2 c = search needs
+
+returns : tie.Need-returns
+unfolding recover endOf
+returns c =
+    let s = c .before .before .before .before .before .before .before .before .before .before .before .before .before .before .before .before .before in
+    let o : isOver (loadState (now (s .args .node)) (s .args .i)) ≡ true = rw (c .before .before .before .before .before .before .before .before .before .before .before .before .before .load-state .ensures) at (sym (c .before .before .before .before .before .before .before .before .before .before .before .before .is-over .ensures) ∙ c .before .before .before .before .before .before .before .before .before .before .before .if1 .taken) in
+    rw (o, c .before .before .append .ensures, c .before .before .before .before .before .before .save .ensures, c .before .before .before .before .before .before .before .before .anew-run .ensures, c .before .before .before .before .before .before .before .before .before .load .ensures, shifted (s .args .i) (s .pre .0))
+
+same-length-3 : tie.Need-same-length-3
+same-length-3 c = search needs
+
+returns-2 : tie.Need-returns-2
+unfolding recover endOf
+returns-2 c =
+    let s = c .before .before .before .before .before .before in
+    let o : isOver (loadState (now (s .args .node)) (s .args .i)) ≡ false = rw (c .before .before .load-state .ensures) at (sym (c .before .is-over .ensures) ∙ c .if1 .left) in
+    rw o
+
+pub recover-spec : {M : Type 1} → statement M
+recover-spec =
+    tie.close
+    (tie.spec
+    load-state-requires
+    is-over-requires
+    load-requires
+    anew-run-requires
+    save-requires
+    add-append
+    append-requires
+    shl-result
+    add-result
+    same-length
+    same-length-2
+    returns
+    same-length-3
+    returns-2)

@@ -1,0 +1,14 @@
+use mathlib.Core.Path.{refl}
+use Rattle.end_points.specs.Runs.{urgentGone}
+use Rattle.end_points.proofs.states.without_urgent.Statement.{statement}
+use Rattle.end_points.proofs.states.without_urgent.Tie as tie
+use Rattle.end_points.proofs.states.without_urgent.Reads as reads
+use Rattle.end_points.proofs.states.without_urgent.Lts as lts
+
+-- src/states.rt:68:1
+returns : tie.Need-returns
+unfolding urgentGone
+returns c = refl
+
+pub without-urgent-spec : {M : Type 1} → statement M
+without-urgent-spec = tie.close (tie.spec returns)
