@@ -29,11 +29,14 @@ fn for_sender(t: FrameType) -> bool
     }
 }
 
-// Row v of the index.
-fn row(node: &[u64], v: u8) -> u64
-    ensures { λ r. ⌜ r ≡ rowIn (now (node .entry)) v ⌝ }
+// A row of the index: there is one for each byte, which is a channel in one place and an address in another.
+struct Row(u8);
+
+// The sets of entries in a row.
+fn sets_in(node: &[u64], v: Row) -> u64
+    ensures { λ r. ⌜ r ≡ rowIn (now (node .entry)) (v .0) ⌝ }
 {
-    word_at(node, layout::ROW_AT + v as usize)
+    word_at(node, layout::ROW_AT + v.0 as usize)
 }
 
 // The lowest of 16 binary digits that is 1; 16 where none is.
@@ -47,21 +50,21 @@ fn lowest(set: u64) -> u8
 pub fn entry_for(node: &[u64], t: FrameType, source: Address, channel: Channel) -> u8
     ensures { λ r. ⌜ r ≡ entryFor (now (node .entry)) t (source .0) (channel .0) ⌝ }
 {
-    let over = row(node, channel.0);
-    let from = row(node, source.0) >> 32;
+    let over = sets_in(node, Row(channel.0));
+    let from = sets_in(node, Row(source.0)) >> 32;
     if for_sender(t) {
         return lowest(over & from);
     }
     lowest((over >> 16) & from)
 }
 
-// Row v of the index with digit k too.
-fn mark(node: &mut [u64], v: u8, k: u8)
+// A row of the index with digit k too.
+fn mark(node: &mut [u64], v: Row, k: u8)
     requires { ⌜ k < 64 ⌝ }
-    ensures { λ _. ⌜ now (node .exit) ≡ marked (now (node .entry)) v k ⌝ }
+    ensures { λ _. ⌜ now (node .exit) ≡ marked (now (node .entry)) (v .0) k ⌝ }
 {
-    let with = row(node, v) | (1 << k);
-    put_word(node, layout::ROW_AT + v as usize, with)
+    let with = sets_in(node, v) | (1 << k);
+    put_word(node, layout::ROW_AT + v.0 as usize, with)
 }
 
 // Entry i's digit in the row of its channel.
@@ -81,6 +84,6 @@ pub fn put_in_index(node: &mut [u64], i: u8, e: Entry)
     ensures { λ _. ⌜ now (node .exit) ≡ indexed (now (node .entry)) i e ⌝ }
 {
     let kind = e.kind;
-    mark(node, e.channel.0, channel_digit(kind, i));
-    mark(node, e.remote.0, 32 + i)
+    mark(node, Row(e.channel.0), channel_digit(kind, i));
+    mark(node, Row(e.remote.0), 32 + i)
 }

@@ -18,10 +18,12 @@ use end_points::load_run;
 use end_points::load_state;
 use frame::FrameType;
 use frame::Read;
+use frame::layout;
 use frame::reading::header;
 use frame::reading::is_sound;
 use frame::reading::payload;
 use judging::judge;
+use units::Address;
 use units::Seq;
 use units::bytes::byte_at;
 use units::refusals::Refusal;
@@ -39,9 +41,9 @@ ghost use Rattle.call_arrive.specs.Arriving.{arrivalAnswer, arrivalAfter
 fn is_ours(node: &[u64], frame: &[u8]) -> bool
     ensures { λ r. ⌜ r ≡ ours (now (node .entry)) (now (frame .entry)) ⌝ }
 {
-    let us = own(node);
-    if byte_at(frame, 0) == us.0 {
-        return byte_at(frame, 1) == protocol(node);
+    let destination = Address(byte_at(frame, layout::DESTINATION));
+    if destination.is(own(node)) {
+        return byte_at(frame, layout::PROTOCOL) == protocol(node);
     }
     false
 }

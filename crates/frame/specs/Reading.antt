@@ -16,18 +16,19 @@ use Rattle.frame.specs.declared.Header.{Header}
 use Rattle.frame.specs.declared.Read.{Read}
 use Rattle.frame.specs.declared.Read.the-variants.{Frame, Refused}
 use Rattle.frame.specs.Types.{typeOf, suits, seqReads, seqGiven}
-use Rattle.frame.specs.Layout.{typeAt, userAt}
+use Rattle.frame.specs.Layout.{destinationByte, protocolByte, sourceByte, lengthByte, channelByte, sequenceByte}
+use Rattle.frame.specs.Layout.{overhead, typeAt, userAt}
 
 -- 9 bytes or more, as many as the length field says, and a check byte of 0 over the whole [F1, F8, C5, R10, V7]
 unfoldable pub soundOf : List ℕ → Bool
-soundOf f = leb 9 (length f) && eqb (get16Of f 4 + 9) (length f) && eqb (checkOf f) 0
+soundOf f = leb overhead (length f) && eqb (get16Of f lengthByte + overhead) (length f) && eqb (checkOf f) 0
 
 -- refusal 12 of a known type: user bits, payload length, a Reset's sequence [F5, F12, F13, F14, R12]
 abbrev pub typedTests : FrameType → List ℕ → List (Bool × Refusal)
 typedTests t f =
     (not (eqb (userAt f) 0), refusal.AgainstRules)
-    ∷ (not (suits t (get16Of f 4)), refusal.AgainstRules)
-    ∷ (not (seqReads t (getD f 7 0)), refusal.AgainstRules)
+    ∷ (not (suits t (get16Of f lengthByte)), refusal.AgainstRules)
+    ∷ (not (seqReads t (getD f sequenceByte 0)), refusal.AgainstRules)
     ∷ []
 
 -- refusal 12 [F7, R12]
@@ -38,13 +39,13 @@ headerTests f = (leb 4 (typeAt f), refusal.AgainstRules) ∷ typedTests (typeOf 
 abbrev pub headerAt : FrameType → List ℕ → Header
 headerAt t f =
     record {
-      destination = record { 0 = getD f 0 0 };
-      protocol = getD f 1 0;
-      source = record { 0 = getD f 2 0 };
+      destination = record { 0 = getD f destinationByte 0 };
+      protocol = getD f protocolByte 0;
+      source = record { 0 = getD f sourceByte 0 };
       kind = t;
-      channel = record { 0 = getD f 6 0 };
-      seq = record { 0 = seqGiven t (getD f 7 0) };
-      length = get16Of f 4;
+      channel = record { 0 = getD f channelByte 0 };
+      seq = record { 0 = seqGiven t (getD f sequenceByte 0) };
+      length = get16Of f lengthByte;
     }
 
 -- the fields where the tests pass [R43]

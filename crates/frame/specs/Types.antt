@@ -4,6 +4,7 @@ use Prim.Native.Nat.{ℕ, zero, suc}
 use mathlib.Core.Bool.{Bool, true, false, _&&_}
 use lib.Dec.{eqb, leb}
 use Rattle.units.specs.Refusals.{pick}
+use Rattle.frame.specs.Layout.{largestPayload}
 use Rattle.frame.specs.declared.FrameType.{FrameType}
 use Rattle.frame.specs.declared.FrameType.the-variants.{Data, Acknowledge, Reset, Urgent}
 use Rattle.frame.specs.declared.types.Known.{Known}
@@ -50,7 +51,7 @@ forSender Urgent = false
 
 -- whether a payload of n bytes fits a type [F12, F13]
 abbrev pub suits : FrameType → ℕ → Bool
-suits t n = pick (carries t) (leb 1 n && leb n 65520) (eqb n 0)
+suits t n = pick (carries t) (leb 1 n && leb n largestPayload) (eqb n 0)
 
 -- whether a frame of a type may be read with a sequence: a Reset's is 0 [F14, F15]
 abbrev pub seqReads : FrameType → ℕ → Bool

@@ -14,7 +14,7 @@ use Rattle.frame.specs.declared.FrameType.{FrameType}
 use Rattle.frame.specs.declared.Written.{Written}
 use Rattle.frame.specs.declared.Written.the-variants.{Length, Refused}
 use Rattle.frame.specs.Types.{typeOf, suits, seqWrites}
-use Rattle.frame.specs.Layout.{frameBytes}
+use Rattle.frame.specs.Layout.{overhead, frameBytes}
 
 -- what is tested of a known type, with a payload of n bytes and a buffer of `room` [F5, F14, F15, R5, R6, R12]
 abbrev pub typedTests : FrameType → Fields → ℕ → ℕ → List (Bool × Refusal)
@@ -22,7 +22,7 @@ typedTests t d n room =
     (not (eqb (d .user) 0), refusal.AgainstRules)
     ∷ (not (seqWrites t (d .seq .0)), refusal.AgainstRules)
     ∷ (not (suits t n), refusal.PayloadLength)
-    ∷ (ltb room (n + 9), refusal.TooShort)
+    ∷ (ltb room (n + overhead), refusal.TooShort)
     ∷ []
 
 -- and of the type's number [F7, R12, R41]
@@ -41,8 +41,8 @@ bytesAs (verdicts.Refused w) new old = old
 
 -- what the writer answers for fields, payload and buffer [F1, R41]
 unfoldable pub writeAnswer : Fields → List ℕ → List ℕ → Written
-writeAnswer d p b = writtenAs (verdict (writeTests d (length p) (length b))) (length p + 9)
+writeAnswer d p b = writtenAs (verdict (writeTests d (length p) (length b))) (length p + overhead)
 
 -- the buffer afterwards: bytes after the frame stay [H4, R44]
 unfoldable pub writtenOf : Fields → List ℕ → List ℕ → List ℕ
-writtenOf d p b = bytesAs (verdict (writeTests d (length p) (length b))) (frameBytes d p ++ drop (length p + 9) b) b
+writtenOf d p b = bytesAs (verdict (writeTests d (length p) (length b))) (frameBytes d p ++ drop (length p + overhead) b) b

@@ -7,6 +7,7 @@ use units::Channel;
 use units::Seq;
 use units::refusals::Refusal;
 
+pub mod layout; // layout.rt: where each field stands
 pub mod reading; // reading.rt: from bytes to a header
 pub mod writing; // writing.rt: from fields and payload to bytes
 mod types; // types.rt: the four types, and what each asks of payload and sequence

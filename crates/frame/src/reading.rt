@@ -2,6 +2,7 @@
 use crate::FrameType;
 use crate::Header;
 use crate::Read;
+use crate::layout;
 use crate::types::Known;
 use crate::types::known_type;
 use crate::types::payload_suits;
@@ -22,11 +23,11 @@ ghost use Rattle.frame.specs.Reading.{soundOf, typedTests, headerAt, rea
 pub fn is_sound(frame: &[u8]) -> bool
     ensures { λ r. ⌜ r ≡ soundOf (now (frame .entry)) ⌝ }
 {
-    if frame.len() < 9 {
+    if frame.len() < layout::OVERHEAD {
         return false;
     }
-    let n = get16(frame, 4) as usize;
-    if n + 9 != frame.len() {
+    let n = get16(frame, layout::LENGTH) as usize;
+    if n + layout::OVERHEAD != frame.len() {
         return false;
     }
     check8::check(frame) == 0
@@ -37,25 +38,25 @@ fn typed_header(frame: &[u8], kind: FrameType) -> Read
     ensures { λ r. ⌜ r ≡ readAs (verdict (typedTests kind (now (frame .entry))))
         (headerAt kind (now (frame .entry))) ⌝ }
 {
-    let mark = byte_at(frame, 3);
+    let mark = byte_at(frame, layout::TYPE);
     if mark / 16 != 0 {
         return Read::Refused(Refusal::AgainstRules);
     }
-    let length = get16(frame, 4);
+    let length = get16(frame, layout::LENGTH);
     if !payload_suits(kind, length as usize) {
         return Read::Refused(Refusal::AgainstRules);
     }
-    let seq = byte_at(frame, 7);
+    let seq = Seq(byte_at(frame, layout::SEQUENCE));
     if !seq_reads(kind, seq) {
         return Read::Refused(Refusal::AgainstRules);
     }
     Read::Frame(Header {
-        destination: Address(byte_at(frame, 0)),
-        protocol: byte_at(frame, 1),
-        source: Address(byte_at(frame, 2)),
+        destination: Address(byte_at(frame, layout::DESTINATION)),
+        protocol: byte_at(frame, layout::PROTOCOL),
+        source: Address(byte_at(frame, layout::SOURCE)),
         kind,
-        channel: Channel(byte_at(frame, 6)),
-        seq: Seq(seq_given(kind, seq)),
+        channel: Channel(byte_at(frame, layout::CHANNEL)),
+        seq: seq_given(kind, seq),
         length,
     })
 }
@@ -64,7 +65,7 @@ fn typed_header(frame: &[u8], kind: FrameType) -> Read
 pub fn header(frame: &[u8]) -> Read
     ensures { λ r. ⌜ r ≡ headerOf (now (frame .entry)) ⌝ }
 {
-    let mark = byte_at(frame, 3);
+    let mark = byte_at(frame, layout::TYPE);
     match known_type(mark % 16) {
         Known::Is(kind) => typed_header(frame, kind),
         Known::Unknown => Read::Refused(Refusal::AgainstRules),
@@ -86,9 +87,9 @@ pub fn payload(frame: &[u8]) -> &[u8]
     ensures { λ r. ⌜ now r ≡ payloadOf (now (frame .entry)) ⌝ }
 {
     let n = frame.len();
-    if n < 9 {
+    if n < layout::OVERHEAD {
         return &frame[..0];
     }
     let end = n - 1;
-    &frame[8..end]
+    &frame[layout::PAYLOAD..end]
 }

@@ -2,6 +2,7 @@
 use crate::Fields;
 use crate::FrameType;
 use crate::Written;
+use crate::layout;
 use crate::types::Known;
 use crate::types::known_type;
 use crate::types::payload_suits;
@@ -23,13 +24,13 @@ fn judge_typed(fields: Fields, kind: FrameType, n: usize, room: usize) -> Verdic
     if fields.user != 0 {
         return Verdict::Refused(Refusal::AgainstRules);
     }
-    if !seq_writes(kind, fields.seq.0) {
+    if !seq_writes(kind, fields.seq) {
         return Verdict::Refused(Refusal::AgainstRules);
     }
     if !payload_suits(kind, n) {
         return Verdict::Refused(Refusal::PayloadLength);
     }
-    if room < n + 9 {
+    if room < n + layout::OVERHEAD {
         return Verdict::Refused(Refusal::TooShort);
     }
     Verdict::Passed
@@ -46,7 +47,7 @@ fn judge(fields: Fields, n: usize, room: usize) -> Verdict
 }
 
 // Bytes 0 to 7, before a payload of n bytes.
-fn head(fields: Fields, n: usize) -> [u8; 8]
+fn head(fields: Fields, n: usize) -> [u8; layout::PAYLOAD]
     ensures { λ r. ⌜ r ≡ headBytes fields n ⌝ }
 {
     let length = n % 65536;
@@ -68,8 +69,8 @@ pub fn emit(buffer: &mut [u8], fields: Fields, payload: &[u8])
 {
     let first = head(fields, payload.len());
     put_all(buffer, 0, &first);
-    put_all(buffer, 8, payload);
-    let end = payload.len() + 8;
+    put_all(buffer, layout::PAYLOAD, payload);
+    let end = payload.len() + layout::PAYLOAD;
     if end < buffer.len() {
         let c = check8::check(&buffer[..end]);
         put8(buffer, end, c);
@@ -86,7 +87,7 @@ pub fn write(buffer: &mut [u8], fields: Fields, payload: &[u8]) -> Written
         Verdict::Refused(w) => Written::Refused(w),
         Verdict::Passed => {
             emit(buffer, fields, payload);
-            Written::Length(n + 9)
+            Written::Length(n + layout::OVERHEAD)
         }
     }
 }

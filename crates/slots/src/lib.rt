@@ -6,6 +6,7 @@ use units::Seq;
 use waiting::queues::unlink;
 use window::Window;
 use window::advance;
+use window::distance;
 ghost use mathlib.Core.Path.{_≡_};
 ghost use Prim.Native.Nat.{_+_, _*_};
 ghost use lib.ListN.{take, drop};
@@ -36,6 +37,13 @@ pub fn spot_of(place: u16, largest: u16, slot: u8) -> usize
     place as usize + slot as usize * largest as usize
 }
 
+// The least number that uses a slot is the slot's own.
+fn least_in(slot: u8) -> Seq
+    ensures { λ r. ⌜ r ≡ record { 0 = slot } ⌝ }
+{
+    Seq(slot)
+}
+
 // The number in the window that uses a slot.
 pub fn number_in(w: Window, slot: u8) -> Seq
     ensures { λ r. ⌜ r .0 ≡ numberIn w slot ⌝ }
@@ -45,7 +53,7 @@ pub fn number_in(w: Window, slot: u8) -> Seq
     if size == 0 {
         return start;
     }
-    let d = window::distance(start, Seq(slot));
+    let d = distance(start, least_in(slot));
     advance(start, d % size)
 }
 

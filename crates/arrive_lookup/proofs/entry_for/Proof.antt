@@ -26,11 +26,11 @@ module _ (ws : List ℕ) (source channel : ℕ) where
       first-ext (bit (bitAnd (rowIn ws channel / 2 ^ 16) (rowIn ws source / 2 ^ 32))) (listed ws false source channel) 0 16
       (λ i h. bit-and (rowIn ws channel / 2 ^ 16) (rowIn ws source / 2 ^ 32) i ∙ ap₂ (λ (a b : Bool). a && b) (bit-shr (rowIn ws channel) 16 i) (bit-shr (rowIn ws source) 32 i))
 
-row-requires : tie.Need-row-requires
-row-requires c κs = search needs
+sets-in-requires : tie.Need-sets-in-requires
+sets-in-requires c κs = search needs
 
-row-requires-2 : tie.Need-row-requires-2
-row-requires-2 c κs = search needs
+sets-in-requires-2 : tie.Need-sets-in-requires-2
+sets-in-requires-2 c κs = search needs
 
 for-sender-requires : tie.Need-for-sender-requires
 for-sender-requires c κs = search needs
@@ -43,7 +43,7 @@ unfolding entryFor
 returns c =
     let a = c .before .before .before .before .before .before .args in
     let t : forSender (a .t) ≡ true = sym (c .before .before .for-sender .ensures) ∙ c .before .if1 .taken in
-    rw t ((rw (c .before .before .before .before .row .ensures, c .before .before .before .row2 .ensures) at (c .lowest .ensures)) ∙ senders (now (a .node)) (a .source .0) (a .channel .0))
+    rw t ((rw (c .before .before .before .before .sets-in .ensures, c .before .before .before .sets-in2 .ensures) at (c .lowest .ensures)) ∙ senders (now (a .node)) (a .source .0) (a .channel .0))
 
 lowest-requires-2 : tie.Need-lowest-requires-2
 lowest-requires-2 c κs = search needs
@@ -53,14 +53,14 @@ unfolding entryFor
 returns-2 c =
     let a = c .before .before .before .before .before .before .args in
     let t : forSender (a .t) ≡ false = sym (c .before .before .for-sender .ensures) ∙ c .before .if1 .left in
-    rw t ((rw (c .before .before .before .before .row .ensures, c .before .before .before .row2 .ensures) at (c .lowest2 .ensures)) ∙ receivers (now (a .node)) (a .source .0) (a .channel .0))
+    rw t ((rw (c .before .before .before .before .sets-in .ensures, c .before .before .before .sets-in2 .ensures) at (c .lowest2 .ensures)) ∙ receivers (now (a .node)) (a .source .0) (a .channel .0))
 
 pub entry-for-spec : {M : Type 1} → statement M
 entry-for-spec =
     tie.close
     (tie.spec
-    row-requires
-    row-requires-2
+    sets-in-requires
+    sets-in-requires-2
     for-sender-requires
     lowest-requires
     returns

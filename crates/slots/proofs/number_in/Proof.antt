@@ -7,6 +7,9 @@ use Rattle.slots.proofs.number_in.Tie as tie
 returns : tie.Need-returns
 returns c = simp (eq-eqb _ 0 (c .if1 .taken))
 
+least-in-requires : tie.Need-least-in-requires
+least-in-requires c κs = search needs
+
 distance-requires : tie.Need-distance-requires
 distance-requires c κs = search needs
 
@@ -17,8 +20,8 @@ advance-requires : tie.Need-advance-requires
 advance-requires c κs = search needs
 
 returns-2 : tie.Need-returns-2
-returns-2 c = simp (ne-eqb _ 0 (c .before .before .if1 .left)) (rw (c .advance .ensures, c .before .distance .ensures))
+returns-2 c = simp (ne-eqb _ 0 (c .before .before .before .if1 .left)) (rw (c .advance .ensures, c .before .distance .ensures, c .before .before .least-in .ensures))
 
 pub number-in-spec : {M : Type 1} → statement M
 number-in-spec =
-    tie.close (tie.spec returns distance-requires rem-advance advance-requires returns-2)
+    tie.close (tie.spec returns least-in-requires distance-requires rem-advance advance-requires returns-2)
