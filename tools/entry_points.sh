@@ -1,6 +1,6 @@
 #!/usr/bin/env bash
-# No entry point asks anything of its caller: in the crates that a host, a drive box or another program calls, no `pub` function of the
-# crate's root or of a `pub mod` has a `requires`. Inner layers may (docs/CONTRACTS.md, "Exceptions").
+# No entry point asks anything of its caller: in the crates that a host, a drive box or another program calls, no `pub`
+# function of the crate's root or of a `pub mod` has a `requires`. Inner layers may (docs/CONTRACTS.md, "Exceptions").
 cd "$(dirname "$0")/.." || exit 2
 status=0
 for crate in node firmware frame check8 window lent table units lines; do

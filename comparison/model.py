@@ -1,7 +1,7 @@
-"""A node and its desk as paper 01 describes them, in plain Python: it makes the traces and is a third opinion on every answer.
+"""A node and its desk as paper 01 describes them, in plain Python: makes the traces, and is a third opinion on answers.
 
-Written for the reader, not for speed, and with no lent memory: the desk's store, block and frame buffers are always long enough,
-so refusal 6 is never given here."""
+Written for the reader, not for speed, and with no lent memory: the desk's store, block and frame buffers are always
+long enough, so refusal 6 is never given here."""
 import collections
 
 SENDS, RECEIVES = 0, 1
@@ -12,7 +12,8 @@ IGNORED, ACKNOWLEDGED, OPENED, TOOK_RESET, TOOK_DATA, TOOK_URGENT = range(6)
 # the five sorts of frame that wait, in the order of handing out
 SORTS = ACKS, RESETS, URGENTS, AGAIN, FIRST = range(5)
 # the desk's kinds of record
-TABLE_CALL, OPEN_CALL, CLOSE_CALL, SEND_CALL, URGENT_CALL, ARRIVAL_CALL, TICK_CALL, HAND_OUT_CALL, COUNTS_CALL = 1, 2, 3, 4, 5, 6, 7, 8, 20
+TABLE_CALL, OPEN_CALL, CLOSE_CALL, SEND_CALL, URGENT_CALL, ARRIVAL_CALL, TICK_CALL, HAND_OUT_CALL = range(1, 9)
+COUNTS_CALL = 20
 
 DEFAULT_WINDOW = 16
 MOST_ENTRIES = 16
@@ -106,7 +107,8 @@ def table(own, protocol, entries):
     """A table's bytes; an entry's window is written as it stands, 0 for the default."""
     out = two(len(entries)) + two(8) + bytes((own, protocol, 0, 0))
     for e in entries:
-        out += bytes((e.kind, e.remote, e.channel, e.retries)) + two(e.window) + two(e.largest) + two(e.timeout) + bytes(2)
+        out += bytes((e.kind, e.remote, e.channel, e.retries))
+        out += two(e.window) + two(e.largest) + two(e.timeout) + bytes(2)
     return out
 
 
@@ -238,13 +240,16 @@ class Timers:
     def tick(self, ended, enabled):
         """A tick in which these timers have ended, in this order, and so many entries became Enabled."""
         self.now += 1
-        due = {key: self.running.pop(key) for key in [key for key, timer in self.running.items() if timer.due == self.now]}
+        due = {key: timer for key, timer in self.running.items() if timer.due == self.now}
+        for key in due:
+            del self.running[key]
         if set(ended) != set(due):
             raise Astray("tick %d" % self.now)
         self.count_ended([(index, due[index, number]) for index, number in ended])
         if not ended:
-            self.seen["a stopped timer's tick ends none of those that run"] += self.now in self.missed and bool(self.running)
-            self.seen["recovery in a tick at which no timer was due, stopped or not"] += enabled * (self.now not in self.missed)
+            missed = self.now in self.missed
+            self.seen["a stopped timer's tick ends none of those that run"] += missed and bool(self.running)
+            self.seen["recovery in a tick at which no timer was due, stopped or not"] += enabled * (not missed)
 
     def count_ended(self, timers):
         """Of (entry index, timer)."""
@@ -255,14 +260,17 @@ class Timers:
             a[0] == b[0] and a[1].place > b[1].place for a, b in zip(timers, timers[1:]))
         for _, timer in timers:
             self.seen["a timer of T 1 ends"] += timer.timeout == 1
-            self.seen["a timer ends before one that started earlier"] += any(timer.place > other.place for other in self.running.values())
+            overtakes = any(timer.place > other.place for other in self.running.values())
+            self.seen["a timer ends before one that started earlier"] += overtakes
 
 
 # 4. THE NODE
 
 
 class Node:
-    """A node with its calls, each of which gives a list of numbers or raises Refused. `seen` counts what happened, for coverage."""
+    """A node with its calls, each of which gives a list of numbers or raises Refused.
+
+    `seen` counts what happened, for coverage."""
 
     def __init__(self):
         self.own = self.protocol = 0
@@ -535,7 +543,8 @@ class Node:
         if number.timer:
             return []
         self.seen["data's timer ends at " + end.state] += 1
-        self.seen["data's timer ends, an earlier number's runs on"] += any(n.timer for n in end.taken[:end.taken.index(number)])
+        earlier = end.taken[:end.taken.index(number)]
+        self.seen["data's timer ends, an earlier number's runs on"] += any(n.timer for n in earlier)
         if end.state == FAILING:
             pass
         elif number.retries < end.entry.retries:

@@ -1,11 +1,12 @@
 """Demand 3's history of one channel, kept by a bystander: calls and answers in, what was promised checked after each.
 
-The history is that of the sender's present run. Every frame on the link carries the run and the number, counted without folding, of
-the sender's frame that it is or answers; the bystander gives them when the frame is handed out. A premise is asked of a frame before it
-is taken in. A frame that would be refused is free, and so is an Urgent: neither alters what is counted."""
+The history is that of the sender's present run. Every frame on the link carries the run and the number, counted without
+folding, of the sender's frame that it is or answers; the bystander gives them when the frame is handed out. A premise
+is asked of a frame before it is taken in. A frame that would be refused is free, and so is an Urgent: neither alters
+what is counted."""
 import collections
 
-import model
+from comparison import model
 
 # a frame on the link; `channel` is None where no channel between the two nodes is meant
 Carried = collections.namedtuple("Carried", "frame channel run number")
@@ -78,7 +79,8 @@ class Channel:
         """What the host is told; while Open or Failing it is the history's own."""
         if self.live:
             self.told += self.whole
-            self.want((accepted, confirmed) == (len(self.accepted), self.confirmed), "the counts told are not the history's")
+            honest = (accepted, confirmed) == (len(self.accepted), self.confirmed)
+            self.want(honest, "the counts told are not the history's")
 
     # the receiver
 
@@ -125,7 +127,7 @@ class Channel:
     # the conclusion
 
     def want(self, fact, words):
-        """A fact that is promised while the premises hold; afterwards it is only counted, once a run, that it failed."""
+        """A fact that is promised while the premises hold; afterwards it is only counted, once a run, if it fails."""
         if fact:
             return
         if self.whole and self.in_run:

@@ -13,8 +13,8 @@ def build_peer(extra="", out=PEER):
 
 
 def build_sanitized():
-    """Builds the C peer with sanitizers, which end it at their first finding; gives where. It allocates nothing, so leaks are not looked
-    for: on some machines that takes seconds a run."""
+    """Builds the C peer with sanitizers, which end it at their first finding; gives where. It allocates nothing, so
+    leaks are not looked for: on some machines that takes seconds a run."""
     os.environ.setdefault("ASAN_OPTIONS", "detect_leaks=0")
     return build_peer("-g -fsanitize=address,undefined -fno-sanitize-recover=all", PEER + "_sanitized")
 
@@ -38,7 +38,8 @@ def command_of_peers(name, out=PEER):
 
 
 def written(command, data, seconds=300):
-    """What a program writes on `data`. A bad ending is no exception but a last line, so that it can be compared and shrunk."""
+    """What a program writes on `data`. A bad ending is no exception but a last line, so that it can be compared and
+    shrunk."""
     try:
         done = subprocess.run(command, input=data, stdout=subprocess.PIPE, stderr=subprocess.PIPE, timeout=seconds)
     except subprocess.TimeoutExpired as late:
@@ -64,5 +65,6 @@ def difference(a, b, names=("ours", "peer's")):
         y = lb[k] if k < len(lb) else b"(nothing)"
         if x != y:
             at = len(os.path.commonprefix([x, y]))
-            return "line %d\n  %-7s %s\n  %-7s %s" % (k + 1, names[0] + ":", excerpt(x, at), names[1] + ":", excerpt(y, at))
+            shown = names[0] + ":", excerpt(x, at), names[1] + ":", excerpt(y, at)
+            return "line %d\n  %-7s %s\n  %-7s %s" % (k + 1, *shown)
     return "they differ in length alone"
