@@ -2,9 +2,10 @@
  *
  *   harness ROW ROUNDS MODE WINDOW ENTRIES PAYLOAD TIMERS
  *
- * A round puts the nodes back as they were, then makes a batch of the row's calls: not at all in MODE 0, once in 1, once by the clock in 2.
- * Prints how many calls a batch has and, in MODE 2, the nanoseconds a call of the quickest batch. Instructions are counted from
- * outside: those in MODE 1 less those in MODE 0. One round more is made in every mode, and what it leaves is looked at. */
+ * A round puts the nodes back as they were, then makes a batch of the row's calls: not at all in MODE 0, once in 1,
+ * once by the clock in 2. Prints how many calls a batch has and, in MODE 2, the nanoseconds a call of the quickest
+ * batch. Instructions are counted from outside: those in MODE 1 less those in MODE 0. One round more is made in every
+ * mode, and what it leaves is looked at. */
 #include <stdio.h>
 #include <stdlib.h>
 #include <string.h>
@@ -39,8 +40,9 @@ static size_t table(uint8_t *to, uint8_t own, uint8_t other, int receives)
 	memcpy(to, (const uint8_t[8]){0, (uint8_t)entries, 0, 8, own, 238, 0, 0}, 8);
 	for (unsigned i = 0; i < entries; i++, at += 12) {
 		const unsigned t = receives ? 0 : timeout;
-		const uint8_t entry[12] = {(uint8_t)receives, other, (uint8_t)i, receives ? 0 : 3, (uint8_t)(window >> 8), (uint8_t)window,
-			(uint8_t)(size >> 8), (uint8_t)size, (uint8_t)(t >> 8), (uint8_t)t, 0, 0};
+		const uint8_t entry[12] = {(uint8_t)receives, other, (uint8_t)i, receives ? 0 : 3,
+			(uint8_t)(window >> 8), (uint8_t)window, (uint8_t)(size >> 8), (uint8_t)size,
+			(uint8_t)(t >> 8), (uint8_t)t, 0, 0};
 		memcpy(to + at, entry, 12);
 	}
 	return at;
@@ -285,8 +287,8 @@ static void before_quiet(void)
 	batch_length = 64;
 }
 
-/* The next tick ends no timer, but could: it is the one at which a timer would have ended that was stopped, and all that run have
- * started since the tick before. No bound that is left from the Resets' timers comes in between. */
+/* The next tick ends no timer, but could: it is the one at which a timer would have ended that was stopped, and all
+ * that run have started since the tick before. No bound that is left from the Resets' timers comes in between. */
 static void before_through(void)
 {
 	timeout = 2;

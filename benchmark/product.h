@@ -13,12 +13,14 @@ static inline int node_opens(node_t *n, unsigned index)
 	return shelugvar_node_open(n, index);
 }
 
-static inline int node_sends(node_t *n, uint8_t *store, size_t room, unsigned index, const uint8_t *payload, size_t length)
+static inline int node_sends(node_t *n, uint8_t *store, size_t room, unsigned index,
+	const uint8_t *payload, size_t length)
 {
 	return shelugvar_node_send(n, store, room, index, payload, length);
 }
 
-static inline int node_takes(node_t *n, uint8_t *store, size_t room, uint8_t *block, size_t block_room, const uint8_t *frame, size_t length)
+static inline int node_takes(node_t *n, uint8_t *store, size_t room, uint8_t *block, size_t block_room,
+	const uint8_t *frame, size_t length)
 {
 	struct shelugvar_arrival arrival;
 

@@ -42,8 +42,10 @@ static void refusals(void)
 	bad = f, bad.user = 1;
 	expect("user bits", shelugvar_frame_write(room, sizeof room, &bad, long_payload, 1), SHELUGVAR_AGAINST_RULES);
 	bad = f, bad.type = SHELUGVAR_RESET;
-	expect("a Reset's sequence", shelugvar_frame_write(room, sizeof room, &bad, long_payload, 0), SHELUGVAR_AGAINST_RULES);
-	expect("Data without payload", shelugvar_frame_write(room, sizeof room, &f, long_payload, 0), SHELUGVAR_PAYLOAD_LENGTH);
+	expect("a Reset's sequence", shelugvar_frame_write(room, sizeof room, &bad, long_payload, 0),
+		SHELUGVAR_AGAINST_RULES);
+	expect("Data without payload", shelugvar_frame_write(room, sizeof room, &f, long_payload, 0),
+		SHELUGVAR_PAYLOAD_LENGTH);
 	expect("65,520 bytes", shelugvar_frame_write(room, sizeof room, &f, long_payload, 65520), SHELUGVAR_DONE);
 	expect("65,521 bytes", shelugvar_frame_write(room, sizeof room, &f, long_payload, 65521), SHELUGVAR_PAYLOAD_LENGTH);
 	expect("no room", shelugvar_frame_write(buffer, 9, &f, long_payload, 1), SHELUGVAR_TOO_SHORT);

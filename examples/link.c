@@ -1,11 +1,11 @@
-/* Two nodes from C, end to end: a plan of moves goes up from the ground to the pedestal and readings come down, over a link
- * that loses, repeats and damages frames and for a while passes none, so that both senders fail and recover.
- * Prints how it went; ends with status 1 where a payload is missing or out of order, or a call refuses what it must not. */
+/* Two nodes from C, end to end: a plan of moves goes up from the ground to the pedestal and readings come down, over a
+ * link that loses, repeats and damages frames and for a while passes none, so that both senders fail and recover.
+ * Prints how it went; ends with status 1 where a payload is missing or out of order, or a call refuses wrongly. */
 #include <stdio.h>
 
 #include "shelugvar.h"
 
-enum { SENDS = 0, RECEIVES = 1 };  /* the entries, at both sides */
+enum { SENDS = 0, RECEIVES = 1 }; /* the entries, at both sides */
 enum { PLAN = 100, BROKEN_FROM = 12, BROKEN_TO = 50, STEPS_MOST = 1000 };
 
 struct side {
@@ -29,14 +29,13 @@ static void must(int holds, const char *what)
 	wrong = 1;
 }
 
-/* The channel table: entry 0 sends to the other side, with 6 retries and timeout 3; entry 1 receives. W is 16, P is 8. */
+/* The channel table: entry 0 sends to the other side, 6 retries, timeout 3; entry 1 receives. W is 16, P is 8. */
 static void start(struct side *s, uint8_t own, uint8_t other, uint8_t channel_out, uint8_t channel_in)
 {
 	const uint8_t table[] = {
 		0, 2, 0, 8, own, 238, 0, 0,
 		0, other, channel_out, 6, 0, 16, 0, 8, 0, 3, 0, 0,
-		1, other, channel_in, 0, 0, 16, 0, 8, 0, 0, 0, 0,
-	};
+		1, other, channel_in, 0, 0, 16, 0, 8, 0, 0, 0, 0};
 
 	must(shelugvar_node_setup(&s->node, s->store, sizeof s->store, table, sizeof table) == SHELUGVAR_DONE, "setup");
 	must(shelugvar_node_open(&s->node, SENDS) == SHELUGVAR_DONE, "open");
@@ -90,7 +89,8 @@ static void arrive(struct side *s, const uint8_t *frame, size_t length, uint8_t 
 {
 	uint8_t block[6 + 16 * (4 + 8)];
 	struct shelugvar_arrival was = {0, 0};
-	uint8_t refused = shelugvar_node_arrival(&s->node, s->store, sizeof s->store, block, sizeof block, frame, length, &was);
+	uint8_t refused =
+		shelugvar_node_arrival(&s->node, s->store, sizeof s->store, block, sizeof block, frame, length, &was);
 
 	must(refused == wanted || refused == SHELUGVAR_NO_END_POINT, "arrival");
 	if (refused != SHELUGVAR_DONE)
@@ -110,8 +110,9 @@ static void carry(struct side *from, struct side *to)
 	uint8_t frame[8 + 9];
 	size_t length;
 
-	while (shelugvar_node_hand_out(&from->node, from->store, sizeof from->store, frame, sizeof frame, &length) == SHELUGVAR_DONE
-	       && length != 0) {
+	while (shelugvar_node_hand_out(&from->node, from->store, sizeof from->store, frame, sizeof frame,
+			&length) == SHELUGVAR_DONE &&
+	       length != 0) {
 		draw = draw * 1103515245 + 12345;
 		unsigned fate = draw >> 16 & 15;
 
@@ -155,7 +156,8 @@ int main(void)
 	}
 	printf("%u steps; of the frames %u lost, %u damaged, %u twice\n", step, lost, damaged, repeated);
 	printf("moves: %u arrived, %u confirmed, recoveries %u\n", pedestal.taken, confirmed(&ground), ground.recoveries);
-	printf("readings: %u arrived, %u confirmed, recoveries %u\n", ground.taken, confirmed(&pedestal), pedestal.recoveries);
+	printf("readings: %u arrived, %u confirmed, recoveries %u\n", ground.taken, confirmed(&pedestal),
+		pedestal.recoveries);
 	must(pedestal.taken == PLAN && ground.taken == PLAN, "everything arrived");
 	must(confirmed(&ground) == PLAN && confirmed(&pedestal) == PLAN, "everything is confirmed");
 	must(ground.recoveries > 0 && pedestal.recoveries > 0, "both senders failed and recovered");

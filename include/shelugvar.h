@@ -169,9 +169,9 @@ static inline uint8_t shelugvar_node_urgent(struct shelugvar_node *n, uint8_t *s
 	return shelugvar_urgent(n->node, n->book, store, room, index, payload, length);
 }
 
-/* A frame has arrived. Data and Urgent write the block: count k (2 bytes), k + 1 offsets (4 bytes each) from the block's
- * start, the last its end, then the payloads; high bytes first. It needs room of 6 + W x (4 + P), and beyond its end
- * nothing alters. Refuses 10, 11, 12, 13, 5, 14, 6. */
+/* A frame has arrived. Data and Urgent write the block: count k (2 bytes), k + 1 offsets (4 bytes each) from the
+ * block's start, the last its end, then the payloads; high bytes first. It needs room of 6 + W x (4 + P), and beyond
+ * its end nothing alters. Refuses 10, 11, 12, 13, 5, 14, 6. */
 static inline uint8_t shelugvar_node_arrival(struct shelugvar_node *n, uint8_t *store, size_t room, uint8_t *block,
                                              size_t block_room, const uint8_t *frame, size_t length,
                                              struct shelugvar_arrival *arrival)
@@ -200,8 +200,8 @@ static inline uint16_t shelugvar_node_tick(struct shelugvar_node *n)
  * length - 9 bytes from frame + 8 on. Else 10 or 12, and *fields is as it was. */
 uint8_t shelugvar_frame_read(const uint8_t *frame, size_t length, struct shelugvar_fields *fields);
 
-/* Writes a frame into a buffer of `room` bytes. 0: its first length + 9 bytes are the frame, those after it as they were.
- * Else 12, 5 or 6, and the whole buffer is as it was. `payload` must not lie in the buffer. */
+/* Writes a frame into a buffer of `room` bytes. 0: its first length + 9 bytes are the frame, those after it as they
+ * were. Else 12, 5 or 6, and the whole buffer is as it was. `payload` must not lie in the buffer. */
 uint8_t shelugvar_frame_write(uint8_t *buffer, size_t room, const struct shelugvar_fields *fields,
                               const uint8_t *payload, size_t length);
 

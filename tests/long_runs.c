@@ -1,10 +1,12 @@
-/* The product and the C peer side by side for longer than a desk's stream lasts: more than 65,535 ticks a trace, so that every timeout can
- * run out and a clock of 16 bits goes round. Each call is made on both; answers, frames and blocks must be the same to the byte.
+/* The product and the C peer side by side for longer than a desk's stream lasts: more than 65,535 ticks a trace, so
+ * that every timeout can run out and a clock of 16 bits goes round. Each call is made on both; answers, frames and
+ * blocks must be the same to the byte.
  *
  *   long_runs TRACES
  *
- * First timers by themselves, whose ends are known by hand; then random calls on two nodes whose entries name each other, over a link that
- * loses frames. Prints what was reached, and last 'N passed, M failed': a trace each, and one that everything listed was reached. */
+ * First timers by themselves, whose ends are known by hand; then random calls on two nodes whose entries name each
+ * other, over a link that loses frames. Prints what was reached, and last 'N passed, M failed': a trace each, and one
+ * that everything listed was reached. */
 #include <stdio.h>
 #include <stdlib.h>
 #include <string.h>
@@ -17,8 +19,21 @@ enum { STORE = 4096, BLOCK = 4096, FRAME = 64, PAYLOAD = 16, ENTRIES = 4, ROUND 
 /* ---- what is to be reached */
 
 enum event {
-	LONG_TRACE, LONGEST_ENDS, LONGEST_ENDS_LATE, LONGEST_STOPPED, SHORTEST_ENDS_LATE, OVER_THE_ROUND, AT_THE_ROUND, SEVERAL_ENTRIES,
-	OUT_OF_ORDER, STOPPED_FIRST, FAILS_AND_RECOVERS, RECOVERS_ALONE, CLOSED_RUNNING, SET_UP_RUNNING, EVENTS
+	LONG_TRACE,
+	LONGEST_ENDS,
+	LONGEST_ENDS_LATE,
+	LONGEST_STOPPED,
+	SHORTEST_ENDS_LATE,
+	OVER_THE_ROUND,
+	AT_THE_ROUND,
+	SEVERAL_ENTRIES,
+	OUT_OF_ORDER,
+	STOPPED_FIRST,
+	FAILS_AND_RECOVERS,
+	RECOVERS_ALONE,
+	CLOSED_RUNNING,
+	SET_UP_RUNNING,
+	EVENTS
 };
 static const char *const event_names[EVENTS] = {
 	[LONG_TRACE] = "a trace of more than 65,535 ticks",
@@ -129,16 +144,19 @@ static void take_in(struct side *s, const uint8_t *frame, size_t length)
 	static uint8_t block[BLOCK], peers_block[BLOCK];
 	struct shelugvar_arrival ours = {0, 0};
 	struct arrival peers = {0};
-	unsigned long refused = same("arrival", shelugvar_node_arrival(&s->ours, s->our_store, STORE, block, BLOCK, frame, length, &ours),
+	unsigned long refused =
+		same("arrival", shelugvar_node_arrival(&s->ours, s->our_store, STORE, block, BLOCK, frame, length, &ours),
 		(unsigned long)node_arrival(&s->peers, s->peers_store, STORE, peers_block, BLOCK, frame, length, &peers));
 	int writes_block = refused == 0 && (ours.what == SHELUGVAR_WAS_DATA || ours.what == SHELUGVAR_WAS_URGENT);
 
 	same("what arrived", ours.what, peers.what);
-	if (same("an arrival's value", ours.value, writes_block ? peers.block_length : peers.number) == peers.block_length && writes_block)
+	unsigned long value = same("an arrival's value", ours.value, writes_block ? peers.block_length : peers.number);
+
+	if (writes_block && value == peers.block_length)
 		same("a block", 0, memcmp(block, peers_block, ours.value) != 0);
 }
 
-/* ---- the running timers of `here`, read out of the peer, which has a list of them for each entry in the order in which they are due */
+/* ---- the running timers of `here`, read out of the peer, which lists those of each entry in the order they are due */
 
 static const struct item *first_timer(unsigned i)
 {
@@ -240,8 +258,9 @@ static size_t table(uint8_t *to, uint8_t own, uint8_t other, int receives)
 	memcpy(to, (const uint8_t[8]){0, (uint8_t)count, 0, 8, own, 238, 0, 0}, 8);
 	for (unsigned i = 0; i < count; i++, at += 12) {
 		const unsigned t = receives ? 0 : timeouts[i];
-		const uint8_t entry[12] = {(uint8_t)receives, other, (uint8_t)i, receives ? 0 : (uint8_t)retries[i], 0, (uint8_t)windows[i],
-			0, PAYLOAD, (uint8_t)(t >> 8), (uint8_t)t, 0, 0};
+		const uint8_t entry[12] = {(uint8_t)receives, other, (uint8_t)i, receives ? 0 : (uint8_t)retries[i],
+			0, (uint8_t)windows[i], 0, PAYLOAD,
+			(uint8_t)(t >> 8), (uint8_t)t, 0, 0};
 		memcpy(to + at, entry, 12);
 	}
 	return at;
@@ -424,7 +443,9 @@ static int random_trace(unsigned long seed)
 
 		for (unsigned k = 0; k < 1500 && !differs; k++)
 			random_step(loss);
-		for (unsigned long far = ROUND - ticks % ROUND - below(40) % (ROUND - ticks % ROUND); far > 0 && !differs; far--)
+		const unsigned long to_go = ROUND - ticks % ROUND;
+
+		for (unsigned long far = to_go - below(40) % to_go; far > 0 && !differs; far--)
 			tick();
 		if (below(2) == 0) {
 			seen[SET_UP_RUNNING] += (unsigned long)runs_any();
