@@ -5,7 +5,9 @@
 
 #include "shelugvar.h"
 
-enum { SENDS = 0, RECEIVES = 1 }; /* the entries, at both sides */
+/* the entries, at both sides */
+enum { SENDS = 0, RECEIVES = 1 };
+
 enum { PLAN = 100, BROKEN_FROM = 12, BROKEN_TO = 50, STEPS_MOST = 1000 };
 
 struct side {
