@@ -1,7 +1,12 @@
 """What the traces are to reach, and what they reached: refusals, changes of state, events, premises of demand 3."""
+from __future__ import annotations
+
 import collections
+from collections.abc import Iterator
 
 from comparison import history, model
+from comparison.trace import Trace
+from comparison.two_nodes import Pair
 
 REFUSALS = {
     "table": (0, 1), "open": (0, 2, 4), "close": (0, 2, 4), "counts": (0, 2, 3), "send": (0, 2, 3, 4, 5, 7),
@@ -38,15 +43,16 @@ EVENTS += ["failing and recovery in one tick, M 0, one timer", "setup while time
 class Totals:
     """What was compared so far."""
 
-    def __init__(self):
+    def __init__(self) -> None:
         self.traces = self.records = self.bytes = self.frames = 0
-        self.seen = collections.Counter()
+        self.seen: model.Seen = collections.Counter()
         self.pairs = self.wild = 0
-        self.channels = collections.Counter()
-        self.withheld, self.breaks = collections.Counter(), collections.Counter()
-        self.notes = []
+        self.channels: collections.Counter[str] = collections.Counter()
+        self.withheld: collections.Counter[str] = collections.Counter()  # by premise
+        self.breaks: collections.Counter[str] = collections.Counter()
+        self.notes: list[str] = []
 
-    def add_trace(self, trace):
+    def add_trace(self, trace: Trace) -> None:
         seen = trace.node.seen
         self.traces += 1
         self.records += trace.text().count("\n")
@@ -56,7 +62,7 @@ class Totals:
         self.seen += seen
         self.notes += ["%s: %s" % (trace.name, trace.note)] if trace.note else []
 
-    def add_pair(self, pair):
+    def add_pair(self, pair: Pair) -> None:
         self.pairs += 1
         self.wild += pair.wild
         for channel in pair.channels:
@@ -69,7 +75,7 @@ class Totals:
         self.withheld += pair.withheld
         self.breaks += pair.breaks
 
-    def missing(self):
+    def missing(self) -> list[str]:
         """What was to be reached and was not."""
         codes = {name: code for code, name in model.CALL_NAMES.items()}
         out = ["%s refused with %d" % (name, n)
@@ -77,21 +83,21 @@ class Totals:
         out += [name for name in TRANSITIONS + EVENTS if not self.seen[name]]
         return out
 
-    def unlisted(self):
+    def unlisted(self) -> list[str]:
         """What happened and stands in no list above: the lists would then be wrong."""
         refusals = {(code, n) for code, name in model.CALL_NAMES.items() for n in REFUSALS[name]}
         return [str(key) for key in self.seen if key not in refusals | set(TRANSITIONS + EVENTS)]
 
     # the table
 
-    def refusal_rows(self):
+    def refusal_rows(self) -> Iterator[str]:
         numbers = list(range(15))
         yield "refusal   " + "".join("%8d" % n for n in numbers)
         for code, name in model.CALL_NAMES.items():
             counts = [self.seen[(code, n)] if n in REFUSALS[name] else "." for n in numbers]
             yield "%-10s" % name + "".join("%8s" % count for count in counts)
 
-    def show(self, gaps):
+    def show(self, gaps: bool) -> None:
         """The coverage table; `gaps` where all kinds were run, so that nothing should be missing."""
         print("%d traces, %d records, %d bytes, %d frames" % (self.traces, self.records, self.bytes, self.frames))
         print("\nCalls by refusal number (0: done). The desk cannot be brought to 6, since its buffers are always long"
@@ -108,7 +114,7 @@ class Totals:
         for name in self.missing() if gaps else ():
             print("NOT REACHED: " + name)
 
-    def show_promise(self):
+    def show_promise(self) -> None:
         print("\nDemand 3: %d pairs, of which %d take in what breaks a premise; %d channels, %d runs,"
               " %d folds of a receiver's numbers;"
               % (self.pairs, self.wild, self.channels["channels"], self.channels["runs"], self.channels["folds"]))

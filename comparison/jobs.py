@@ -1,13 +1,19 @@
 """The comparison of desks on traces: the model's, ours, the peer's. What differs is shrunk and saved.
 
 ./compare and tests/traces are thin over it."""
+from __future__ import annotations
+
 import collections
 import os
 import sys
 import time
+from collections.abc import Callable
+from typing import NamedTuple
 
 from comparison import corners, history, model, programs
+from comparison.coverage import Totals
 from comparison.one_node import one_node
+from comparison.trace import Trace
 from comparison.two_nodes import two_nodes
 
 SAVED = os.path.join(programs.ROOT, "target", "compare")
@@ -15,10 +21,13 @@ OUR_DESK = os.path.join(programs.ROOT, "crates", "desk", "src", "main.rt")
 
 # 1. ONE TRACE
 
-Program = collections.namedtuple("Program", "name command")
+
+class Program(NamedTuple):
+    name: str
+    command: list[str]
 
 
-def desks_of(peer_only=False, sanitized=False):
+def desks_of(peer_only: bool = False, sanitized: bool = False) -> list[Program]:
     """The desks to compare, built."""
     peer = programs.build_sanitized() if sanitized else programs.build_peer()
     out = [Program("peer's", programs.command_of_peers("desk", peer))]
@@ -30,7 +39,7 @@ def desks_of(peer_only=False, sanitized=False):
     return [Program("ours", programs.command_of_ours("desk"))] + out
 
 
-def disagreement(stream, text, desks):
+def disagreement(stream: bytes, text: str, desks: list[Program]) -> str | None:
     """How the first program that does not write `text` differs from it, or None."""
     for desk in desks:
         wrong = programs.difference(text.encode(), programs.written(desk.command, stream), ("model", desk.name))
@@ -39,7 +48,7 @@ def disagreement(stream, text, desks):
     return None
 
 
-def shortest(stream, desks):
+def shortest(stream: bytes, desks: list[Program]) -> bytes:
     """The shortest beginning of a stream, in whole records, on which the model and some desk differ; the stream itself
     where none is found."""
     ends = [end for _, _, _, end in model.records(stream)]
@@ -53,7 +62,7 @@ def shortest(stream, desks):
     return part if disagreement(part, model.desk(part), desks) else stream
 
 
-def thinned(stream, desks, seconds=20):
+def thinned(stream: bytes, desks: list[Program], seconds: int = 20) -> bytes:
     """The same with records left out, as many as can be found in a while: what is left is quicker to read."""
     ends = [0] + [end for _, _, _, end in model.records(stream)]
     pieces = [stream[a:b] for a, b in zip(ends, ends[1:])]
@@ -72,7 +81,7 @@ def thinned(stream, desks, seconds=20):
     return part if disagreement(part, model.desk(part), desks) else stream
 
 
-def save(name, stream, text):
+def save(name: str, stream: bytes, text: str) -> str:
     """Keeps a stream and what the model's desk writes on it; gives the stream's path."""
     os.makedirs(SAVED, exist_ok=True)
     path = os.path.join(SAVED, name + ".desk")
@@ -83,7 +92,7 @@ def save(name, stream, text):
     return os.path.relpath(path, programs.ROOT)
 
 
-def report(trace, wrong, again, desks):
+def report(trace: Trace, wrong: str, again: str, desks: list[Program]) -> str:
     """A trace that differs, shrunk and saved."""
     part = shortest(bytes(trace.stream), desks)
     thin = thinned(part, desks)
@@ -95,7 +104,7 @@ def report(trace, wrong, again, desks):
     return "\n".join(out)
 
 
-def compare_trace(trace, again, desks, totals):
+def compare_trace(trace: Trace, again: str, desks: list[Program], totals: Totals) -> str | None:
     """None, or what is wrong with a trace."""
     stream, text = bytes(trace.stream), trace.text()
     totals.add_trace(trace)
@@ -105,21 +114,24 @@ def compare_trace(trace, again, desks, totals):
 
 # 2. JOBS: a seed or a corner each; `run` gives None, or what is wrong
 
-Job = collections.namedtuple("Job", "kind run")
+
+class Job(NamedTuple):
+    kind: str
+    run: Callable[[], str | None]
 
 
-def job_a(seed, desks, totals, option=""):
+def job_a(seed: int, desks: list[Program], totals: Totals, option: str = "") -> Job:
     again = "./compare --kind a --seed %d%s" % (seed, option)
 
-    def run():
+    def run() -> str | None:
         return compare_trace(one_node(seed), again, desks, totals)
     return Job("a", run)
 
 
-def job_b(seed, desks, totals, option=""):
+def job_b(seed: int, desks: list[Program], totals: Totals, option: str = "") -> Job:
     again = "./compare --kind b --seed %d%s" % (seed, option)
 
-    def run():
+    def run() -> str | None:
         pair = two_nodes(seed)
         totals.add_pair(pair)
         found = [compare_trace(side.trace, again, desks, totals) for side in pair.sides]
@@ -131,10 +143,10 @@ def job_b(seed, desks, totals, option=""):
     return Job("b", run)
 
 
-def job_c(name, desks, totals, option=""):
+def job_c(name: str, desks: list[Program], totals: Totals, option: str = "") -> Job:
     again = "./compare --kind c --name %s%s" % (name, option)
 
-    def run():
+    def run() -> str | None:
         try:
             made = corners.CORNERS[name]()
         except (corners.Unexpected, history.Broken) as wrong:
@@ -148,13 +160,14 @@ class Progress:
 
     GUESS = {"a": 0.3, "b": 2.0, "c": 0.1}
 
-    def __init__(self, jobs, every):
+    def __init__(self, jobs: list[Job], every: float) -> None:
         self.left = collections.Counter(job.kind for job in jobs)
         self.count, self.every = len(jobs), every
         self.began = self.told = time.monotonic()
-        self.done, self.spent = collections.Counter(), collections.Counter()
+        self.done: collections.Counter[str] = collections.Counter()
+        self.spent: dict[str, float] = collections.defaultdict(float)
 
-    def add(self, kind, seconds):
+    def add(self, kind: str, seconds: float) -> None:
         self.left[kind] -= 1
         self.done[kind] += 1
         self.spent[kind] += seconds
@@ -164,15 +177,15 @@ class Progress:
             print("%d of %d, %d s gone, about %d s left"
                   % (self.done.total(), self.count, now - self.began, self.estimate()), file=sys.stderr, flush=True)
 
-    def estimate(self):
+    def estimate(self) -> float:
         return sum(left * self.time_of(kind) for kind, left in self.left.items())
 
-    def time_of(self, kind):
+    def time_of(self, kind: str) -> float:
         """The seconds that a job of this kind took so far, or is guessed to take."""
         return self.spent[kind] / self.done[kind] if self.done[kind] else self.GUESS[kind]
 
 
-def run_jobs(jobs, every=5, most=5):
+def run_jobs(jobs: list[Job], every: float = 5, most: int = 5) -> tuple[int, int]:
     """Runs jobs, prints what fails, stops after `most` failures; gives how many passed and failed."""
     passed = failed = 0
     progress = Progress(jobs, every)

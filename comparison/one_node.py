@@ -1,8 +1,11 @@
 """Traces by seed at one node, under calls sensible and not."""
+from __future__ import annotations
+
 import random
+from collections.abc import Callable
 
 from comparison import model
-from comparison.model import ACKNOWLEDGE, DATA, ENABLED, FAILING, OPEN, RESET, URGENT, Sender
+from comparison.model import ACKNOWLEDGE, DATA, ENABLED, FAILING, OPEN, RESET, URGENT, Answer, AnyEnd, Sender
 from comparison.tables import broken_tables, random_table
 from comparison.trace import Full, Trace, from_remote
 
@@ -10,12 +13,12 @@ from comparison.trace import Full, Trace, from_remote
 class Player:
     """A host and a wire without manners, at one node."""
 
-    def __init__(self, rng, trace):
+    def __init__(self, rng: random.Random, trace: Trace) -> None:
         self.rng, self.trace = rng, trace
         self.frames = [b"\0" * 9]  # seen on the wire in either direction
         self.focus = 0
 
-    def index(self):
+    def index(self) -> int:
         """Mostly the entry in focus, so that something comes of it; sometimes any, sometimes none."""
         ends, roll = self.trace.node.ends, self.rng.random()
         if not ends or roll < 0.01:
@@ -24,7 +27,7 @@ class Player:
             return self.rng.randrange(len(ends))
         return self.focus % len(ends)
 
-    def end(self):
+    def end(self) -> AnyEnd | None:
         """An end point, None on a node without any; often one at Failing, since that is soon over."""
         index, ends = self.index(), self.trace.node.ends
         failing = [end for end in ends if end.state == FAILING]
@@ -32,7 +35,7 @@ class Player:
             return self.rng.choice(failing)
         return ends[index] if index < len(ends) else None
 
-    def payload(self, largest):
+    def payload(self, largest: int) -> bytes:
         rng, room = self.rng, max(1, min(self.trace.room() - model.OVERHEAD, 65535))
         if largest > 1000 and rng.random() < 0.9:
             # long payloads fill the stream, so they are few
@@ -44,7 +47,7 @@ class Player:
 
     # frames
 
-    def sequence_near(self, end):
+    def sequence_near(self, end: AnyEnd) -> int:
         """A sequence number worth trying: in the window, at its edges, just behind, anywhere."""
         rng, window = self.rng, end.entry.window
         if isinstance(end, Sender) and end.taken and rng.random() < 0.7:
@@ -53,7 +56,7 @@ class Player:
                            -1, -rng.randint(1, window), 128))
         return rng.randrange(256) if rng.random() < 0.02 else (end.start + step) % 256
 
-    def fitting(self, end):
+    def fitting(self, end: AnyEnd) -> bytes:
         """A frame that the end's remote could well have written."""
         rng, node = self.rng, self.trace.node
         if isinstance(end, Sender):
@@ -66,19 +69,18 @@ class Player:
             return from_remote(node, end, URGENT, rng.choice((0, rng.randrange(256))), self.payload(end.entry.largest))
         return from_remote(node, end, DATA, self.sequence_near(end), self.payload(end.entry.largest))
 
-    def odd(self, end):
+    def odd(self, end: AnyEnd) -> bytes:
         """A sound frame with something wrong, or for somebody else, or from the wrong end."""
         rng, node = self.rng, self.trace.node
         fields = dict(destination=node.own, protocol=node.protocol, source=end.entry.remote, control=rng.randrange(4),
-                      channel=end.entry.channel, sequence=rng.choice((0, 0, self.sequence_near(end))), payload=b"")
-        if rng.random() < 0.5:
-            fields["payload"] = self.payload(end.entry.largest)
+                      channel=end.entry.channel, sequence=rng.choice((0, 0, self.sequence_near(end))))
+        payload = self.payload(end.entry.largest) if rng.random() < 0.5 else b""
         for _ in range(rng.choice((0, 1, 1, 2))):
             name = rng.choice(("destination", "protocol", "source", "control", "channel"))
             fields[name] = rng.choice((0, 1, 255, fields[name] ^ 1 << rng.randrange(8), rng.randrange(256)))
-        return model.frame(**fields)
+        return model.frame(**fields, payload=payload)
 
-    def damaged(self, frame):
+    def damaged(self, frame: bytes) -> bytes:
         rng = self.rng
         how = rng.randrange(5)
         if how == 0:
@@ -93,7 +95,7 @@ class Player:
                 out[rng.randrange(len(out))] ^= 1 << rng.randrange(8)
         return bytes(out)
 
-    def frame(self):
+    def frame(self) -> bytes:
         end, roll = self.end(), self.rng.random()
         if end is None or roll < 0.06:
             return self.rng.choice(self.frames)
@@ -103,18 +105,18 @@ class Player:
 
     # moves
 
-    def arrive(self):
+    def arrive(self) -> None:
         frame = self.frame()
         if len(frame) <= self.trace.room():
             self.frames = self.frames[-40:] + [frame]
             self.trace.arrival(frame)
 
-    def hand_out(self):
+    def hand_out(self) -> None:
         answer = self.trace.hand_out()
         if answer.fields[0]:
             self.frames = self.frames[-40:] + [bytes(answer.fields[1:])]
 
-    def sender(self):
+    def sender(self) -> int:
         """An entry's index, mostly that of a sender that is up."""
         ends = self.trace.node.ends
         good = [k for k, end in enumerate(ends) if isinstance(end, Sender) and end.state == OPEN]
@@ -123,17 +125,17 @@ class Player:
             return focus if focus in good and self.rng.random() < 0.8 else self.rng.choice(good)
         return self.index()
 
-    def give(self, call):
+    def give(self, call: Callable[[int, bytes], Answer]) -> None:
         """A send or an Urgent."""
         index, ends = self.sender(), self.trace.node.ends
         call(index, self.payload(ends[index].entry.largest if index < len(ends) else 4))
 
-    def open_some(self):
+    def open_some(self) -> None:
         for index in range(len(self.trace.node.ends)):
             if self.rng.random() < 0.8:
                 self.trace.open(index)
 
-    def new_table(self):
+    def new_table(self) -> None:
         rng = self.rng
         own, protocol, entries = random_table(rng)
         data = model.table(own, protocol, entries)
@@ -141,7 +143,7 @@ class Player:
             data = rng.choice(list(broken_tables(data)))[1]
         self.trace.table(data)
 
-    def move(self):
+    def move(self) -> None:
         rng, trace = self.rng, self.trace
         what = rng.choices(("arrive", "hand out", "send", "urgent", "tick", "wait",
                             "counts", "open", "close", "focus", "flood", "table"),
@@ -175,7 +177,7 @@ class Player:
             self.open_some()
 
 
-def stray_end(rng, trace):
+def stray_end(rng: random.Random, trace: Trace) -> None:
     """Now and then a stream ends badly."""
     roll, number = rng.random(), len(trace.lines) + 1
     record = bytes((rng.choice((1, 4, 6, 7, 8, 20)), rng.randrange(3), 0, 5)) + rng.randbytes(5)
@@ -188,7 +190,7 @@ def stray_end(rng, trace):
         trace.end_with(bytes((kind,)) + record[1:], "unknown %d\n" % number)
 
 
-def one_node(seed):
+def one_node(seed: int) -> Trace:
     """(a): a trace at one node."""
     rng = random.Random("a %d" % seed)
     trace = Trace("a%d" % seed)

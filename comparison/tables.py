@@ -1,11 +1,16 @@
 """Channel tables by seed, and tables that break one rule."""
+from __future__ import annotations
+
+from collections.abc import Iterator, Sequence
+from random import Random
+
 from comparison import model
 from comparison.model import RECEIVES, SENDS, Entry
 
 WINDOWS = (0, 1, 2, 4, 8, 16, 32, 64, 128)
 
 
-def random_entry(rng, remotes, channels, room):
+def random_entry(rng: Random, remotes: Sequence[int], channels: Sequence[int], room: int) -> Entry:
     """An entry that takes at most `room` bytes of the store."""
     kind, window = rng.choice((SENDS, RECEIVES)), rng.choice(WINDOWS)
     slots = (window or model.DEFAULT_WINDOW) + (kind == SENDS)
@@ -19,13 +24,14 @@ def random_entry(rng, remotes, channels, room):
     return Entry(kind, rng.choice(remotes), rng.choice(channels), retries, window, min(largest, most), timeout)
 
 
-def random_table(rng):
+def random_table(rng: Random) -> tuple[int, int, list[Entry]]:
     """A good table as (own address, protocol, entries); few remotes and channels, so that entries are much alike."""
     own = rng.choice((32, 64, 254, rng.randint(32, 254)))
     remotes = [own if rng.random() < 0.1 else rng.randint(32, 254) for _ in range(rng.randint(1, 3))]
     remotes.append(rng.choice((32, 254)))
     channels = [0, 255] + [rng.randrange(256) for _ in range(rng.randint(1, 6))]
-    entries, room = [], model.MOST_STORE
+    entries: list[Entry] = []
+    room = model.MOST_STORE
     wanted = rng.choice((1, 2, 2, 3, 4, 6, 10, 16, 16))
     for _ in range(4 * wanted):
         # leave something for those to come, but not always
@@ -40,11 +46,11 @@ def random_table(rng):
     return own, rng.choice((238, 238, 1, 255)), entries
 
 
-def put(data, at, value):
+def put(data: bytes, at: int, value: bytes | tuple[int, ...]) -> bytes:
     return data[:at] + bytes(value) + data[at + len(value):]
 
 
-def broken_tables(data):
+def broken_tables(data: bytes) -> Iterator[tuple[str, bytes]]:
     """Tables that are like `data`, a good one with a sender first, but for one rule; rules between entries are left to
     the corners."""
     first = 8

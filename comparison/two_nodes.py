@@ -1,10 +1,14 @@
 """Traces by seed at two nodes, joined by a link that loses, repeats, reorders, delays and corrupts, with demand 3's
 history kept beside them."""
+from __future__ import annotations
+
 import collections
 import random
+from typing import NamedTuple
 
 from comparison import history, model
 from comparison.model import ACKNOWLEDGE, CLOSED, DATA, OPEN, RECEIVES, RESET, SENDS, URGENT, Entry, Receiver, Sender
+from comparison.history import Carried, Channel
 from comparison.tables import WINDOWS
 from comparison.trace import Full, Trace
 
@@ -19,11 +23,12 @@ DEAD = Manners(1.0, 0.0, 0.0, 0.0, 0.0, 1)
 class Link:
     """One direction: frames under way, and old copies that may come back long after."""
 
-    def __init__(self, rng):
+    def __init__(self, rng: random.Random) -> None:
         self.rng = rng
-        self.under_way, self.aside = [], []
+        self.under_way: list[Carried] = []
+        self.aside: list[Carried] = []
 
-    def put(self, carried, manners):
+    def put(self, carried: Carried, manners: Manners) -> None:
         rng = self.rng
         # Resets are few, and an old one is worth much
         if rng.random() < (manners.keep if carried.frame[3] != RESET else 0.3):
@@ -31,7 +36,7 @@ class Link:
         if rng.random() >= manners.lose:
             self.under_way += [carried] * (2 if rng.random() < manners.repeat else 1)
 
-    def get(self, manners):
+    def get(self, manners: Manners) -> tuple[Carried, bool] | None:
         """The next frame to come out and whether it is damaged, or None."""
         rng = self.rng
         if self.aside and rng.random() < manners.recall:
@@ -45,14 +50,17 @@ class Link:
 class Side:
     """One of the two nodes: its trace, its channels by entry index, the link that leads away from it."""
 
-    def __init__(self, name, rng, own):
+    def __init__(self, name: str, rng: random.Random, own: int) -> None:
         self.trace = Trace(name)
         self.own = own
         self.link = Link(rng)
-        self.sending, self.receiving = {}, {}  # entry index: Channel
+        self.plans: list[Plan | None] = []  # of each entry, None of a stranger's
+        self.sending: dict[int, Channel] = {}  # by entry index
+        self.receiving: dict[int, Channel] = {}
+        self.loads: list[int] = []  # how much traffic each of those that send has
         self.asleep_until = 0  # hands nothing out before that step
 
-    def channel_of(self, frame, inwards):
+    def channel_of(self, frame: bytes, inwards: bool) -> Channel | None:
         """The channel of a frame that comes in or goes out here, None where the frame is no channel's of these two
         nodes."""
         sent_by_sender = frame[3] != ACKNOWLEDGE
@@ -65,13 +73,20 @@ class Side:
         return None
 
 
-Plan = collections.namedtuple("Plan", "up number window largest retries timeout")
+class Plan(NamedTuple):
+    """A channel between the two: which way, and what its entries say."""
+    up: bool
+    number: int
+    window: int
+    largest: int
+    retries: int
+    timeout: int
 
 
-def plan_channels(rng, steady):
+def plan_channels(rng: random.Random, steady: bool) -> list[Plan]:
     """Channels in both directions. In a steady pair the first of each direction, which has most of the traffic, seldom
     fails."""
-    plans = []
+    plans: list[Plan] = []
     for up in (True, False):
         for number in rng.sample(range(256), rng.choice((1, 1, 2, 2, 3))):
             busy = steady and all(plan.up != up for plan in plans)
@@ -88,7 +103,7 @@ def plan_channels(rng, steady):
 class Pair:
     """Two nodes, their links and hosts, the channels' histories."""
 
-    def __init__(self, seed):
+    def __init__(self, seed: int) -> None:
         self.rng = rng = random.Random("b %d" % seed)
         # two traces of three are steady: long runs, in which numbers fold; the others fail and reopen often
         self.steady = seed % 3 != 0
@@ -96,17 +111,18 @@ class Pair:
         self.wild = seed % 4 == 0
         a, b = rng.sample(range(32, 255), 2)
         self.sides = [Side("b%d.%s" % (seed, name), rng, own) for name, own in (("A", a), ("B", b))]
-        self.channels = []
+        self.channels: list[Channel] = []
         # premise: how often the link would have broken it and was kept from it; how often it was broken
-        self.withheld, self.breaks = collections.Counter(), collections.Counter()
-        self.broken = None  # how the promise failed though its premises held
+        self.withheld: collections.Counter[str] = collections.Counter()
+        self.breaks: collections.Counter[str] = collections.Counter()
+        self.broken: str | None = None  # how the promise failed though its premises held
         self.manners, self.until = CALM, 0
         self.ticking = rng.choice((0.5, 1.5)) if self.steady else rng.choice((1.5, 4))
         self.set_up(rng.choice((238, 1, 255)))
 
     # tables
 
-    def set_up(self, protocol):
+    def set_up(self, protocol: int) -> None:
         plans = plan_channels(self.rng, self.steady)
         for here, side in enumerate(self.sides):
             remote = self.sides[1 - here].own
@@ -120,25 +136,25 @@ class Pair:
             # one channel of each direction has most of the traffic, so that its numbers fold
             side.loads = [8] + [1] * (len(side.sending) - 1)
 
-    def entry_of(self, plan, sends, remote):
+    def entry_of(self, plan: Plan, sends: bool, remote: int) -> Entry:
         retries, timeout = (plan.retries, plan.timeout) if sends else (0, 0)
         # both ways of writing the default window
         window = self.rng.choice((0, 16)) if plan.window in (0, 16) else plan.window
         return Entry(SENDS if sends else RECEIVES, remote, plan.number, retries, window, plan.largest, timeout)
 
-    def strangers(self):
+    def strangers(self) -> list[tuple[Entry, None]]:
         """Entries that lead to a third station, which never answers."""
         taken = [side.own for side in self.sides]
-        rows = []
+        rows: list[tuple[Entry, None]] = []
         for channel in range(self.rng.choice((0, 0, 1, 2))):
             remote = self.rng.choice([x for x in range(32, 255) if x not in taken])
             rows.append((Entry(SENDS, remote, channel, 1, 4, 4, 30), None))
         return rows
 
-    def join(self, plan):
+    def join(self, plan: Plan) -> None:
         sender, receiver = self.sides if plan.up else self.sides[::-1]
         name = "channel %d %s" % (plan.number, "up" if plan.up else "down")
-        channel = history.Channel(name, plan.window or model.DEFAULT_WINDOW)
+        channel = Channel(name, plan.window or model.DEFAULT_WINDOW)
         self.channels.append(channel)
         for side, ends, kind in ((sender, sender.sending, Sender), (receiver, receiver.receiving, Receiver)):
             here = zip(side.plans, side.trace.node.ends)
@@ -147,11 +163,11 @@ class Pair:
 
     # the hosts' calls, noted in the histories
 
-    def open(self, side, index):
+    def open(self, side: Side, index: int) -> None:
         if side.trace.open(index).refusal == 0 and index in side.sending:
             side.sending[index].begin()
 
-    def close(self, side, index):
+    def close(self, side: Side, index: int) -> None:
         if side.trace.close(index).refusal:
             return
         if index in side.sending:
@@ -159,7 +175,7 @@ class Pair:
         if index in side.receiving:
             self.breaks[history.HOST_CLOSES] += side.receiving[index].close_receiver()
 
-    def send(self, side, index):
+    def send(self, side: Side, index: int) -> None:
         channel, largest = side.sending[index], side.trace.node.ends[index].entry.largest
         number = 1 + len(channel.accepted)
         # of two payloads whose numbers are 256 apart, or that have the same number in two runs, the first bytes differ
@@ -168,10 +184,10 @@ class Pair:
         if side.trace.send(index, payload).refusal == 0:
             channel.accept(payload)
 
-    def counts(self, side, index):
+    def counts(self, side: Side, index: int) -> None:
         side.sending[index].counts(*side.trace.counts(index).fields)
 
-    def tick(self, side):
+    def tick(self, side: Side) -> None:
         bits = side.trace.tick().fields[0]
         for index, channel in side.sending.items():
             if bits >> index & 1:
@@ -179,21 +195,21 @@ class Pair:
 
     # frames
 
-    def hand_out(self, side):
+    def hand_out(self, side: Side) -> None:
         answer = side.trace.hand_out()
         if answer.fields[0]:
             frame = bytes(answer.fields[1:])
             side.link.put(self.carried(side, frame), self.manners)
 
-    def carried(self, side, frame):
+    def carried(self, side: Side, frame: bytes) -> Carried:
         channel = side.channel_of(frame, inwards=False)
         if channel is None or frame[3] == URGENT:
-            return history.Carried(frame, channel, 0, 0)
+            return Carried(frame, channel, 0, 0)
         if frame[3] == RESET:
             return channel.hand_out_reset(frame)
         return channel.hand_out_data(frame) if frame[3] == DATA else channel.hand_out_ack(frame)
 
-    def deliver(self, source, side):
+    def deliver(self, source: Side, side: Side) -> None:
         """Something comes out of the link: withheld where it would break a premise, unless the trace is wild."""
         got = source.link.get(self.manners)
         if got is None:
@@ -201,7 +217,10 @@ class Pair:
         carried, damage = got
         frame = self.damaged(carried.frame) if damage else carried.frame
         if side.trace.node.refusal_of(frame) == 0:
-            broken = history.FORGED if frame != carried.frame else carried.channel.premise(carried)
+            broken: str | None = history.FORGED
+            if frame == carried.frame:
+                assert carried.channel  # a stranger's frame is refused
+                broken = carried.channel.premise(carried)
             if broken and not self.wild:
                 self.withheld[broken] += 1
                 return
@@ -210,12 +229,12 @@ class Pair:
                 self.channel_at(side, frame).break_premise()
         self.take_in(side, frame, carried)
 
-    def channel_at(self, side, frame):
+    def channel_at(self, side: Side, frame: bytes) -> Channel:
         """The channel whose end takes this frame in. A damaged frame may also hit a stranger's entry; what it does
         there is nobody's."""
-        return side.channel_of(frame, inwards=True) or history.Channel("nobody's", 1)
+        return side.channel_of(frame, inwards=True) or Channel("nobody's", 1)
 
-    def damaged(self, frame):
+    def damaged(self, frame: bytes) -> bytes:
         """A frame with some bytes altered or cut off; the check byte misses one damage in 256, here somewhat more."""
         rng, out = self.rng, bytearray(frame)
         for _ in range(rng.choice((1, 1, 2, 3))):
@@ -224,7 +243,7 @@ class Pair:
             out[-1] = model.check(out[:-1])
         return bytes(out[:rng.randrange(len(out))] if rng.random() < 0.1 else out)
 
-    def take_in(self, side, frame, carried):
+    def take_in(self, side: Side, frame: bytes, carried: Carried) -> None:
         answer = side.trace.arrival(frame)
         if answer.refusal:
             return
@@ -240,13 +259,13 @@ class Pair:
 
     # the play
 
-    def weather(self, step):
+    def weather(self, step: int) -> None:
         """The link's manners change from time to time."""
         if step >= self.until:
             self.manners = self.rng.choices((CALM, ROUGH, DEAD), (8, 2, 0.2) if self.steady else (3, 3, 1))[0]
             self.until = step + (self.rng.randint(40, 300) if self.manners == DEAD else self.rng.randint(200, 1500))
 
-    def host_move(self, side):
+    def host_move(self, side: Side) -> None:
         """An end is opened, and rarely one is closed."""
         rng, ends = self.rng, side.trace.node.ends
         index = rng.randrange(len(ends))
@@ -255,11 +274,11 @@ class Pair:
         elif rng.random() < 0.03:
             self.close(side, index)
 
-    def idle(self):
+    def idle(self) -> bool:
         """Nothing waits and nothing is under way: only a tick or a host goes on from here."""
         return not any(side.link.under_way or any(side.trace.node.waiting) for side in self.sides)
 
-    def step(self, number):
+    def step(self, number: int) -> None:
         rng = self.rng
         self.weather(number)
         here = rng.randrange(2)
@@ -281,19 +300,20 @@ class Pair:
         else:
             self.sender_move(side, what)
 
-    def sender_move(self, side, what):
+    def sender_move(self, side: Side, what: str) -> None:
         rng = self.rng
         index = rng.choices(list(side.sending), side.loads)[0]
         end = side.trace.node.ends[index]
         if what == "send":
-            if end.state == OPEN and len(end.taken) < end.entry.window or rng.random() < 0.03:
+            free = isinstance(end, Sender) and end.state == OPEN and len(end.taken) < end.entry.window
+            if free or rng.random() < 0.03:
                 self.send(side, index)
         elif what == "urgent":
             side.trace.urgent(index, rng.randbytes(1))
         else:
             self.counts(side, index)
 
-    def play(self):
+    def play(self) -> Pair:
         """Goes on until a stream is full or the promise is broken."""
         try:
             self.play_on()
@@ -303,7 +323,7 @@ class Pair:
             self.broken = str(broken)
         return self
 
-    def play_on(self):
+    def play_on(self) -> None:
         for side in self.sides:
             for index in range(len(side.trace.node.ends)):
                 if self.rng.random() < 0.9:
@@ -317,6 +337,6 @@ class Pair:
                     channel.check()
 
 
-def two_nodes(seed):
+def two_nodes(seed: int) -> Pair:
     """(b): a pair that has played until one of its streams was full."""
     return Pair(seed).play()

@@ -35,7 +35,7 @@ setup_programs() {
 }
 
 setup_tests() {
-	setup_programs && need shellcheck shellcheck && need clang-format clang-format || return 1
+	setup_programs && need shellcheck shellcheck && need clang-format clang-format && need mypy mypy || return 1
 	/usr/bin/python3 -c 'import crcmod' 2>/dev/null || add python3 python3-crcmod
 	/usr/bin/python3 -c 'import crcmod'
 }

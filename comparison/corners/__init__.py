@@ -16,3 +16,5 @@ from comparison.corners import timers
 from comparison.corners import windows
 from comparison.corners import turn_too_far
 from comparison.corners import endings
+
+__all__ = ["CORNERS", "Unexpected"]

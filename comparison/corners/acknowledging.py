@@ -1,10 +1,10 @@
 """Acknowledgements at a sender that is Open."""
-from comparison.corners.corner import corner, tx
+from comparison.corners.corner import Corner, corner, tx
 from comparison.model import DATA
 
 
 @corner
-def ack_of_a_number_not_handed_out(t):
+def ack_of_a_number_not_handed_out(t: Corner) -> None:
     t.given(tx())
     t.up(0)
     t.ok(t.send, 0, b"1")
@@ -18,7 +18,7 @@ def ack_of_a_number_not_handed_out(t):
 
 
 @corner
-def acks_out_of_order(t):
+def acks_out_of_order(t: Corner) -> None:
     t.given(tx(window=8))
     t.up(0)
     t.send_out(0, 1, 2, 3, 4, 5)
@@ -37,7 +37,7 @@ def acks_out_of_order(t):
 
 
 @corner
-def ack_removes_a_waiting_retransmission(t):
+def ack_removes_a_waiting_retransmission(t: Corner) -> None:
     t.given(tx(timeout=1))
     t.up(0)
     t.send_out(0, 1, 2, 3)
@@ -53,7 +53,7 @@ def ack_removes_a_waiting_retransmission(t):
 
 
 @corner
-def ack_stops_the_timer(t):
+def ack_stops_the_timer(t: Corner) -> None:
     t.given(tx(timeout=3))
     t.up(0)
     t.send_out(0, 1, 2)

@@ -1,10 +1,10 @@
 """Entries that have a channel number or an address in common."""
-from comparison.corners.corner import OWN, corner, rx, tx
+from comparison.corners.corner import OWN, Corner, corner, rx, tx
 from comparison.model import ACKNOWLEDGE
 
 
 @corner
-def one_channel_number_for_both_kinds(t):
+def one_channel_number_for_both_kinds(t: Corner) -> None:
     t.given(tx(channel=5), rx(channel=5), tx(channel=5, remote=66), rx(channel=5, remote=66))
     t.up(0, 1, 2, 3)
     t.send_out(2, 1)
@@ -17,7 +17,7 @@ def one_channel_number_for_both_kinds(t):
 
 
 @corner
-def a_node_that_names_itself(t):
+def a_node_that_names_itself(t: Corner) -> None:
     t.given(tx(channel=5, remote=OWN), rx(channel=5, remote=OWN))
     for index in (1, 0):
         t.ok(t.open, index)

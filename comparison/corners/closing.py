@@ -1,10 +1,10 @@
 """What a close drops and stops, and what stays."""
-from comparison.corners.corner import corner, rx, tx
+from comparison.corners.corner import Corner, corner, rx, tx
 from comparison.model import ACKNOWLEDGE, DATA, RESET, URGENT
 
 
 @corner
-def close_drops_a_reset(t):
+def close_drops_a_reset(t: Corner) -> None:
     t.given(tx(), tx(channel=8), tx(channel=9))
     for index in (0, 1, 2):
         t.ok(t.open, index)
@@ -21,7 +21,7 @@ def close_drops_a_reset(t):
 
 
 @corner
-def close_drops_urgent_data_and_retransmissions(t):
+def close_drops_urgent_data_and_retransmissions(t: Corner) -> None:
     t.given(tx(timeout=2), tx(channel=8, timeout=2))
     t.up(0, 1)
     for index in (0, 1):
@@ -45,7 +45,7 @@ def close_drops_urgent_data_and_retransmissions(t):
 
 
 @corner
-def close_stops_the_timers(t):
+def close_stops_the_timers(t: Corner) -> None:
     t.given(tx(timeout=2, retries=1))
     t.up(0)
     t.send_out(0, 1, 2)
@@ -58,7 +58,7 @@ def close_stops_the_timers(t):
 
 
 @corner
-def close_drops_a_receivers_acknowledgements(t):
+def close_drops_a_receivers_acknowledgements(t: Corner) -> None:
     t.given(rx(), rx(channel=10))
     t.up(0, 1)
     t.data(0, 1, b"a", b"a")

@@ -3,9 +3,9 @@ from comparison import model
 from comparison.corners.corner import CORNERS, Corner
 
 
-def ending(name, stream, text):
+def ending(name: str, stream: bytes, text: str) -> None:
     """A trace that is nothing but bytes, with what the desk must write."""
-    def build():
+    def build() -> list[Corner]:
         trace = Corner(name)
         trace.end_with(stream, text)
         return [trace]

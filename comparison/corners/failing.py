@@ -1,9 +1,9 @@
 """Failing: what becomes of frames, numbers and timers until a tick ends it."""
-from comparison.corners.corner import corner, rx, tx
+from comparison.corners.corner import Corner, corner, rx, tx
 from comparison.model import DATA, RESET, URGENT
 
 
-def failing(t, timeout=3):
+def failing(t: Corner, timeout: int = 3) -> None:
     """Brings entry 0 (retries 0, the timeout given) to Failing: number 1 has ended, 2 has 1 tick left, 3 has 2, 4 waits
     no more."""
     t.up(0)
@@ -18,7 +18,7 @@ def failing(t, timeout=3):
 
 
 @corner
-def acks_at_failing(t):
+def acks_at_failing(t: Corner) -> None:
     t.given(tx(retries=0, timeout=3))
     failing(t)
     t.ignores(0, 4)  # never handed out
@@ -32,7 +32,7 @@ def acks_at_failing(t):
 
 
 @corner
-def acks_at_failing_stop_the_last_timer(t):
+def acks_at_failing_stop_the_last_timer(t: Corner) -> None:
     t.given(tx(retries=0, timeout=3))
     failing(t)
     t.passes(0, 2, 0)
@@ -46,7 +46,7 @@ def acks_at_failing_stop_the_last_timer(t):
 
 
 @corner
-def failing_waits_for_every_timer(t):
+def failing_waits_for_every_timer(t: Corner) -> None:
     t.given(tx(retries=0, timeout=3))
     failing(t)
     t.ticks(1)
@@ -59,7 +59,7 @@ def failing_waits_for_every_timer(t):
 
 
 @corner
-def failing_drops_what_waits(t):
+def failing_drops_what_waits(t: Corner) -> None:
     t.given(tx(retries=1, timeout=2), tx(channel=8, retries=1, timeout=2))
     t.up(0, 1)
     for index in (0, 1):
@@ -80,7 +80,7 @@ def failing_drops_what_waits(t):
 
 
 @corner
-def failing_in_the_middle_of_a_tick(t):
+def failing_in_the_middle_of_a_tick(t: Corner) -> None:
     t.given(tx(retries=1, timeout=2, window=8))
     t.up(0)
     t.send_out(0, 1, 2)
@@ -98,7 +98,7 @@ def failing_in_the_middle_of_a_tick(t):
 
 
 @corner
-def failing_and_enabled_in_one_tick(t):
+def failing_and_enabled_in_one_tick(t: Corner) -> None:
     t.given(rx(), tx(retries=0, timeout=1), tx(channel=8, retries=0, timeout=1))
     t.up(1, 2)
     t.send_out(2, 1)
@@ -111,7 +111,7 @@ def failing_and_enabled_in_one_tick(t):
 
 
 @corner
-def all_sixteen_fail_at_once(t):
+def all_sixteen_fail_at_once(t: Corner) -> None:
     t.given(*[tx(channel=k, retries=0, timeout=1, window=1, largest=1) for k in range(16)])
     t.up(*range(16))
     for index in range(15, -1, -1):

@@ -1,10 +1,10 @@
 """The order in which waiting frames are handed out."""
-from comparison.corners.corner import corner, rx, tx
+from comparison.corners.corner import Corner, corner, rx, tx
 from comparison.model import ACKNOWLEDGE, DATA, RESET, URGENT
 
 
 @corner
-def sorts_in_order(t):
+def sorts_in_order(t: Corner) -> None:
     t.given(tx(timeout=2), rx(), tx(channel=8), rx(channel=10))
     t.up(0, 1, 3)
     t.send_out(0, 1, 2)
@@ -27,7 +27,7 @@ def sorts_in_order(t):
 
 
 @corner
-def within_a_sort_across_entries(t):
+def within_a_sort_across_entries(t: Corner) -> None:
     t.given(tx(), tx(channel=8), tx(channel=9))
     t.up(0, 1, 2)
     for index, payload in ((2, b"a"), (0, b"b"), (2, b"c"), (1, b"d"), (0, b"e")):
@@ -42,7 +42,7 @@ def within_a_sort_across_entries(t):
 
 
 @corner
-def retransmissions_across_entries(t):
+def retransmissions_across_entries(t: Corner) -> None:
     t.given(tx(timeout=3), tx(channel=8, timeout=2))
     t.up(0, 1)
     t.send_out(0, 1)

@@ -1,10 +1,10 @@
 """A sender's way from Closed to Open: acknowledgement 0, and the counts, which are kept until it."""
-from comparison.corners.corner import corner, rx, tx
+from comparison.corners.corner import Corner, corner, rx, tx
 from comparison.model import ACKNOWLEDGE, RESET
 
 
 @corner
-def every_state(t):
+def every_state(t: Corner) -> None:
     t.given(tx(retries=0, timeout=2), rx())
     t.ok(t.open, 0)
     t.ignores(0, 0)  # Enabled, no Reset out
@@ -28,7 +28,7 @@ def every_state(t):
 
 
 @corner
-def counts_kept_over_close(t):
+def counts_kept_over_close(t: Corner) -> None:
     t.given(tx())
     t.up(0)
     t.confirm(0, 1, 2)
@@ -45,7 +45,7 @@ def counts_kept_over_close(t):
 
 
 @corner
-def counts_kept_when_failing_ends(t):
+def counts_kept_when_failing_ends(t: Corner) -> None:
     t.given(tx(retries=0, timeout=1))
     t.up(0)
     t.confirm(0, 1, 2)
@@ -60,7 +60,7 @@ def counts_kept_when_failing_ends(t):
 
 
 @corner
-def ack_0_before_the_reset_is_out(t):
+def ack_0_before_the_reset_is_out(t: Corner) -> None:
     t.given(tx())
     t.ok(t.open, 0)
     t.ignores(0, 0)
@@ -70,7 +70,7 @@ def ack_0_before_the_reset_is_out(t):
 
 
 @corner
-def ack_0_of_an_earlier_opening(t):
+def ack_0_of_an_earlier_opening(t: Corner) -> None:
     t.given(tx())
     t.ok(t.open, 0)
     t.out(0, RESET, 0)
@@ -83,7 +83,7 @@ def ack_0_of_an_earlier_opening(t):
 
 
 @corner
-def ack_0_removes_a_waiting_reset(t):
+def ack_0_removes_a_waiting_reset(t: Corner) -> None:
     t.given(tx(timeout=2), tx(channel=8, timeout=2))
     for index in (0, 1):
         t.ok(t.open, index)
@@ -99,7 +99,7 @@ def ack_0_removes_a_waiting_reset(t):
 
 
 @corner
-def ack_0_stops_the_resets_timer(t):
+def ack_0_stops_the_resets_timer(t: Corner) -> None:
     t.given(tx(timeout=2))
     t.ok(t.open, 0)
     t.out(0, RESET, 0)

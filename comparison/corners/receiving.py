@@ -1,10 +1,10 @@
 """Resets, data and Urgents at a receiver: what is held, delivered, acknowledged."""
-from comparison.corners.corner import corner, rx
+from comparison.corners.corner import Corner, corner, rx
 from comparison.model import ACKNOWLEDGE
 
 
 @corner
-def reset_drops_acknowledgements_and_held(t):
+def reset_drops_acknowledgements_and_held(t: Corner) -> None:
     t.given(rx(), rx(channel=10))
     t.up(0, 1)
     t.data(0, 1, b"a", b"a")
@@ -22,7 +22,7 @@ def reset_drops_acknowledgements_and_held(t):
 
 
 @corner
-def every_data_is_acknowledged(t):
+def every_data_is_acknowledged(t: Corner) -> None:
     t.given(rx(window=4))
     t.up(0)
     t.data(0, 1, b"in", b"in")
@@ -39,7 +39,7 @@ def every_data_is_acknowledged(t):
 
 
 @corner
-def delivered_in_order_out_of_the_store(t):
+def delivered_in_order_out_of_the_store(t: Corner) -> None:
     t.given(rx(window=8, largest=5))
     t.up(0)
     t.data(0, 4, b"dddd")
@@ -54,7 +54,7 @@ def delivered_in_order_out_of_the_store(t):
 
 
 @corner
-def urgent_goes_past_the_held(t):
+def urgent_goes_past_the_held(t: Corner) -> None:
     t.given(rx())
     t.up(0)
     t.data(0, 2, b"held")

@@ -1,12 +1,12 @@
 """Tables, and refusals: each alone, and each before those that stand after it."""
 from comparison import model
-from comparison.corners.corner import OWN, PROTOCOL, REMOTE, corner, rx, tx
+from comparison.corners.corner import OWN, PROTOCOL, REMOTE, Corner, corner, rx, tx
 from comparison.model import ACKNOWLEDGE, DATA, RESET, URGENT
 from comparison.tables import broken_tables, put
 
 
 @corner
-def refusal_1_each_rule_of_the_table(t):
+def refusal_1_each_rule_of_the_table(t: Corner) -> None:
     good = model.table(OWN, PROTOCOL, [tx(), rx(), tx(channel=8), rx(channel=10)])
     for _, data in broken_tables(good):
         t.no(1, t.table, data)
@@ -25,7 +25,7 @@ def refusal_1_each_rule_of_the_table(t):
 
 
 @corner
-def refusal_1_leaves_the_node(t):
+def refusal_1_leaves_the_node(t: Corner) -> None:
     t.given(tx(), rx())
     t.up(0, 1)
     t.send_out(0, 1)
@@ -40,7 +40,7 @@ def refusal_1_leaves_the_node(t):
 
 
 @corner
-def setup_anew_forgets_all(t):
+def setup_anew_forgets_all(t: Corner) -> None:
     t.given(tx(), rx())
     t.up(0, 1)
     t.confirm(0, 1, 3)
@@ -57,11 +57,11 @@ def setup_anew_forgets_all(t):
 
 
 @corner
-def new_node_is_all_zeros(t):
+def new_node_is_all_zeros(t: Corner) -> None:
     for call in (t.open, t.close, t.counts):
         t.no(2, call, 0)
-    for call in (t.send, t.urgent):
-        t.no(2, call, 0, b"x")
+    for give in (t.send, t.urgent):
+        t.no(2, give, 0, b"x")
     t.nothing()
     t.ticks(1)
     # address and protocol ID are 0, and there is no entry
@@ -74,7 +74,7 @@ def new_node_is_all_zeros(t):
 
 
 @corner
-def table_of_no_entries(t):
+def table_of_no_entries(t: Corner) -> None:
     t.given()
     t.no(2, t.open, 0)
     t.no(13, t.arrival, model.frame(OWN, PROTOCOL, REMOTE, RESET, 9, 0))
@@ -84,22 +84,22 @@ def table_of_no_entries(t):
 
 
 @corner
-def refusals_2_3_4_in_order(t):
+def refusals_2_3_4_in_order(t: Corner) -> None:
     t.given(tx(), rx())
     for index in (2, 16, 255):
         for call in (t.open, t.close, t.counts):
             t.no(2, call, index)
-        for call in (t.send, t.urgent):
-            t.no(2, call, index, b"")
+        for give in (t.send, t.urgent):
+            t.no(2, give, index, b"")
     t.no(3, t.counts, 1)
-    for call in (t.send, t.urgent):
-        t.no(3, call, 1, b"")  # before 4 and 5
-        t.no(4, call, 0, b"")  # before 5
+    for give in (t.send, t.urgent):
+        t.no(3, give, 1, b"")  # before 4 and 5
+        t.no(4, give, 0, b"")  # before 5
     t.ok(t.counts, 0, gives=[0, 0])  # in every state
 
 
 @corner
-def refusal_4_in_every_state(t):
+def refusal_4_in_every_state(t: Corner) -> None:
     t.given(tx(retries=0, timeout=1), rx())
     for index in (0, 1):
         t.no(4, t.close, index)
@@ -124,7 +124,7 @@ def refusal_4_in_every_state(t):
 
 
 @corner
-def refusal_4_at_failing(t):
+def refusal_4_at_failing(t: Corner) -> None:
     t.given(tx(retries=0, timeout=2))
     t.up(0)
     t.send_out(0, 1)
@@ -139,7 +139,7 @@ def refusal_4_at_failing(t):
 
 
 @corner
-def refusal_5_payload_lengths(t):
+def refusal_5_payload_lengths(t: Corner) -> None:
     t.given(tx(largest=3), rx(largest=3))
     t.up(0, 1)
     for call in (t.send, t.urgent):
@@ -153,7 +153,7 @@ def refusal_5_payload_lengths(t):
 
 
 @corner
-def refusals_5_7_9_in_order(t):
+def refusals_5_7_9_in_order(t: Corner) -> None:
     t.given(tx(window=2, largest=3))
     t.up(0)
     for payload in (b"1", b"2"):
@@ -176,7 +176,7 @@ def refusals_5_7_9_in_order(t):
 
 
 @corner
-def refusal_7_counts_from_the_start(t):
+def refusal_7_counts_from_the_start(t: Corner) -> None:
     t.given(tx(window=1))
     t.up(0)
     t.ok(t.send, 0, b"1")
@@ -188,7 +188,7 @@ def refusal_7_counts_from_the_start(t):
 
 
 @corner
-def refusal_9_each_entry_has_its_own(t):
+def refusal_9_each_entry_has_its_own(t: Corner) -> None:
     t.given(tx(), tx(channel=8))
     t.up(0, 1)
     t.ok(t.urgent, 1, b"b")
@@ -201,7 +201,7 @@ def refusal_9_each_entry_has_its_own(t):
 
 
 @corner
-def refusal_10_unsound_frames(t):
+def refusal_10_unsound_frames(t: Corner) -> None:
     t.given(tx(), rx())
     t.up(0, 1)
     good = t.frame(1, DATA, 1, b"abc")
@@ -219,7 +219,7 @@ def refusal_10_unsound_frames(t):
 
 
 @corner
-def refusals_10_11_12_13_5_14_in_order(t):
+def refusals_10_11_12_13_5_14_in_order(t: Corner) -> None:
     t.given(tx(), rx(largest=3))
     wrong = model.frame(OWN + 1, PROTOCOL, REMOTE, 4, 200, 0, b"12345678")
     t.no(10, t.arrival, wrong[:-1] + bytes((wrong[-1] ^ 1,)))
@@ -243,7 +243,7 @@ def refusals_10_11_12_13_5_14_in_order(t):
 
 
 @corner
-def refusal_11_foreign_frames(t):
+def refusal_11_foreign_frames(t: Corner) -> None:
     t.given(rx())
     t.up(0)
     for destination, protocol in ((OWN + 1, PROTOCOL), (REMOTE, PROTOCOL), (0, PROTOCOL),
@@ -253,7 +253,7 @@ def refusal_11_foreign_frames(t):
 
 
 @corner
-def refusal_12_frame_rules(t):
+def refusal_12_frame_rules(t: Corner) -> None:
     t.given(tx(), rx())
     t.up(0, 1)
     for control in range(4, 16):
@@ -272,18 +272,18 @@ def refusal_12_frame_rules(t):
 
 
 @corner
-def refusal_12_or_13_at_the_longest(t):
+def refusal_12_or_13_at_the_longest(t: Corner) -> None:
     # 65,520 bytes are lawful, and then there is no entry
     t.no(13, t.arrival, model.frame(0, 0, 0, DATA, 0, 0, bytes(65520)))
 
 
 @corner
-def refusal_12_one_byte_longer(t):
+def refusal_12_one_byte_longer(t: Corner) -> None:
     t.no(12, t.arrival, model.frame(0, 0, 0, URGENT, 0, 0, bytes(65521)))
 
 
 @corner
-def refusal_13_no_such_end(t):
+def refusal_13_no_such_end(t: Corner) -> None:
     t.given(tx(), rx(), rx(channel=7, remote=66))
     t.up(0, 1)
     t.ok(t.open, 2)
@@ -307,7 +307,7 @@ def refusal_13_no_such_end(t):
 
 
 @corner
-def refusal_14_whoever_they_belong_to(t):
+def refusal_14_whoever_they_belong_to(t: Corner) -> None:
     t.given(rx(window=64), rx(channel=10), tx())
     t.up(0, 1, 2)
     for sequence in range(2, 34):

@@ -1,10 +1,10 @@
 """Store, block and payloads as large as they may be, and a byte more."""
-from comparison.corners.corner import corner, rx, tx
+from comparison.corners.corner import Corner, corner, rx, tx
 from comparison.model import ACKNOWLEDGE, DATA, URGENT
 
 
 @corner
-def store_and_block_full(t):
+def store_and_block_full(t: Corner) -> None:
     """The desk never lends too little, so refusal 6 is not to be had; this fills store and block to the last byte."""
     t.given(rx(window=128, largest=256))
     t.up(0)
@@ -21,7 +21,7 @@ LONG = bytes(k * 7 % 253 for k in range(32769))
 
 
 @corner
-def longest_payload_taken_in(t):
+def longest_payload_taken_in(t: Corner) -> None:
     t.given(rx(window=1, largest=32768))
     t.up(0)
     t.data(0, 1, LONG[:-1], LONG[:-1])
@@ -29,7 +29,7 @@ def longest_payload_taken_in(t):
 
 
 @corner
-def longest_payload_and_a_byte(t):
+def longest_payload_and_a_byte(t: Corner) -> None:
     t.given(rx(window=1, largest=32768))
     t.up(0)
     t.no(5, t.arrival, t.frame(0, DATA, 1, LONG))
@@ -37,7 +37,7 @@ def longest_payload_and_a_byte(t):
 
 
 @corner
-def longest_payload_sent(t):
+def longest_payload_sent(t: Corner) -> None:
     t.given(tx(window=1, largest=16384, timeout=1))
     t.up(0)
     t.no(5, t.send, 0, LONG[:16385])

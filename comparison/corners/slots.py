@@ -1,10 +1,10 @@
 """Slots of the store and counts, past a fold of the numbers."""
-from comparison.corners.corner import corner, rx, tx
+from comparison.corners.corner import Corner, corner, rx, tx
 from comparison.model import ACKNOWLEDGE, DATA, URGENT
 
 
 @corner
-def counts_past_a_fold(t):
+def counts_past_a_fold(t: Corner) -> None:
     """4,294,967,295 payloads are more than a stream holds; the counts go past 256 and 512 without folding."""
     t.given(tx(window=2, largest=3))
     t.up(0)
@@ -15,7 +15,7 @@ def counts_past_a_fold(t):
 
 
 @corner
-def urgents_slot_is_the_last(t):
+def urgents_slot_is_the_last(t: Corner) -> None:
     t.given(tx(window=2, largest=3, timeout=1), tx(channel=8, window=2, largest=3))
     t.up(0, 1)
     for index in (0, 1):
@@ -36,7 +36,7 @@ def urgents_slot_is_the_last(t):
 
 
 @corner
-def slots_over_the_fold(t):
+def slots_over_the_fold(t: Corner) -> None:
     """Number 256 has slot 0 and not slot 256 mod (W + 1); 255 and 0 are neighbours."""
     t.given(tx(window=4, largest=3, timeout=1, retries=9), rx(window=4, largest=3))
     t.up(0, 1)
@@ -60,7 +60,7 @@ def slots_over_the_fold(t):
 
 
 @corner
-def data_goes_out_after_a_shorter_one_in_its_slot(t):
+def data_goes_out_after_a_shorter_one_in_its_slot(t: Corner) -> None:
     t.given(tx(window=1, largest=8), rx(window=1, largest=8))
     t.up(0, 1)
     for sequence, payload in ((1, b"12345678"), (2, b"1"), (3, b"123")):

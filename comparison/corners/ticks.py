@@ -1,10 +1,10 @@
 """Ticks: the order in which ended timers queue frames; retries and timeouts at their ends."""
-from comparison.corners.corner import corner, tx
+from comparison.corners.corner import Corner, corner, tx
 from comparison.model import DATA, RESET
 
 
 @corner
-def resets_of_a_tick_in_order(t):
+def resets_of_a_tick_in_order(t: Corner) -> None:
     """A Reset whose timer ends waits before one of an end that leaves Failing in the same tick, wherever it stands in
     the table."""
     t.given(tx(retries=0, timeout=2), tx(channel=8, timeout=2), tx(channel=9, retries=0, timeout=2))
@@ -21,7 +21,7 @@ def resets_of_a_tick_in_order(t):
 
 
 @corner
-def tick_in_table_order(t):
+def tick_in_table_order(t: Corner) -> None:
     t.given(tx(channel=9, timeout=2), tx(channel=8, timeout=2), tx(timeout=2))
     t.up(0, 1, 2)
     for index in (2, 0, 1):
@@ -33,7 +33,7 @@ def tick_in_table_order(t):
 
 
 @corner
-def tick_in_window_order(t):
+def tick_in_window_order(t: Corner) -> None:
     t.given(tx(timeout=2))
     t.up(0)
     t.confirm(0, 1, 2)
@@ -45,7 +45,7 @@ def tick_in_window_order(t):
 
 
 @corner
-def tick_in_window_order_over_the_fold(t):
+def tick_in_window_order_over_the_fold(t: Corner) -> None:
     t.given(tx(timeout=2))
     t.up(0)
     t.confirm(0, 1, 253)
@@ -57,7 +57,7 @@ def tick_in_window_order_over_the_fold(t):
 
 
 @corner
-def reset_without_limit(t):
+def reset_without_limit(t: Corner) -> None:
     t.given(tx(retries=0, timeout=1))
     t.ok(t.open, 0)
     for _ in range(300):
@@ -69,7 +69,7 @@ def reset_without_limit(t):
 
 
 @corner
-def retries_0(t):
+def retries_0(t: Corner) -> None:
     t.given(tx(retries=0, timeout=3))
     t.up(0)
     t.send_out(0, 1)
@@ -79,7 +79,7 @@ def retries_0(t):
 
 
 @corner
-def retries_255(t):
+def retries_255(t: Corner) -> None:
     t.given(tx(retries=255, timeout=1))
     t.up(0)
     t.send_out(0, 1)
@@ -92,7 +92,7 @@ def retries_255(t):
 
 
 @corner
-def retries_begin_anew_for_each_number(t):
+def retries_begin_anew_for_each_number(t: Corner) -> None:
     t.given(tx(retries=1, timeout=1, window=1))
     t.up(0)
     for sequence in (1, 2, 3):
@@ -107,7 +107,7 @@ def retries_begin_anew_for_each_number(t):
 
 
 @corner
-def timeout_longer_than_a_byte(t):
+def timeout_longer_than_a_byte(t: Corner) -> None:
     t.given(tx(timeout=5000, retries=1))
     t.up(0)
     t.send_out(0, 1)
@@ -121,7 +121,7 @@ def timeout_longer_than_a_byte(t):
 
 
 @corner
-def timer_starts_at_handing_out(t):
+def timer_starts_at_handing_out(t: Corner) -> None:
     t.given(tx(timeout=2, retries=1))
     t.ok(t.open, 0)
     t.ticks(9)

@@ -1,10 +1,10 @@
 """Timers that run together: which ends when, whatever was started or stopped in between."""
-from comparison.corners.corner import corner, tx
+from comparison.corners.corner import Corner, corner, tx
 from comparison.model import DATA, RESET
 
 
 @corner
-def timers_end_in_window_order_not_as_started(t):
+def timers_end_in_window_order_not_as_started(t: Corner) -> None:
     """A timer of number 2 is older than number 1's after a retransmission of 1; they then end in one tick, 1 before
     2."""
     t.given(tx(timeout=3, retries=9))
@@ -27,7 +27,7 @@ def timers_end_in_window_order_not_as_started(t):
 
 
 @corner
-def timers_over_the_fold_not_as_started(t):
+def timers_over_the_fold_not_as_started(t: Corner) -> None:
     """The same of numbers 255 and 0; number 0 then fails alone, since number 255 is acknowledged."""
     t.given(tx(timeout=3, retries=2))
     t.up(0)
@@ -50,7 +50,7 @@ def timers_over_the_fold_not_as_started(t):
 
 
 @corner
-def shortest_and_longest_timeout(t):
+def shortest_and_longest_timeout(t: Corner) -> None:
     """T 65,535 and T 1 side by side: the one does not end in a trace's time, the other ends at every tick."""
     t.given(tx(timeout=65535), tx(channel=8, timeout=1, retries=255), tx(channel=9, timeout=300, retries=1))
     t.up(0, 1, 2)
@@ -83,7 +83,7 @@ def shortest_and_longest_timeout(t):
 
 
 @corner
-def resets_timer_of_the_longest_timeout(t):
+def resets_timer_of_the_longest_timeout(t: Corner) -> None:
     t.given(tx(timeout=65535), tx(channel=8, timeout=2))
     t.ok(t.open, 0)
     t.out(0, RESET, 0)
@@ -101,7 +101,7 @@ def resets_timer_of_the_longest_timeout(t):
 
 
 @corner
-def first_of_several_timers_is_stopped(t):
+def first_of_several_timers_is_stopped(t: Corner) -> None:
     """The next is due later than the one that was stopped, and ends at its own tick."""
     t.given(tx(timeout=5), tx(channel=8, timeout=9, retries=1))
     t.up(0, 1)
@@ -128,7 +128,7 @@ def first_of_several_timers_is_stopped(t):
 
 
 @corner
-def first_of_several_timers_is_closed(t):
+def first_of_several_timers_is_closed(t: Corner) -> None:
     t.given(tx(timeout=3), tx(channel=8, timeout=6), tx(channel=9, timeout=4))
     t.up(0, 1)
     t.send_out(0, 1)
@@ -148,7 +148,7 @@ def first_of_several_timers_is_closed(t):
 
 
 @corner
-def first_of_several_timers_starts_again(t):
+def first_of_several_timers_starts_again(t: Corner) -> None:
     """Stopped and started anew, it is due from its new start on."""
     t.given(tx(timeout=4, window=1), tx(channel=8, timeout=7))
     t.up(0, 1)
@@ -170,7 +170,7 @@ def first_of_several_timers_starts_again(t):
 
 
 @corner
-def several_entries_end_in_one_tick(t):
+def several_entries_end_in_one_tick(t: Corner) -> None:
     """Timeouts and starts that differ come to the same tick; Resets and data in table order, each in its own list."""
     t.given(tx(timeout=2), tx(channel=8, timeout=7), tx(channel=9, timeout=3), tx(channel=10, timeout=5))
     t.up(0, 1, 2)
@@ -192,7 +192,7 @@ def several_entries_end_in_one_tick(t):
 
 
 @corner
-def several_entries_fail_in_one_tick(t):
+def several_entries_fail_in_one_tick(t: Corner) -> None:
     """One recovers in the tick, one waits for a timer, one that is sound sends again."""
     t.given(tx(timeout=4, retries=0), tx(channel=8, timeout=4, retries=0), tx(channel=9, timeout=4, retries=1))
     t.up(0, 1, 2)
@@ -211,7 +211,7 @@ def several_entries_fail_in_one_tick(t):
 
 
 @corner
-def acks_at_failing_recover_at_the_next_tick(t):
+def acks_at_failing_recover_at_the_next_tick(t: Corner) -> None:
     """No timer is left running and none is due for long: the next tick recovers the end, not the one at which the last
     was due."""
     t.given(tx(timeout=9, retries=0), tx(channel=8, timeout=50))
@@ -235,7 +235,7 @@ def acks_at_failing_recover_at_the_next_tick(t):
 
 
 @corner
-def acks_at_failing_recover_two_ends(t):
+def acks_at_failing_recover_two_ends(t: Corner) -> None:
     """In table order, by the same tick, whichever was acknowledged first."""
     t.given(tx(timeout=9, retries=0), tx(channel=8, timeout=9, retries=0))
     t.up(0, 1)
@@ -255,7 +255,7 @@ def acks_at_failing_recover_two_ends(t):
 
 
 @corner
-def acks_at_failing_leave_one_running(t):
+def acks_at_failing_leave_one_running(t: Corner) -> None:
     t.given(tx(timeout=9, retries=0, window=8))
     t.up(0)
     t.send_out(0, 1)
@@ -271,7 +271,7 @@ def acks_at_failing_leave_one_running(t):
 
 
 @corner
-def failing_and_enabled_after_a_long_timeout(t):
+def failing_and_enabled_after_a_long_timeout(t: Corner) -> None:
     t.given(tx(timeout=700, retries=0), tx(channel=8, timeout=900))
     t.up(0, 1)
     t.send_out(1, 1)
@@ -290,7 +290,7 @@ def failing_and_enabled_after_a_long_timeout(t):
 
 
 @corner
-def setup_anew_stops_the_timers(t):
+def setup_anew_stops_the_timers(t: Corner) -> None:
     t.given(tx(timeout=4, retries=0), tx(channel=8, timeout=4))
     t.up(0)
     t.send_out(0, 1)

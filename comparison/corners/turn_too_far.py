@@ -3,30 +3,29 @@ from comparison import history, model
 from comparison.corners.corner import OWN, PROTOCOL, REMOTE, Corner, Unexpected, double, rx, tx
 
 
-def turn(name, last):
-    """W 16: data number 5 comes a second time when `last` payloads have been delivered, then more follow up to number
-    262.
+def turn(name: str, last: int) -> tuple[list[Corner], history.Channel]:
+    """W 16: data number 5 comes again when `last` payloads have been delivered, then more follow up to number 262.
 
     Gives both traces and the channel's history."""
     a, b, channel = Corner(name + ".A"), Corner(name + ".B"), history.Channel(name, 16)
     open_both(a, b, channel)
+    sent = []
     for number in range(1, 263):
         payload = b"move %d" % number
         a.ok(a.send, 0, payload)
         channel.accept(payload)
-        carried = channel.hand_out_data(handed_out(a))
-        old = carried if number == 5 else old if number > 5 else None
-        take_in(b, channel, carried)
+        sent.append(channel.hand_out_data(handed_out(a)))
+        take_in(b, channel, sent[-1])
         a.ok(a.arrival, channel.hand_out_ack(handed_out(b)).frame, gives=[model.ACKNOWLEDGED, 1])
         channel.confirm(1)
         if number == last:
-            take_in(b, channel, old)
+            take_in(b, channel, sent[5 - 1])
             channel.hand_out_ack(handed_out(b))  # this acknowledgement is lost
         channel.check()
     return [a, b], channel
 
 
-def open_both(a, b, channel):
+def open_both(a: Corner, b: Corner, channel: history.Channel) -> None:
     a.ok(a.setup, OWN, PROTOCOL, [tx(channel=5, window=16)])
     b.ok(b.setup, REMOTE, PROTOCOL, [rx(channel=5, window=16, remote=OWN)])
     b.ok(b.open, 0)
@@ -39,11 +38,11 @@ def open_both(a, b, channel):
     channel.opened()
 
 
-def handed_out(t):
+def handed_out(t: Corner) -> bytes:
     return bytes(t.hand_out().fields[1:])
 
 
-def take_in(b, channel, carried):
+def take_in(b: Corner, channel: history.Channel, carried: history.Carried) -> None:
     """Data whose premise is asked, and which is taken in all the same."""
     if channel.premise(carried) == history.FAR_DATA:
         channel.break_premise()
@@ -52,7 +51,7 @@ def take_in(b, channel, carried):
 
 
 @double
-def turn_too_far():
+def turn_too_far() -> list[Corner]:
     """Start 246: 5 is in. The distance premise is broken, and the old move is wound again, in place of number 261."""
     both, channel = turn("turn_too_far", 245)
     wound_again = channel.delivered[260] == b"move 5" and channel.accepted[260] == b"move 261"
@@ -63,7 +62,7 @@ def turn_too_far():
 
 
 @double
-def turn_not_too_far():
+def turn_not_too_far() -> list[Corner]:
     """Start 245: 5 is out. The premises hold, and so does the promise."""
     both, channel = turn("turn_not_too_far", 244)
     if not channel.whole or channel.delivered != channel.accepted:

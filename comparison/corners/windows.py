@@ -1,10 +1,10 @@
 """Three ways to wind it too far: windows past 255, lost acknowledgements, a host that does nothing."""
-from comparison.corners.corner import corner, rx, tx
+from comparison.corners.corner import Corner, corner, rx, tx
 from comparison.model import ACKNOWLEDGE
 
 
 @corner
-def window_past_255(t):
+def window_past_255(t: Corner) -> None:
     """Start 250, W 16: 9 is in, 10 and 249 are out."""
     t.given(rx(window=0, largest=3))
     t.up(0)
@@ -15,7 +15,7 @@ def window_past_255(t):
 
 
 @corner
-def senders_window_past_255(t):
+def senders_window_past_255(t: Corner) -> None:
     t.given(tx(window=16, largest=3))
     t.up(0)
     t.confirm(0, 1, 249)
@@ -30,7 +30,7 @@ def senders_window_past_255(t):
 
 
 @corner
-def window_of_one(t):
+def window_of_one(t: Corner) -> None:
     t.given(rx(window=1, largest=3))
     t.up(0)
     for start in (1, 2, 3):
@@ -42,7 +42,7 @@ def window_of_one(t):
 
 
 @corner
-def window_of_128(t):
+def window_of_128(t: Corner) -> None:
     """Start 200: 71 is in, 72 is out."""
     t.given(rx(window=128, largest=3))
     t.up(0)
@@ -54,7 +54,7 @@ def window_of_128(t):
 
 
 @corner
-def window_of_128_filled_over_the_fold(t):
+def window_of_128_filled_over_the_fold(t: Corner) -> None:
     t.given(rx(window=128, largest=3), tx(window=128, largest=3))
     t.up(0)
     t.deliver(0, 1, 199)
@@ -69,7 +69,7 @@ def window_of_128_filled_over_the_fold(t):
 
 
 @corner
-def lost_acknowledgements_are_repaired(t):
+def lost_acknowledgements_are_repaired(t: Corner) -> None:
     """Data outside the window is acknowledged, so a sender whose acknowledgement was lost does not fail."""
     t.given(rx(window=2))
     t.up(0)
@@ -80,7 +80,7 @@ def lost_acknowledgements_are_repaired(t):
 
 
 @corner
-def start_does_not_wait_for_its_host(t):
+def start_does_not_wait_for_its_host(t: Corner) -> None:
     """The host does nothing; what is acknowledged was delivered or is held."""
     t.given(rx(window=4))
     t.up(0)
