@@ -115,8 +115,7 @@ OURS, THEIRS = "#257", "#b55"
 
 
 def scale(values, low, high):
-    """A place between low and high for a value, by its number of doublings; 0 stands one before the least other
-    value."""
+    """A place between low and high for a value, by its number of doublings; 0 stands one before the least other."""
     least, most = min(filter(None, values)), max(values)
     zero = least / 2
     first = least if all(values) else zero

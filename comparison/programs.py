@@ -40,8 +40,7 @@ def command_of_peers(name: str, out: str = PEER) -> list[str]:
 
 
 def written(command: list[str], data: bytes, seconds: int = 300) -> bytes:
-    """What a program writes on `data`. A bad ending is no exception but a last line, so that it can be compared and
-    shrunk."""
+    """What a program writes on `data`. A bad ending is no exception but a last line, to be compared and shrunk."""
     try:
         done = subprocess.run(command, input=data, stdout=subprocess.PIPE, stderr=subprocess.PIPE, timeout=seconds)
     except subprocess.TimeoutExpired as late:

@@ -51,8 +51,9 @@ def put(data: bytes, at: int, value: bytes | tuple[int, ...]) -> bytes:
 
 
 def broken_tables(data: bytes) -> Iterator[tuple[str, bytes]]:
-    """Tables that are like `data`, a good one with a sender first, but for one rule; rules between entries are left to
-    the corners."""
+    """Tables that are like `data`, a good one with a sender first, but for one rule.
+
+    Rules between entries are left to the corners."""
     first = 8
     yield "no bytes", b""
     yield "seven bytes", data[:7]

@@ -61,8 +61,7 @@ class Side:
         self.asleep_until = 0  # hands nothing out before that step
 
     def channel_of(self, frame: bytes, inwards: bool) -> Channel | None:
-        """The channel of a frame that comes in or goes out here, None where the frame is no channel's of these two
-        nodes."""
+        """The channel of a frame that comes in or goes out here, None where it is no channel's of these two nodes."""
         sent_by_sender = frame[3] != ACKNOWLEDGE
         ours = self.receiving if sent_by_sender == inwards else self.sending
         remote = frame[2] if inwards else frame[0]
@@ -84,8 +83,7 @@ class Plan(NamedTuple):
 
 
 def plan_channels(rng: random.Random, steady: bool) -> list[Plan]:
-    """Channels in both directions. In a steady pair the first of each direction, which has most of the traffic, seldom
-    fails."""
+    """Channels in both directions. In a steady pair the first of each, which has most of the traffic, seldom fails."""
     plans: list[Plan] = []
     for up in (True, False):
         for number in rng.sample(range(256), rng.choice((1, 1, 2, 2, 3))):

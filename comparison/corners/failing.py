@@ -4,8 +4,9 @@ from comparison.model import DATA, RESET, URGENT
 
 
 def failing(t: Corner, timeout: int = 3) -> None:
-    """Brings entry 0 (retries 0, the timeout given) to Failing: number 1 has ended, 2 has 1 tick left, 3 has 2, 4 waits
-    no more."""
+    """Brings entry 0 (retries 0, this timeout) to Failing.
+
+    Number 1 has ended, 2 has 1 tick left, 3 has 2, 4 waits no more."""
     t.up(0)
     t.send_out(0, 1)
     t.ticks(timeout - 2)

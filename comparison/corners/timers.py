@@ -5,8 +5,7 @@ from comparison.model import DATA, RESET
 
 @corner
 def timers_end_in_window_order_not_as_started(t: Corner) -> None:
-    """A timer of number 2 is older than number 1's after a retransmission of 1; they then end in one tick, 1 before
-    2."""
+    """A timer of number 2 is older than number 1's after a retransmission of 1; then both end in one tick, 1 first."""
     t.given(tx(timeout=3, retries=9))
     t.up(0)
     t.send_out(0, 1)
@@ -212,8 +211,7 @@ def several_entries_fail_in_one_tick(t: Corner) -> None:
 
 @corner
 def acks_at_failing_recover_at_the_next_tick(t: Corner) -> None:
-    """No timer is left running and none is due for long: the next tick recovers the end, not the one at which the last
-    was due."""
+    """No timer runs and none is due for long: the next tick recovers the end, not that at which the last was due."""
     t.given(tx(timeout=9, retries=0), tx(channel=8, timeout=50))
     t.up(0, 1)
     t.send_out(1, 1)
