@@ -1,8 +1,9 @@
 """The benchmark's table and picture: the harness with the product and with the peer, side by side.
 
-measure.py PRODUCT PEER PICTURE [RUN..]: two harnesses, where the picture of the growth goes, and what runs x86-64 programs here. Called by ./bench.
-Instructions come from tools/icount, as the difference of a run with the calls and one without; nanoseconds, on x86-64 alone, from the
-quickest batch of several runs, product and peer in turn."""
+measure.py PRODUCT PEER PICTURE [RUN..]: two harnesses, where the picture of the growth goes, and what runs x86-64
+programs here. Called by ./bench.
+Instructions come from tools/icount, as the difference of a run with the calls and one without; nanoseconds, on x86-64
+alone, from the quickest batch of several runs, product and peer in turn."""
 import collections
 import concurrent.futures
 import math
@@ -13,9 +14,11 @@ import sys
 ICOUNT = os.path.join(os.path.dirname(os.path.abspath(__file__)), "..", "tools", "icount")
 BY_THE_CLOCK = os.uname().machine == "x86_64"
 
-# what is measured: the harness's row with the window, entries and payload of every entry, and how many timers run in the rows that say so
+# what is measured: the harness's row with the window, entries and payload of every entry, and how many timers run in
+# the rows that say so
 Case = collections.namedtuple("Case", "label row window entries payload timers", defaults=(0,))
-FRAMES = [Case("frame %s, %s bytes" % (row, format(n, ",")), row, 16, 1, n) for row in ("read", "write") for n in (16, 256, 4096)]
+FRAMES = [Case("frame %s, %s bytes" % (row, format(n, ",")), row, 16, 1, n)
+          for row in ("read", "write") for n in (16, 256, 4096)]
 CALLS = [
     Case("send, 16 bytes", "send", 128, 1, 16),
     Case("hand out Data, 16 bytes", "hand_out", 128, 1, 16),
@@ -27,7 +30,10 @@ CALLS = [
     Case("busy tick, 16 x 128 timers", "busy_tick", 128, 16, 15),
     Case("tick, all 2,048 timers end", "ending_tick", 128, 16, 15, 2048),
 ]
-WINDOWS, ENTRIES, PAYLOADS, TIMERS = (1, 2, 4, 8, 16, 32, 64, 128), (1, 2, 4, 8, 16), (16, 64, 256, 1024, 4096), (0, 128, 512, 1024, 2048)
+WINDOWS = (1, 2, 4, 8, 16, 32, 64, 128)
+ENTRIES = (1, 2, 4, 8, 16)
+PAYLOADS = (16, 64, 256, 1024, 4096)
+TIMERS = (0, 128, 512, 1024, 2048)
 
 
 def tick_cases(words, row):
@@ -39,9 +45,10 @@ Growth = collections.namedtuple("Growth", "title cases xs")
 ROUND_TRIPS = [
     Growth("window", [Case("round trip, W %d" % w, "round_trip", w, 1, 16) for w in WINDOWS], WINDOWS),
     Growth("entries", [Case("round trip, entries %d" % e, "round_trip", 16, e, 16) for e in ENTRIES], ENTRIES),
-    Growth("payload bytes", [Case("round trip, %s bytes, W 4" % format(n, ","), "round_trip", 4, 1, n) for n in PAYLOADS], PAYLOADS),
+    Growth("payload bytes",
+           [Case("round trip, %s bytes, W 4" % format(n, ","), "round_trip", 4, 1, n) for n in PAYLOADS], PAYLOADS),
 ]
-# none is due for long; none is due, but the tick is one at which a timer could end, so that the product looks at every one
+# none is due for long; none is due, but a timer could end at this tick, so that the product looks at every one
 TICKS = [
     Growth("timers running", tick_cases("tick, none due", "quiet_tick"), TIMERS),
     Growth("timers running, all looked at", tick_cases("tick through all", "through_tick"), TIMERS),
@@ -100,14 +107,15 @@ def show(title, cases, results, ratios):
         print(text)
 
 
-# ---- the picture: a panel for each of ROUND_TRIPS, instructions a payload against what grows, both on scales that double; and one for a tick
+# ---- the picture: a panel for each of ROUND_TRIPS, instructions a payload against what grows, both on scales that
+# double; and one for a tick
 
 WIDE, HIGH, LEFT, TOP, GAP = 250, 210, 60, 46, 70
 OURS, THEIRS = "#257", "#b55"
 
 
 def scale(values, low, high):
-    """A place between low and high for a value, by its number of doublings; 0 stands one before the least other value."""
+    """A place between low and high for a value, by its number of doublings; 0 stands one before the least other."""
     least, most = min(filter(None, values)), max(values)
     zero = least / 2
     first = least if all(values) else zero
@@ -147,7 +155,8 @@ def panel(number, title, xs, curves):
 
 def curves_of(growth, results, dashes=""):
     """The peer's curve and the product's."""
-    return [([results[case.label][0][which] for case in growth.cases], colour, dashes) for which, colour in ((1, THEIRS), (0, OURS))]
+    return [([results[case.label][0][which] for case in growth.cases], colour, dashes)
+            for which, colour in ((1, THEIRS), (0, OURS))]
 
 
 def words_over(number, y, size, words):
@@ -158,7 +167,8 @@ def picture(results):
     last = len(ROUND_TRIPS)
     names = '<tspan fill="%s">product</tspan>, <tspan fill="%s">peer</tspan>' % (OURS, THEIRS)
     wide = LEFT + (last + 1) * WIDE + last * GAP + 20
-    out = ['<svg xmlns="http://www.w3.org/2000/svg" width="%d" height="%d" font-family="sans-serif" font-size="12">' % (wide, TOP + HIGH + 50),
+    out = ['<svg xmlns="http://www.w3.org/2000/svg" width="%d" height="%d" font-family="sans-serif" font-size="12">'
+           % (wide, TOP + HIGH + 50),
            '<rect width="100%" height="100%" fill="white"/>',
            words_over(0, 18, 14, "Instructions a payload, from send to confirmed: " + names),
            words_over(last, 18, 14, "Instructions a tick, no timer due"),
@@ -166,7 +176,8 @@ def picture(results):
     for number, growth in enumerate(ROUND_TRIPS):
         out += panel(number, growth.title, growth.xs, curves_of(growth, results))
     quiet, through = TICKS
-    out += panel(last, quiet.title, quiet.xs, curves_of(through, results, ' stroke-dasharray="5 4"') + curves_of(quiet, results))
+    curves = curves_of(through, results, ' stroke-dasharray="5 4"') + curves_of(quiet, results)
+    out += panel(last, quiet.title, quiet.xs, curves)
     return "\n".join(out + ["</svg>"]) + "\n"
 
 
@@ -181,7 +192,8 @@ def main():
             show("Growth with %s, %s" % (growth.title, of_what), growth.cases, results, ratios)
     with open(to, "w") as file:
         file.write(picture(results))
-    print("\n%d rows; above 1.0 of the peer: %d; above 1.5: %d" % (len(ratios), *(sum(r > most for r in ratios.values()) for most in (1.0, 1.5))))
+    above = [sum(r > most for r in ratios.values()) for most in (1.0, 1.5)]
+    print("\n%d rows; above 1.0 of the peer: %d; above 1.5: %d" % (len(ratios), *above))
 
 
 main()

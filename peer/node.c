@@ -74,7 +74,7 @@ int node_close(struct node *node, size_t index)
     }
     if (end->entry.kind == KIND_SENDS) {
         sender_close(&node->waiting, end);
-        node->failing &= (uint16_t)~(1U << index);
+        node->failing &= (uint16_t)(~(1U << index));
     } else {
         receiver_close(&node->waiting, end);
     }

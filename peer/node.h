@@ -26,8 +26,8 @@ struct node {
     uint8_t count;
     uint8_t own;
     uint8_t protocol;
-    uint16_t failing; /* bit i: entry i is Failing */
-    uint32_t store;   /* bytes that must be lent */
+    uint16_t failing;              /* bit i: entry i is Failing */
+    uint32_t store;                /* bytes that must be lent */
     uint8_t alike[LOOKUP_BUCKETS]; /* 1 + the first end point in each, or 0 */
     struct end_point end[TABLE_COUNT_MOST];
     struct waiting waiting;

@@ -1,8 +1,10 @@
 #!/usr/bin/python3
-"""The sample run of `desk` that `rt ci` holds to its expected output: crates/desk/stdin, stdout and the list of its scenes, SAMPLE.md.
+"""The sample run of `desk` that `rt ci` holds to its expected output: crates/desk/stdin, stdout and the list of its
+scenes, SAMPLE.md.
 
-rt runs a program once, so all scenes stand in one stream; each but the first begins with a table, which makes every entry new. Every call names its
-answer, read off paper 01 by hand as in tools/corners.py, and what the desk must write is the model's (tools/model.py), never our desk's.
+rt runs a program once, so all scenes stand in one stream; each but the first begins with a table, which makes every
+entry new. Every call names its answer, read off paper 01 by hand as in comparison/corners, and what the desk must write
+is the model's (comparison/model.py), never our desk's.
 tools/desk_samples.py           writes the three files
 tools/desk_samples.py --check   tests that the files are those, and that the C peer writes the same"""
 import collections
@@ -10,14 +12,12 @@ import os
 import sys
 
 sys.dont_write_bytecode = True  # the source tree stays as it is
-import comparison
-import corners
-import model
-import streams
-from corners import OWN, PROTOCOL, REMOTE, rx, tx
-from model import ACKNOWLEDGE, DATA, RESET, URGENT
+sys.path.insert(0, os.path.join(os.path.dirname(os.path.abspath(__file__)), ".."))
+from comparison import coverage, model, programs
+from comparison.corners.corner import OWN, PROTOCOL, REMOTE, Corner, rx, tx
+from comparison.model import ACKNOWLEDGE, DATA, RESET, URGENT
 
-DESK = os.path.join(streams.ROOT, "crates", "desk")
+DESK = os.path.join(programs.ROOT, "crates", "desk")
 SCENES = []
 Span = collections.namedtuple("Span", "name shows first last")
 
@@ -32,8 +32,8 @@ def scene(play):
 
 @scene
 def a_new_node(t):
-    """On a node of zeros calls on an entry are refused with 2, nothing goes out and no frame has a taker; bad tables are refused with 1,
-    paper 01's own table is taken."""
+    """On a node of zeros calls on an entry are refused with 2, nothing goes out and no frame has a taker; bad tables
+    are refused with 1, paper 01's own table is taken."""
     for call in (t.open, t.close, t.counts):
         t.no(2, call, 0)
     for call in (t.send, t.urgent):
@@ -51,9 +51,9 @@ def a_new_node(t):
 
 @scene
 def opening(t):
-    """Two entries are opened and closed again at once, and nothing waits of it. Then a sender opens by its Reset, which goes out again when T
-    ticks brought no acknowledgement 0, and a receiver by the Reset that it takes; a payload goes each way; both are closed with frames waiting,
-    which go, and the sender keeps its counts."""
+    """Two entries are opened and closed again at once, and nothing waits of it. Then a sender opens by its Reset, which
+    goes out again when T ticks brought no acknowledgement 0, and a receiver by the Reset that it takes; a payload goes
+    each way; both are closed with frames waiting, which go, and the sender keeps its counts."""
     t.given(tx(timeout=3), rx())
     for index in (0, 1):
         t.ok(t.open, index)
@@ -85,7 +85,8 @@ def opening(t):
 
 @scene
 def refused(t):
-    """Every refusal number that a desk can be brought to, by every call but the table, each call's in the order of its tests."""
+    """Every refusal number that a desk can be brought to, by every call but the table, each call's in the order of its
+    tests."""
     t.given(tx(window=1, largest=4), rx(largest=4))
     refused_by_the_host(t)
     refused_from_the_wire(t)
@@ -143,8 +144,9 @@ def refused_from_the_wire(t):
 
 @scene
 def lost_and_sent_again(t):
-    """Of three payloads the first is lost and the third's acknowledgement is late: after T ticks both wait again, the late acknowledgement
-    takes one back, the start passes all three at once; the receiver holds what came early and acknowledges what it has."""
+    """Of three payloads the first is lost and the third's acknowledgement is late: after T ticks both wait again, the
+    late acknowledgement takes one back, the start passes all three at once; the receiver holds what came early and
+    acknowledges what it has."""
     t.given(tx(timeout=3, retries=2), rx())
     t.up(0, 1)
     t.send_out(0, 1, 2, 3)
@@ -173,8 +175,9 @@ def lost_and_sent_again(t):
 
 @scene
 def failing(t):
-    """After M retries a sender is Failing: what waits of it is dropped and calls are refused; once no timer of it runs a tick answers its bit,
-    it is Enabled with a Reset waiting and its counts kept, and acknowledgement 0 opens a new run. Another is closed while it is Failing."""
+    """After M retries a sender is Failing: what waits of it is dropped and calls are refused; once no timer of it runs
+    a tick answers its bit, it is Enabled with a Reset waiting and its counts kept, and acknowledgement 0 opens a new
+    run. Another is closed while it is Failing."""
     t.given(rx(), tx(timeout=2, retries=1), tx(channel=8, timeout=2, retries=0))
     t.up(1, 2)
     t.send_out(1, 1)
@@ -209,8 +212,8 @@ def failing(t):
 
 @scene
 def full_and_urgent(t):
-    """A window of 2 takes no third payload until the start moves; an Urgent goes out before data, and comes in past what is held; of all that
-    waits acknowledgements go first, then Resets, Urgents, retransmissions, data."""
+    """A window of 2 takes no third payload until the start moves; an Urgent goes out before data, and comes in past
+    what is held; of all that waits acknowledgements go first, then Resets, Urgents, retransmissions, data."""
     t.given(tx(window=2, timeout=3), rx(), tx(channel=8))
     t.up(0, 1)
     t.send_out(0, 1)
@@ -236,8 +239,8 @@ def full_and_urgent(t):
 
 @scene
 def past_255(t):
-    """Numbers fold: with W 16 and start 250 number 9 is in, 10 and 249 are out, at both ends; the sender's window fills from 250 to 9, and is
-    acknowledged from the far end."""
+    """Numbers fold: with W 16 and start 250 number 9 is in, 10 and 249 are out, at both ends; the sender's window fills
+    from 250 to 9, and is acknowledged from the far end."""
     t.given(tx(window=16), rx(window=16))
     t.up(0, 1)
     t.confirm(0, 1, 249)
@@ -261,7 +264,8 @@ def past_255(t):
 def torn(t):
     """The stream ends inside a record: the desk says which."""
     t.given(tx())
-    t.end_with(bytes((model.ARRIVAL_CALL, 0)) + model.two(9) + t.frame(0, ACKNOWLEDGE, 0)[:8], "torn %d\n" % (len(t.lines) + 1))
+    record = bytes((model.ARRIVAL_CALL, 0)) + model.two(9) + t.frame(0, ACKNOWLEDGE, 0)
+    t.end_with(record[:-1], "torn %d\n" % (len(t.lines) + 1))
 
 
 # 2. THE FILES
@@ -269,26 +273,30 @@ def torn(t):
 
 def sample():
     """The whole trace, and where each scene lies in it."""
-    trace, spans = corners.Corner("sample"), []
+    trace, spans = Corner("sample"), []
     for play in SCENES:
         first = len(trace.lines) + 1
         play(trace)
-        spans.append(Span(play.__name__.replace("_", " "), " ".join(play.__doc__.split()), first, trace.text().count("\n")))
+        name, shows = play.__name__.replace("_", " "), " ".join(play.__doc__.split())
+        spans.append(Span(name, shows, first, trace.text().count("\n")))
     return trace, spans
 
 
 def gaps(trace):
     """Calls, refusals and changes of state that a sample should show and this one does not."""
-    totals = comparison.Totals()
+    totals = coverage.Totals()
     totals.add_trace(trace)
-    return [name for name in totals.missing() if name not in comparison.EVENTS]
+    return [name for name in totals.missing() if name not in coverage.EVENTS]
 
 
 HEADER = """# The sample run of desk
 
-`rt ci` runs `desk` on `stdin` and holds what it writes to `stdout`. Both files and this one are written by `tools/desk_samples.py`, with the
-answers of the model in `tools/model.py`; `tests/desk_sample` asks the C peer for the same. Scenes stand one after the other in one stream, each but
-the first begun by a table. Together they show every kind of call, every refusal number of every call but 6 and 8, and every change of state. A
+`rt ci` runs `desk` on `stdin` and holds what it writes to `stdout`. Both files and this one are written by \
+`tools/desk_samples.py`, with the
+answers of the model in `tools/model.py`; `tests/desk_sample` asks the C peer for the same. Scenes stand one after \
+the other in one stream, each but
+the first begun by a table. Together they show every kind of call, every refusal number of every call but 6 and 8, \
+and every change of state. A
 desk cannot be brought to 6, since it always lends enough, nor to 8, since 4,294,967,295 payloads fit in no stream.
 
 | scene | records | what it shows |
@@ -297,7 +305,7 @@ desk cannot be brought to 6, since it always lends enough, nor to 8, since 4,294
 
 
 def listing(spans):
-    return HEADER + "".join("| %s | %d to %d | %s |\n" % (span.name, span.first, span.last, span.shows) for span in spans)
+    return HEADER + "".join("| %s | %d to %d | %s |\n" % (s.name, s.first, s.last, s.shows) for s in spans)
 
 
 def files(trace, spans):
@@ -311,10 +319,12 @@ def content(name):
 
 def check(trace, made):
     """What is wrong, for each of the tests: the files, what the sample shows, the peer."""
-    yield "", ["crates/desk/%s is not what tools/desk_samples.py writes" % name for name, data in made.items() if content(name) != data]
+    yield "", ["crates/desk/%s is not what tools/desk_samples.py writes" % name
+               for name, data in made.items() if content(name) != data]
     yield "the sample does not show: ", gaps(trace)
-    streams.build_peer()
-    wrong = streams.difference(made["stdout"], streams.written(streams.command_of_peers("desk"), made["stdin"]), ("model", "peer"))
+    programs.build_peer()
+    theirs = programs.written(programs.command_of_peers("desk"), made["stdin"])
+    wrong = programs.difference(made["stdout"], theirs, ("model", "peer"))
     yield "", [wrong] if wrong else []
 
 

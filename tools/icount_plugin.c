@@ -4,11 +4,15 @@
 #include <stdio.h>
 #include <stdlib.h>
 
+#define EXPORTED __attribute__((visibility("default")))
+
 typedef uint64_t qemu_plugin_id_t;
 struct qemu_plugin_tb;
 typedef void (*tb_trans_cb)(qemu_plugin_id_t, struct qemu_plugin_tb *);
 typedef void (*at_exit_cb)(qemu_plugin_id_t, void *);
-enum qemu_plugin_op { QEMU_PLUGIN_INLINE_ADD_U64 };
+enum qemu_plugin_op {
+    QEMU_PLUGIN_INLINE_ADD_U64
+};
 
 extern size_t qemu_plugin_tb_n_insns(const struct qemu_plugin_tb *);
 extern void qemu_plugin_register_vcpu_tb_trans_cb(qemu_plugin_id_t, tb_trans_cb);
@@ -21,30 +25,29 @@ static uint64_t count;
 
 static void translated(qemu_plugin_id_t id, struct qemu_plugin_tb *tb)
 {
-	(void)id;
-	qemu_plugin_register_vcpu_tb_exec_inline(tb, QEMU_PLUGIN_INLINE_ADD_U64, &count, qemu_plugin_tb_n_insns(tb));
+    (void)id;
+    qemu_plugin_register_vcpu_tb_exec_inline(tb, QEMU_PLUGIN_INLINE_ADD_U64, &count, qemu_plugin_tb_n_insns(tb));
 }
 
 static void ended(qemu_plugin_id_t id, void *data)
 {
-	const char *path = getenv("ICOUNT_OUT");
-	FILE *out = path ? fopen(path, "w") : NULL;
+    const char *path = getenv("ICOUNT_OUT");
+    FILE *out = path ? fopen(path, "w") : NULL;
 
-	(void)id;
-	(void)data;
-	if (out) {
-		fprintf(out, "%llu\n", (unsigned long long)count);
-		fclose(out);
-	}
+    (void)id;
+    (void)data;
+    if (out) {
+        fprintf(out, "%llu\n", (unsigned long long)count);
+        fclose(out);
+    }
 }
 
-__attribute__((visibility("default")))
-int qemu_plugin_install(qemu_plugin_id_t id, const void *info, int argc, char **argv)
+EXPORTED int qemu_plugin_install(qemu_plugin_id_t id, const void *info, int argc, char **argv)
 {
-	(void)info;
-	(void)argc;
-	(void)argv;
-	qemu_plugin_register_vcpu_tb_trans_cb(id, translated);
-	qemu_plugin_register_atexit_cb(id, ended, NULL);
-	return 0;
+    (void)info;
+    (void)argc;
+    (void)argv;
+    qemu_plugin_register_vcpu_tb_trans_cb(id, translated);
+    qemu_plugin_register_atexit_cb(id, ended, NULL);
+    return 0;
 }

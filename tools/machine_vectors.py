@@ -1,24 +1,23 @@
 #!/usr/bin/python3
-"""Outside vectors for the machine of crates/machine: proofs/Vectors.antt, a table of calls, each with what the C peer's desk writes on it, and the
-claim that the machine answers the same, which the checker computes.
+"""Outside vectors for the machine of crates/machine: proofs/Vectors.antt, a table of calls, each with what the C peer's
+desk writes on it, and the claim that the machine answers the same, which the checker computes.
 
-The calls are one trace on one node, by hand. Every call names its answer, read off paper 01 as in tools/corners.py, and the model (tools/model.py)
-must give it; the answers in the table are the peer's. Refusals 6 and 8 are left out, since a desk cannot be brought to them, and 1, since setup is
-no call of the machine.
+The calls are one trace on one node, by hand. Every call names its answer, read off paper 01 as in comparison/corners,
+and the model (comparison/model.py) must give it; the answers in the table are the peer's. Refusals 6 and 8 are left
+out, since a desk cannot be brought to them, and 1, since setup is no call of the machine.
 tools/machine_vectors.py           writes the file
-tools/machine_vectors.py --check   tests that the file is that, that the trace shows all that it should, and that the model answers the same"""
+tools/machine_vectors.py --check   tests that the file is that, that the trace shows all that it should, and that the
+model answers the same"""
 import collections
 import itertools
 import os
 import sys
 
 sys.dont_write_bytecode = True  # the source tree stays as it is
-import comparison
-import corners
-import model
-import streams
-from corners import OWN, PROTOCOL, rx, tx
-from model import ACKNOWLEDGE, DATA, RESET, URGENT
+sys.path.insert(0, os.path.join(os.path.dirname(os.path.abspath(__file__)), ".."))
+from comparison import coverage, model, programs
+from comparison.corners.corner import OWN, PROTOCOL, Corner, rx, tx
+from comparison.model import ACKNOWLEDGE, DATA, RESET, URGENT
 
 FILE = "crates/machine/proofs/Vectors.antt"
 SCENES = []
@@ -105,7 +104,8 @@ def frames_refused(t):
     t.no(11, t.arrival, others)
     t.no(11, t.arrival, model.frame(OWN, PROTOCOL - 1, FIRST, 4, 7, 4))  # the protocol ID; 12 is tested later
     t.no(12, t.arrival, model.frame(OWN, PROTOCOL, SECOND, 4, 7, 4))  # type 4; 13 is tested later
-    t.no(13, t.arrival, model.frame(OWN, PROTOCOL, SECOND, DATA, 7, 1, of(1, 2, 3, 4, 5)))  # a sender's channel; 5 is tested later
+    # a sender's channel; 5 is tested later
+    t.no(13, t.arrival, model.frame(OWN, PROTOCOL, SECOND, DATA, 7, 1, of(1, 2, 3, 4, 5)))
 
 
 @scene
@@ -152,7 +152,8 @@ def failing(t):
     t.out(0, DATA, 4, of(4))
     t.ok(t.urgent, 0, of(202))
     t.data(1, 4, of(40), of(40))
-    t.ticks(1, last=0b101)  # M 1: number 4 fails; 5 waited again, 6 for the first time, and an Urgent. Entry 2's number 2 ends
+    # M 1: number 4 fails; 5 waited again, 6 for the first time, and an Urgent. Entry 2's number 2 ends
+    t.ticks(1, last=0b101)
 
 
 @scene
@@ -247,7 +248,7 @@ def failing_for_how_long(t):
 
 def trace():
     """The whole trace, and the scene of each of its records; the table is of none."""
-    out, scenes = corners.Corner("machine"), [""]
+    out, scenes = Corner("machine"), [""]
     out.ok(out.setup, OWN, PROTOCOL, ENTRIES)
     for play in SCENES:
         play(out)
@@ -338,7 +339,8 @@ def rows(found):
 
 def entry_words(entry):
     words = "sends to" if entry.kind == model.SENDS else "receives from"
-    words += " %d over %d: W %s, P %d" % (entry.remote, entry.channel, entry.window or "0 for %d" % window(entry), entry.largest)
+    size = entry.window or "0 for %d" % window(entry)
+    words += " %d over %d: W %s, P %d" % (entry.remote, entry.channel, size, entry.largest)
     return words + (", M %d, T %d" % (entry.retries, entry.timeout) if entry.kind == model.SENDS else "")
 
 
@@ -465,7 +467,7 @@ LEFT_OUT = {
     "a timer of T 65,535 starts",  # would take 65,535 ticks to show more than that
     "setup while timers run",  # setup is no call of the machine
 }
-EVENTS = set(comparison.TRANSITIONS + comparison.EVENTS) - LEFT_OUT
+EVENTS = set(coverage.TRANSITIONS + coverage.EVENTS) - LEFT_OUT
 
 
 def gaps(found, seen):
@@ -485,12 +487,12 @@ def gaps(found, seen):
 
 
 def content():
-    with open(os.path.join(streams.ROOT, FILE), encoding="utf-8") as file:
+    with open(os.path.join(programs.ROOT, FILE), encoding="utf-8") as file:
         return file.read()
 
 
 def write(text):
-    with open(os.path.join(streams.ROOT, FILE), "w", encoding="utf-8") as file:
+    with open(os.path.join(programs.ROOT, FILE), "w", encoding="utf-8") as file:
         file.write(text)
 
 
@@ -498,14 +500,14 @@ def check(made, answered, found):
     """What is wrong, for each of the tests: the file, what the trace shows, the model."""
     yield "", [] if content() == whole_file(found) else [FILE + " is not what tools/machine_vectors.py writes"]
     yield "the vectors do not show ", list(gaps(found, made.node.seen))
-    wrong = streams.difference(made.text().encode(), answered, ("model", "peer"))
+    wrong = programs.difference(made.text().encode(), answered, ("model", "peer"))
     yield "", [wrong] if wrong else []
 
 
 def main():
     made, scenes = trace()
-    streams.build_peer()
-    answered = streams.peers("desk", bytes(made.stream))
+    programs.build_peer()
+    answered = programs.peers("desk", bytes(made.stream))
     found = vectors(bytes(made.stream), answered.decode(), scenes)
     if "--check" not in sys.argv[1:]:
         write(whole_file(found))

@@ -1,8 +1,12 @@
-"""A node and its desk as paper 01 describes them, in plain Python: it makes the traces and is a third opinion on every answer.
+"""A node and its desk as paper 01 describes them, in plain Python: makes the traces, and is a third opinion on answers.
 
-Written for the reader, not for speed, and with no lent memory: the desk's store, block and frame buffers are always long enough,
-so refusal 6 is never given here."""
+Written for the reader, not for speed, and with no lent memory: the desk's store, block and frame buffers are always
+long enough, so refusal 6 is never given here."""
+from __future__ import annotations
+
 import collections
+from collections.abc import Callable, Iterator, Sequence
+from typing import Any, NamedTuple
 
 SENDS, RECEIVES = 0, 1
 CLOSED, ENABLED, OPEN, FAILING = "Closed", "Enabled", "Open", "Failing"
@@ -12,7 +16,8 @@ IGNORED, ACKNOWLEDGED, OPENED, TOOK_RESET, TOOK_DATA, TOOK_URGENT = range(6)
 # the five sorts of frame that wait, in the order of handing out
 SORTS = ACKS, RESETS, URGENTS, AGAIN, FIRST = range(5)
 # the desk's kinds of record
-TABLE_CALL, OPEN_CALL, CLOSE_CALL, SEND_CALL, URGENT_CALL, ARRIVAL_CALL, TICK_CALL, HAND_OUT_CALL, COUNTS_CALL = 1, 2, 3, 4, 5, 6, 7, 8, 20
+TABLE_CALL, OPEN_CALL, CLOSE_CALL, SEND_CALL, URGENT_CALL, ARRIVAL_CALL, TICK_CALL, HAND_OUT_CALL = range(1, 9)
+COUNTS_CALL = 20
 
 DEFAULT_WINDOW = 16
 MOST_ENTRIES = 16
@@ -27,12 +32,12 @@ OVERHEAD = 9
 class Refused(Exception):
     """A call that is refused; nothing has altered."""
 
-    def __init__(self, number):
+    def __init__(self, number: int) -> None:
         super().__init__(number)
         self.number = number
 
 
-def refuse_if(condition, number):
+def refuse_if(condition: object, number: int) -> None:
     if condition:
         raise Refused(number)
 
@@ -40,7 +45,7 @@ def refuse_if(condition, number):
 # 1. THE WIRE (01, "The frame")
 
 
-def _check_entry(value):
+def _check_entry(value: int) -> int:
     for _ in range(8):
         value = value << 1 ^ (0x107 if value & 0x80 else 0)
     return value
@@ -49,29 +54,30 @@ def _check_entry(value):
 CHECK = [_check_entry(value) for value in range(256)]
 
 
-def check(data):
+def check(data: bytes | bytearray) -> int:
     value = 0xFF
     for byte in data:
         value = CHECK[value ^ byte]
     return value
 
 
-def two(number):
+def two(number: int) -> bytes:
     return number.to_bytes(2, "big")
 
 
-def frame(destination, protocol, source, control, channel, sequence, payload=b""):
+def frame(destination: int, protocol: int, source: int, control: int, channel: int, sequence: int,
+          payload: bytes = b"") -> bytes:
     """A frame with a fitting length and check byte, whatever its fields are."""
     body = bytes((destination, protocol, source, control)) + two(len(payload)) + bytes((channel, sequence)) + payload
     return body + bytes((check(body),))
 
 
-def is_sound(data):
+def is_sound(data: bytes) -> bool:
     """Refusal 10's three tests."""
     return len(data) >= OVERHEAD and int.from_bytes(data[4:6], "big") + OVERHEAD == len(data) and check(data) == 0
 
 
-def is_lawful(control, length, sequence):
+def is_lawful(control: int, length: int, sequence: int) -> bool:
     """Refusal 12's tests: type, user bits, payload length, Reset sequence."""
     if control in (DATA, URGENT):
         return 1 <= length <= MOST_PAYLOAD
@@ -80,7 +86,7 @@ def is_lawful(control, length, sequence):
     return control == RESET and length == 0 and sequence == 0
 
 
-def block(payloads):
+def block(payloads: Sequence[bytes]) -> bytes:
     """The host's block: count, offsets, payloads."""
     at = 2 + 4 * (len(payloads) + 1)
     out = two(len(payloads)) + at.to_bytes(4, "big")
@@ -90,7 +96,7 @@ def block(payloads):
     return out + b"".join(payloads)
 
 
-def payloads_of(data):
+def payloads_of(data: bytes) -> list[bytes]:
     """What a block holds: the other way round."""
     count = int.from_bytes(data[:2], "big")
     at = [int.from_bytes(data[2 + 4 * k:6 + 4 * k], "big") for k in range(count + 1)]
@@ -99,26 +105,35 @@ def payloads_of(data):
 
 # 2. THE CHANNEL TABLE (01, "The channel table")
 
-Entry = collections.namedtuple("Entry", "kind remote channel retries window largest timeout")
+
+class Entry(NamedTuple):
+    kind: int
+    remote: int
+    channel: int
+    retries: int
+    window: int
+    largest: int
+    timeout: int
 
 
-def table(own, protocol, entries):
+def table(own: int, protocol: int, entries: Sequence[Entry]) -> bytes:
     """A table's bytes; an entry's window is written as it stands, 0 for the default."""
     out = two(len(entries)) + two(8) + bytes((own, protocol, 0, 0))
     for e in entries:
-        out += bytes((e.kind, e.remote, e.channel, e.retries)) + two(e.window) + two(e.largest) + two(e.timeout) + bytes(2)
+        out += bytes((e.kind, e.remote, e.channel, e.retries))
+        out += two(e.window) + two(e.largest) + two(e.timeout) + bytes(2)
     return out
 
 
-def is_address(byte):
+def is_address(byte: int) -> bool:
     return 32 <= byte <= 254
 
 
-def is_window(size):
+def is_window(size: int) -> bool:
     return size.bit_count() <= 1 and size <= 128
 
 
-def _read_entry(data):
+def _read_entry(data: bytes) -> Entry:
     words = [int.from_bytes(data[k:k + 2], "big") for k in (4, 6, 8, 10)]
     e = Entry(data[0], data[1], data[2], data[3], *words[:3])
     refuse_if(e.kind > 1 or not is_address(e.remote) or words[3] != 0, 1)
@@ -127,11 +142,11 @@ def _read_entry(data):
     return e._replace(window=e.window or DEFAULT_WINDOW)
 
 
-def store_of(e):
+def store_of(e: Entry) -> int:
     return (e.window + 1 if e.kind == SENDS else e.window) * e.largest
 
 
-def read_table(data):
+def read_table(data: bytes) -> tuple[int, int, list[Entry]]:
     """Own address, protocol ID and entries with the windows in force, or refusal 1."""
     refuse_if(len(data) < 8, 1)
     count = int.from_bytes(data[:2], "big")
@@ -149,7 +164,7 @@ def read_table(data):
 class Number:
     """A sequence number that a sender has taken for a payload."""
 
-    def __init__(self, sequence, payload):
+    def __init__(self, sequence: int, payload: bytes) -> None:
         self.sequence, self.payload = sequence, payload
         self.handed_out = self.acknowledged = False
         self.timer = self.retries = 0
@@ -158,40 +173,47 @@ class Number:
 class End:
     """What both kinds share: the entry, the state, where the window starts."""
 
-    def __init__(self, entry):
+    name: str
+    start: int
+
+    def __init__(self, entry: Entry) -> None:
         self.entry, self.state = entry, CLOSED
         self.clear()
 
-    def distance(self, sequence):
+    def clear(self) -> None:
+        """Becoming Closed or Enabled."""
+        raise NotImplementedError
+
+    def distance(self, sequence: int) -> int:
         return (sequence - self.start) % 256
 
 
 class Sender(End):
     name = "sender"
 
-    def __init__(self, entry):
+    def __init__(self, entry: Entry) -> None:
         super().__init__(entry)
         self.accepted = self.confirmed = 0
 
-    def clear(self):
-        """Becoming Closed or Enabled; the counts are kept."""
+    def clear(self) -> None:
+        """The counts are kept."""
         self.start = 1
-        self.taken = []  # a Number each, from the start on
+        self.taken: list[Number] = []  # from the start on
         self.reset_timer = 0
         self.reset_went_out = False
 
-    def running(self, but=None):
+    def running(self, but: Number | None = None) -> bool:
         return any(number.timer for number in self.taken if number is not but)
 
 
 class Receiver(End):
     name = "receiver"
 
-    def clear(self):
+    def clear(self) -> None:
         self.start = 1
-        self.held = {}  # sequence number: payload
+        self.held: dict[int, bytes] = {}  # by sequence number
 
-    def take_run(self):
+    def take_run(self) -> list[bytes]:
         """The held payloads from the start on without a gap; the start passes them."""
         run = []
         while self.start in self.held:
@@ -200,8 +222,22 @@ class Receiver(End):
         return run
 
 
+AnyEnd = Sender | Receiver
+
+
 class Astray(Exception):
     """Other timers have ended than were due."""
+
+
+Seen = collections.Counter[Any]  # by a word for what happened, or by the kind of a call and its refusal
+TimerOf = tuple[int, Number | None]  # an entry's index, and the number that it runs for or None for the Reset's
+
+
+class Running(NamedTuple):
+    """A timer that runs."""
+    due: int
+    place: int  # how many had started before it
+    timeout: int
 
 
 class Timers:
@@ -209,19 +245,17 @@ class Timers:
 
     Each is kept as the tick at which it is due, so that taking timers down by one is held against counting ticks."""
 
-    Running = collections.namedtuple("Running", "due place timeout")  # `place`: how many had started before it
-
-    def __init__(self, seen):
+    def __init__(self, seen: Seen) -> None:
         self.seen, self.now, self.started = seen, 0, 0
-        self.running = {}  # by entry index and Number, or None for the Reset's
-        self.missed = set()  # the ticks at which timers that were stopped would have been due
+        self.running: dict[TimerOf, Running] = {}
+        self.missed: set[int] = set()  # the ticks at which timers that were stopped would have been due
 
-    def start(self, index, number, timeout):
-        self.running[index, number] = self.Running(self.now + timeout, self.started, timeout)
+    def start(self, index: int, number: Number | None, timeout: int) -> None:
+        self.running[index, number] = Running(self.now + timeout, self.started, timeout)
         self.started += 1
         self.seen["a timer of T 65,535 starts"] += timeout == 65535
 
-    def stop(self, index, number):
+    def stop(self, index: int, number: Number | None) -> None:
         """An acknowledgement stops it, if it runs."""
         timer = self.running.pop((index, number), None)
         if timer is None:
@@ -230,23 +264,26 @@ class Timers:
         first = bool(self.running) and timer.due < min(other.due for other in self.running.values())
         self.seen["acknowledgement stops the first timer due of several"] += first
 
-    def forget(self, index):
+    def forget(self, index: int) -> None:
         """Those of an entry are gone."""
         for key in [key for key in self.running if key[0] == index]:
             self.missed.add(self.running.pop(key).due)
 
-    def tick(self, ended, enabled):
+    def tick(self, ended: list[TimerOf], enabled: int) -> None:
         """A tick in which these timers have ended, in this order, and so many entries became Enabled."""
         self.now += 1
-        due = {key: self.running.pop(key) for key in [key for key, timer in self.running.items() if timer.due == self.now]}
+        due = {key: timer for key, timer in self.running.items() if timer.due == self.now}
+        for key in due:
+            del self.running[key]
         if set(ended) != set(due):
             raise Astray("tick %d" % self.now)
         self.count_ended([(index, due[index, number]) for index, number in ended])
         if not ended:
-            self.seen["a stopped timer's tick ends none of those that run"] += self.now in self.missed and bool(self.running)
-            self.seen["recovery in a tick at which no timer was due, stopped or not"] += enabled * (self.now not in self.missed)
+            missed = self.now in self.missed
+            self.seen["a stopped timer's tick ends none of those that run"] += missed and bool(self.running)
+            self.seen["recovery in a tick at which no timer was due, stopped or not"] += enabled * (not missed)
 
-    def count_ended(self, timers):
+    def count_ended(self, timers: list[tuple[int, Running]]) -> None:
         """Of (entry index, timer)."""
         entries = [index for index, _ in timers]
         self.seen["several timers of an entry end in one tick"] += len(entries) > len(set(entries))
@@ -255,47 +292,54 @@ class Timers:
             a[0] == b[0] and a[1].place > b[1].place for a, b in zip(timers, timers[1:]))
         for _, timer in timers:
             self.seen["a timer of T 1 ends"] += timer.timeout == 1
-            self.seen["a timer ends before one that started earlier"] += any(timer.place > other.place for other in self.running.values())
+            overtakes = any(timer.place > other.place for other in self.running.values())
+            self.seen["a timer ends before one that started earlier"] += overtakes
 
 
 # 4. THE NODE
 
 
-class Node:
-    """A node with its calls, each of which gives a list of numbers or raises Refused. `seen` counts what happened, for coverage."""
+# what is needed to write a frame that waits: by its sort a sequence number, nothing, a payload, a Number
+What = Any
 
-    def __init__(self):
+
+class Node:
+    """A node with its calls, each of which gives a list of numbers or raises Refused.
+
+    `seen` counts what happened, for coverage."""
+
+    def __init__(self) -> None:
         self.own = self.protocol = 0
-        self.ends = []
-        self.waiting = [[] for _ in SORTS]  # of (entry index, what is needed to write the frame)
-        self.seen = collections.Counter()
+        self.ends: list[AnyEnd] = []
+        self.waiting: list[list[tuple[int, What]]] = [[] for _ in SORTS]  # of (entry index, ...)
+        self.seen: Seen = collections.Counter()
         self.timers = Timers(self.seen)
 
     # what waits
 
-    def wait(self, sort, index, what=None):
+    def wait(self, sort: int, index: int, what: What = None) -> None:
         self.waiting[sort].append((index, what))
 
-    def drop(self, index, *sorts):
+    def drop(self, index: int, *sorts: int) -> None:
         for sort in sorts:
             self.waiting[sort] = [item for item in self.waiting[sort] if item[0] != index]
 
-    def waits(self, sort, index):
+    def waits(self, sort: int, index: int) -> bool:
         return any(item[0] == index for item in self.waiting[sort])
 
     # changes of state
 
-    def turn(self, end, state):
+    def turn(self, end: AnyEnd, state: str) -> None:
         self.seen["%s %s to %s" % (end.name, end.state, state)] += 1
         end.state = state
 
-    def enable(self, index, end):
+    def enable(self, index: int, end: AnyEnd) -> None:
         self.turn(end, ENABLED)
         end.clear()
         if isinstance(end, Sender):
             self.wait(RESETS, index)
 
-    def fail(self, index, end):
+    def fail(self, index: int, end: Sender) -> None:
         for sort, name in ((URGENTS, "an Urgent"), (FIRST, "data"), (AGAIN, "a retransmission")):
             self.seen["failing drops " + name] += self.waits(sort, index)
         self.turn(end, FAILING)
@@ -303,13 +347,17 @@ class Node:
 
     # the host's calls
 
-    def end(self, index, kind=None):
+    def end(self, index: int) -> AnyEnd:
         refuse_if(index >= len(self.ends), 2)
-        end = self.ends[index]
-        refuse_if(kind is not None and not isinstance(end, kind), 3)
+        return self.ends[index]
+
+    def sender(self, index: int) -> Sender:
+        end = self.end(index)
+        if not isinstance(end, Sender):
+            raise Refused(3)
         return end
 
-    def setup(self, data):
+    def setup(self, data: bytes) -> list[int]:
         self.own, self.protocol, entries = read_table(data)
         self.ends = [Sender(e) if e.kind == SENDS else Receiver(e) for e in entries]
         self.waiting = [[] for _ in SORTS]
@@ -317,13 +365,13 @@ class Node:
         self.timers = Timers(self.seen)
         return []
 
-    def open(self, index):
+    def open(self, index: int) -> list[int]:
         end = self.end(index)
         refuse_if(end.state != CLOSED, 4)
         self.enable(index, end)
         return []
 
-    def close(self, index):
+    def close(self, index: int) -> list[int]:
         end = self.end(index)
         refuse_if(end.state == CLOSED, 4)
         self.turn(end, CLOSED)
@@ -332,12 +380,12 @@ class Node:
         self.timers.forget(index)
         return []
 
-    def counts(self, index):
-        end = self.end(index, Sender)
+    def counts(self, index: int) -> list[int]:
+        end = self.sender(index)
         return [end.accepted, end.confirmed]
 
-    def send(self, index, payload):
-        end = self.end(index, Sender)
+    def send(self, index: int, payload: bytes) -> list[int]:
+        end = self.sender(index)
         refuse_if(end.state != OPEN, 4)
         refuse_if(not 1 <= len(payload) <= end.entry.largest, 5)
         refuse_if(end.accepted == MOST_ACCEPTED, 8)
@@ -348,8 +396,8 @@ class Node:
         self.wait(FIRST, index, number)
         return []
 
-    def urgent(self, index, payload):
-        end = self.end(index, Sender)
+    def urgent(self, index: int, payload: bytes) -> list[int]:
+        end = self.sender(index)
         refuse_if(end.state != OPEN, 4)
         refuse_if(not 1 <= len(payload) <= end.entry.largest, 5)
         refuse_if(self.waits(URGENTS, index), 9)
@@ -358,13 +406,13 @@ class Node:
 
     # arrival
 
-    def find(self, kind, source, channel):
+    def find(self, kind: type[End], source: int, channel: int) -> int:
         for index, end in enumerate(self.ends):
             if isinstance(end, kind) and (end.entry.remote, end.entry.channel) == (source, channel):
                 return index
         raise Refused(13)
 
-    def admit(self, data):
+    def admit(self, data: bytes) -> int:
         """The index of the entry that takes the frame in, or the refusal; alters nothing."""
         refuse_if(not is_sound(data), 10)
         destination, protocol, source, control, _, _, channel, sequence = data[:8]
@@ -378,7 +426,7 @@ class Node:
         refuse_if(control in (DATA, RESET) and len(self.waiting[ACKS]) == MOST_ACKS, 14)
         return index
 
-    def refusal_of(self, data):
+    def refusal_of(self, data: bytes) -> int:
         """The number with which an arriving frame would be refused, or 0."""
         try:
             self.admit(data)
@@ -386,10 +434,10 @@ class Node:
             return refused.number
         return 0
 
-    def arrival(self, data):
+    def arrival(self, data: bytes) -> list[int]:
         index = self.admit(data)
         end, control, sequence, payload = self.ends[index], data[3], data[7], data[8:-1]
-        if control == ACKNOWLEDGE:
+        if isinstance(end, Sender):  # of an acknowledgement alone
             return self.acknowledged(index, end, sequence)
         if control == RESET:
             return self.take_reset(index, end)
@@ -398,11 +446,11 @@ class Node:
             return [TOOK_URGENT] + self.block_fields([payload])
         return self.take_data(index, end, sequence, payload)
 
-    def block_fields(self, payloads):
+    def block_fields(self, payloads: list[bytes]) -> list[int]:
         data = block(payloads)
         return [len(data)] + list(data)
 
-    def acknowledged(self, index, end, sequence):
+    def acknowledged(self, index: int, end: Sender, sequence: int) -> list[int]:
         if end.state == ENABLED:
             return self.opened(index, end, sequence)
         distance = end.distance(sequence)
@@ -427,11 +475,11 @@ class Node:
         self.seen["acknowledgement at %s passes %s" % (end.state, passed if passed < 2 else "more")] += 1
         return [ACKNOWLEDGED, passed]
 
-    def ignored(self, end, why):
+    def ignored(self, end: Sender, why: str) -> list[int]:
         self.seen["acknowledgement at %s ignored, %s" % (end.state, why)] += 1
         return [IGNORED]
 
-    def opened(self, index, end, sequence):
+    def opened(self, index: int, end: Sender, sequence: int) -> list[int]:
         if sequence != 0 or not end.reset_went_out:
             return self.ignored(end, "not 0" if sequence else "no Reset out")
         self.seen["acknowledgement 0 removes a waiting Reset"] += self.waits(RESETS, index)
@@ -442,7 +490,7 @@ class Node:
         self.timers.stop(index, None)
         return [OPENED]
 
-    def take_reset(self, index, end):
+    def take_reset(self, index: int, end: Receiver) -> list[int]:
         held = len(end.held)
         self.seen["Reset drops waiting acknowledgements"] += self.waits(ACKS, index)
         self.seen["Reset drops held payloads"] += held > 0
@@ -452,8 +500,8 @@ class Node:
         self.wait(ACKS, index, 0)
         return [TOOK_RESET, held]
 
-    def take_data(self, index, end, sequence, payload):
-        given = []
+    def take_data(self, index: int, end: Receiver, sequence: int, payload: bytes) -> list[int]:
+        given: list[bytes] = []
         if end.distance(sequence) >= end.entry.window:
             self.seen["Data outside the window"] += 1
         elif sequence in end.held:
@@ -469,20 +517,21 @@ class Node:
 
     # handing out
 
-    def hand_out(self):
+    def hand_out(self) -> list[int]:
         for sort in SORTS:
             if self.waiting[sort]:
                 data = self.write(sort, *self.waiting[sort].pop(0))
                 return [len(data)] + list(data)
         return [0]
 
-    def write(self, sort, index, what):
+    def write(self, sort: int, index: int, what: What) -> bytes:
         """The frame of something that waited; a Reset's and a number's timer start."""
         end = self.ends[index]
         control, sequence, payload = DATA, 0, b""
         if sort == ACKS:
             control, sequence = ACKNOWLEDGE, what
         elif sort == RESETS:
+            assert isinstance(end, Sender)
             control = RESET
             end.reset_timer, end.reset_went_out = end.entry.timeout, True
             self.timers.start(index, None, end.entry.timeout)
@@ -497,10 +546,11 @@ class Node:
 
     # ticks
 
-    def tick(self):
+    def tick(self) -> list[int]:
         senders = [(index, end) for index, end in enumerate(self.ends) if isinstance(end, Sender)]
         failing = {index for index, end in senders if end.state == FAILING}
-        ended, enabled = [], []  # timers as (entry index, Number or None for the Reset's); entries
+        ended: list[TimerOf] = []
+        enabled: list[int] = []  # entries
         for index, end in senders:
             if end.state == ENABLED:
                 ended += self.tick_reset(index, end)
@@ -516,7 +566,7 @@ class Node:
         self.timers.tick(ended, len(enabled))
         return [sum(1 << index for index in enabled)]
 
-    def tick_reset(self, index, end):
+    def tick_reset(self, index: int, end: Sender) -> list[TimerOf]:
         """The Reset's timer, if it ends."""
         if not end.reset_timer:
             return []
@@ -527,7 +577,7 @@ class Node:
         self.wait(RESETS, index)
         return [(index, None)]
 
-    def tick_number(self, index, end, number):
+    def tick_number(self, index: int, end: Sender, number: Number) -> list[TimerOf]:
         """A number's timer, if it ends."""
         if not number.timer:
             return []
@@ -535,7 +585,8 @@ class Node:
         if number.timer:
             return []
         self.seen["data's timer ends at " + end.state] += 1
-        self.seen["data's timer ends, an earlier number's runs on"] += any(n.timer for n in end.taken[:end.taken.index(number)])
+        earlier = end.taken[:end.taken.index(number)]
+        self.seen["data's timer ends, an earlier number's runs on"] += any(n.timer for n in earlier)
         if end.state == FAILING:
             pass
         elif number.retries < end.entry.retries:
@@ -548,9 +599,13 @@ class Node:
 
 # 5. THE DESK
 
-Answer = collections.namedtuple("Answer", "refusal fields")
 
-CALLS = {
+class Answer(NamedTuple):
+    refusal: int
+    fields: list[int]
+
+
+CALLS: dict[int, Callable[[Node, int, bytes], list[int]]] = {
     TABLE_CALL: lambda node, index, data: node.setup(data),
     OPEN_CALL: lambda node, index, data: node.open(index),
     CLOSE_CALL: lambda node, index, data: node.close(index),
@@ -567,7 +622,7 @@ CALL_NAMES = {
 }
 
 
-def call(node, kind, index, data):
+def call(node: Node, kind: int, index: int, data: bytes) -> Answer:
     """One call and its answer; counted by kind and refusal."""
     try:
         answer = Answer(0, CALLS[kind](node, index, data))
@@ -577,11 +632,11 @@ def call(node, kind, index, data):
     return answer
 
 
-def line(number, kind, answer):
+def line(number: int, kind: int, answer: Answer) -> str:
     return " ".join(map(str, [number, kind, answer.refusal] + answer.fields)) + "\n"
 
 
-def records(stream):
+def records(stream: bytes) -> Iterator[tuple[int, int, bytes, int]]:
     """The whole records of a stream as (kind, index, data, where it ends)."""
     at = 0
     while at + 4 <= len(stream):
@@ -592,11 +647,12 @@ def records(stream):
         at = end
 
 
-def desk(stream):
+def desk(stream: bytes) -> str:
     """What the desk writes on a stream."""
     if len(stream) > MOST_STREAM:
         return "too long\n"
-    node, out, number, end = Node(), [], 0, 0
+    out: list[str] = []
+    node, number, end = Node(), 0, 0
     for number, (kind, index, data, end) in enumerate(records(stream), 1):
         if kind not in CALLS:
             return "".join(out) + "unknown %d\n" % number

@@ -1,0 +1,90 @@
+"""Three ways to wind it too far: windows past 255, lost acknowledgements, a host that does nothing."""
+from comparison.corners.corner import Corner, corner, rx, tx
+from comparison.model import ACKNOWLEDGE
+
+
+@corner
+def window_past_255(t: Corner) -> None:
+    """Start 250, W 16: 9 is in, 10 and 249 are out."""
+    t.given(rx(window=0, largest=3))
+    t.up(0)
+    t.deliver(0, 1, 249)
+    for sequence in (10, 249, 9):
+        t.data(0, sequence, b"%d" % sequence)
+    t.reset(0, held=1)
+
+
+@corner
+def senders_window_past_255(t: Corner) -> None:
+    t.given(tx(window=16, largest=3))
+    t.up(0)
+    t.confirm(0, 1, 249)
+    t.send_out(0, *[n % 256 for n in range(250, 266)])
+    t.no(7, t.send, 0, b"266")
+    t.ignores(0, 10)
+    t.ignores(0, 249)
+    t.passes(0, 9, 0)
+    for n in range(264, 249, -1):
+        t.passes(0, n % 256, 16 if n == 250 else 0)
+    t.ok(t.counts, 0, gives=[265, 265])
+
+
+@corner
+def window_of_one(t: Corner) -> None:
+    t.given(rx(window=1, largest=3))
+    t.up(0)
+    for start in (1, 2, 3):
+        for sequence in (start - 1, start + 1, start + 128):
+            t.data(0, sequence, b"x")
+            t.out(0, ACKNOWLEDGE, sequence)
+        t.deliver(0, start, start)
+    t.reset(0, held=0)
+
+
+@corner
+def window_of_128(t: Corner) -> None:
+    """Start 200: 71 is in, 72 is out."""
+    t.given(rx(window=128, largest=3))
+    t.up(0)
+    t.deliver(0, 1, 199)
+    for sequence in (71, 72, 199):
+        t.data(0, sequence, b"%d" % sequence)
+        t.out(0, ACKNOWLEDGE, sequence)
+    t.reset(0, held=1)
+
+
+@corner
+def window_of_128_filled_over_the_fold(t: Corner) -> None:
+    t.given(rx(window=128, largest=3), tx(window=128, largest=3))
+    t.up(0)
+    t.deliver(0, 1, 199)
+    rest = [n % 256 for n in range(200, 328)]
+    for sequence in rest[:0:-1]:
+        t.data(0, sequence, b"%d" % sequence)
+        t.out(0, ACKNOWLEDGE, sequence)
+    t.data(0, 72, b"far")
+    t.out(0, ACKNOWLEDGE, 72)
+    t.data(0, 200, b"200", *[b"%d" % sequence for sequence in rest])
+    t.reset(0, held=0)
+
+
+@corner
+def lost_acknowledgements_are_repaired(t: Corner) -> None:
+    """Data outside the window is acknowledged, so a sender whose acknowledgement was lost does not fail."""
+    t.given(rx(window=2))
+    t.up(0)
+    t.deliver(0, 1, 5)
+    for _ in range(3):
+        t.data(0, 5, b"5")
+        t.out(0, ACKNOWLEDGE, 5)
+
+
+@corner
+def start_does_not_wait_for_its_host(t: Corner) -> None:
+    """The host does nothing; what is acknowledged was delivered or is held."""
+    t.given(rx(window=4))
+    t.up(0)
+    for n in range(1, 13):
+        t.data(0, n, b"%d" % n, b"%d" % n)
+    for n in range(1, 13):
+        t.out(0, ACKNOWLEDGE, n)

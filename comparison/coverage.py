@@ -1,0 +1,126 @@
+"""What the traces are to reach, and what they reached: refusals, changes of state, events, premises of demand 3."""
+from __future__ import annotations
+
+import collections
+from collections.abc import Iterator
+
+from comparison import history, model
+from comparison.trace import Trace
+from comparison.two_nodes import Pair
+
+REFUSALS = {
+    "table": (0, 1), "open": (0, 2, 4), "close": (0, 2, 4), "counts": (0, 2, 3), "send": (0, 2, 3, 4, 5, 7),
+    "urgent": (0, 2, 3, 4, 5, 9), "arrival": (0, 10, 11, 12, 13, 5, 14), "tick": (0,), "hand out": (0,),
+}
+TRANSITIONS = ["sender " + way for way in (
+    "Closed to Enabled", "Enabled to Open", "Open to Failing", "Failing to Enabled",
+    "Enabled to Closed", "Open to Closed", "Failing to Closed")]
+TRANSITIONS += ["receiver " + way for way in (
+    "Closed to Enabled", "Enabled to Open", "Open to Open", "Enabled to Closed", "Open to Closed")]
+EVENTS = ["handed out: " + what for what in ("acknowledgement", "Reset", "Urgent", "retransmission", "data")]
+EVENTS += ["Data delivers 0", "Data delivers 1", "Data delivers more", "Data held already", "Data outside the window"]
+EVENTS += ["Urgent delivered"]
+EVENTS += ["Reset drops held payloads", "Reset drops waiting acknowledgements"]
+EVENTS += ["receiver's start folds", "sender's start folds"]
+EVENTS += ["acknowledgement at %s passes %s" % (state, count)
+           for state in (model.OPEN, model.FAILING) for count in (0, 1, "more")]
+EVENTS += ["acknowledgement at %s ignored, %s" % (state, why)
+           for state in (model.OPEN, model.FAILING) for why in ("outside", "again", "not handed out")]
+EVENTS += ["acknowledgement at Enabled ignored, not 0", "acknowledgement at Enabled ignored, no Reset out"]
+EVENTS += ["acknowledgement 0 removes a waiting Reset", "acknowledgement stops a waiting retransmission"]
+EVENTS += ["Reset's timer ends", "data's timer ends at Open", "data's timer ends at Failing"]
+EVENTS += ["failing drops an Urgent", "failing drops data", "failing drops a retransmission"]
+EVENTS += ["a timer of T 1 ends", "a timer of T 65,535 starts", "a timer ends before one that started earlier"]
+EVENTS += ["data's timer ends, an earlier number's runs on"]
+EVENTS += ["timers end in one tick in another order than they started"]
+EVENTS += ["several timers of an entry end in one tick", "timers of several entries end in one tick"]
+EVENTS += ["acknowledgement stops the first timer due of several", "a stopped timer's tick ends none of those that run"]
+EVENTS += ["acknowledgement at Failing stops the last timer"]
+EVENTS += ["recovery in a tick at which no timer was due, stopped or not"]
+EVENTS += ["failing and recovery in one tick, M 0, one timer", "setup while timers run"]
+
+
+class Totals:
+    """What was compared so far."""
+
+    def __init__(self) -> None:
+        self.traces = self.records = self.bytes = self.frames = 0
+        self.seen: model.Seen = collections.Counter()
+        self.pairs = self.wild = 0
+        self.channels: collections.Counter[str] = collections.Counter()
+        self.withheld: collections.Counter[str] = collections.Counter()  # by premise
+        self.breaks: collections.Counter[str] = collections.Counter()
+        self.notes: list[str] = []
+
+    def add_trace(self, trace: Trace) -> None:
+        seen = trace.node.seen
+        self.traces += 1
+        self.records += trace.text().count("\n")
+        self.bytes += len(trace.stream)
+        self.frames += sum(n for key, n in seen.items()
+                           if str(key).startswith("handed out") or key[0] == model.ARRIVAL_CALL)
+        self.seen += seen
+        self.notes += ["%s: %s" % (trace.name, trace.note)] if trace.note else []
+
+    def add_pair(self, pair: Pair) -> None:
+        self.pairs += 1
+        self.wild += pair.wild
+        for channel in pair.channels:
+            self.channels["channels"] += 1
+            self.channels["runs"] += channel.run
+            self.channels["checks"] += channel.checks
+            self.channels["counts told"] += channel.told
+            self.channels["folds"] += channel.folds + len(channel.delivered) // 256
+            self.channels["failed"] += channel.failed_after
+        self.withheld += pair.withheld
+        self.breaks += pair.breaks
+
+    def missing(self) -> list[str]:
+        """What was to be reached and was not."""
+        codes = {name: code for code, name in model.CALL_NAMES.items()}
+        out = ["%s refused with %d" % (name, n)
+               for name, numbers in REFUSALS.items() for n in numbers if not self.seen[(codes[name], n)]]
+        out += [name for name in TRANSITIONS + EVENTS if not self.seen[name]]
+        return out
+
+    def unlisted(self) -> list[str]:
+        """What happened and stands in no list above: the lists would then be wrong."""
+        refusals = {(code, n) for code, name in model.CALL_NAMES.items() for n in REFUSALS[name]}
+        return [str(key) for key in self.seen if key not in refusals | set(TRANSITIONS + EVENTS)]
+
+    # the table
+
+    def refusal_rows(self) -> Iterator[str]:
+        numbers = list(range(15))
+        yield "refusal   " + "".join("%8d" % n for n in numbers)
+        for code, name in model.CALL_NAMES.items():
+            counts = [self.seen[(code, n)] if n in REFUSALS[name] else "." for n in numbers]
+            yield "%-10s" % name + "".join("%8s" % count for count in counts)
+
+    def show(self, gaps: bool) -> None:
+        """The coverage table; `gaps` where all kinds were run, so that nothing should be missing."""
+        print("%d traces, %d records, %d bytes, %d frames" % (self.traces, self.records, self.bytes, self.frames))
+        print("\nCalls by refusal number (0: done). The desk cannot be brought to 6, since its buffers are always long"
+              " enough, nor to 8.")
+        for row in self.refusal_rows():
+            print(row)
+        for title, names in (("State transitions", TRANSITIONS), ("Events", EVENTS)):
+            print("\n" + title)
+            for name in names:
+                print("%10d  %s" % (self.seen[name], name))
+        if self.pairs:
+            self.show_promise()
+        print("\n".join([""] + self.notes))
+        for name in self.missing() if gaps else ():
+            print("NOT REACHED: " + name)
+
+    def show_promise(self) -> None:
+        print("\nDemand 3: %d pairs, of which %d take in what breaks a premise; %d channels, %d runs,"
+              " %d folds of a receiver's numbers;"
+              % (self.pairs, self.wild, self.channels["channels"], self.channels["runs"], self.channels["folds"]))
+        print("checked %d times with all premises holding, %d counts told among them;"
+              " %d runs with a broken premise in which it then failed"
+              % (self.channels["checks"], self.channels["counts told"], self.channels["failed"]))
+        print("  withheld    broken  premise")
+        for name in history.PREMISES:
+            print("%10d%10d  %s" % (self.withheld[name], self.breaks[name], name))

@@ -1,0 +1,210 @@
+"""Traces by seed at one node, under calls sensible and not."""
+from __future__ import annotations
+
+import random
+from collections.abc import Callable
+
+from comparison import model
+from comparison.model import ACKNOWLEDGE, DATA, ENABLED, FAILING, OPEN, RESET, URGENT, Answer, AnyEnd, Sender
+from comparison.tables import broken_tables, random_table
+from comparison.trace import Full, Trace, from_remote
+
+
+class Player:
+    """A host and a wire without manners, at one node."""
+
+    def __init__(self, rng: random.Random, trace: Trace) -> None:
+        self.rng, self.trace = rng, trace
+        self.frames = [b"\0" * 9]  # seen on the wire in either direction
+        self.focus = 0
+
+    def index(self) -> int:
+        """Mostly the entry in focus, so that something comes of it; sometimes any, sometimes none."""
+        ends, roll = self.trace.node.ends, self.rng.random()
+        if not ends or roll < 0.01:
+            return self.rng.choice((len(ends), 16, 17, 128, 255))
+        if roll < 0.35:
+            return self.rng.randrange(len(ends))
+        return self.focus % len(ends)
+
+    def end(self) -> AnyEnd | None:
+        """An end point, None on a node without any; often one at Failing, since that is soon over."""
+        index, ends = self.index(), self.trace.node.ends
+        failing = [end for end in ends if end.state == FAILING]
+        if failing and self.rng.random() < 0.4:
+            return self.rng.choice(failing)
+        return ends[index] if index < len(ends) else None
+
+    def payload(self, largest: int) -> bytes:
+        rng, room = self.rng, max(1, min(self.trace.room() - model.OVERHEAD, 65535))
+        if largest > 1000 and rng.random() < 0.9:
+            # long payloads fill the stream, so they are few
+            return rng.randbytes(rng.randint(1, 12))
+        size = rng.choice((1, largest, rng.randint(1, largest), min(largest, 8), min(largest, 8)))
+        if rng.random() < 0.03:
+            size = rng.choice((0, largest + 1))
+        return rng.randbytes(min(size, room))
+
+    # frames
+
+    def sequence_near(self, end: AnyEnd) -> int:
+        """A sequence number worth trying: in the window, at its edges, just behind, anywhere."""
+        rng, window = self.rng, end.entry.window
+        if isinstance(end, Sender) and end.taken and rng.random() < 0.7:
+            return rng.choice(end.taken).sequence
+        step = rng.choice((0, 0, 0, 0, rng.randrange(window), rng.randrange(window), window - 1, window,
+                           -1, -rng.randint(1, window), 128))
+        return rng.randrange(256) if rng.random() < 0.02 else (end.start + step) % 256
+
+    def fitting(self, end: AnyEnd) -> bytes:
+        """A frame that the end's remote could well have written."""
+        rng, node = self.rng, self.trace.node
+        if isinstance(end, Sender):
+            sequence = 0 if end.state == ENABLED and rng.random() < 0.7 else self.sequence_near(end)
+            return from_remote(node, end, ACKNOWLEDGE, sequence)
+        roll = rng.random()
+        if roll < (0.6 if end.state == ENABLED else 0.03):
+            return from_remote(node, end, RESET, 0)
+        if roll > 0.93:
+            return from_remote(node, end, URGENT, rng.choice((0, rng.randrange(256))), self.payload(end.entry.largest))
+        return from_remote(node, end, DATA, self.sequence_near(end), self.payload(end.entry.largest))
+
+    def odd(self, end: AnyEnd) -> bytes:
+        """A sound frame with something wrong, or for somebody else, or from the wrong end."""
+        rng, node = self.rng, self.trace.node
+        fields = dict(destination=node.own, protocol=node.protocol, source=end.entry.remote, control=rng.randrange(4),
+                      channel=end.entry.channel, sequence=rng.choice((0, 0, self.sequence_near(end))))
+        payload = self.payload(end.entry.largest) if rng.random() < 0.5 else b""
+        for _ in range(rng.choice((0, 1, 1, 2))):
+            name = rng.choice(("destination", "protocol", "source", "control", "channel"))
+            fields[name] = rng.choice((0, 1, 255, fields[name] ^ 1 << rng.randrange(8), rng.randrange(256)))
+        return model.frame(**fields, payload=payload)
+
+    def damaged(self, frame: bytes) -> bytes:
+        rng = self.rng
+        how = rng.randrange(5)
+        if how == 0:
+            return frame[:rng.randrange(len(frame) + 1)]
+        if how == 1:
+            return frame + rng.randbytes(rng.randint(1, 3))
+        if how == 2:
+            return rng.randbytes(rng.randrange(24))
+        out = bytearray(frame)
+        for _ in range(how - 2 + (rng.random() < 0.2)):
+            if out:
+                out[rng.randrange(len(out))] ^= 1 << rng.randrange(8)
+        return bytes(out)
+
+    def frame(self) -> bytes:
+        end, roll = self.end(), self.rng.random()
+        if end is None or roll < 0.06:
+            return self.rng.choice(self.frames)
+        if roll < 0.12:
+            return self.odd(end)
+        return self.damaged(self.fitting(end)) if roll < 0.2 else self.fitting(end)
+
+    # moves
+
+    def arrive(self) -> None:
+        frame = self.frame()
+        if len(frame) <= self.trace.room():
+            self.frames = self.frames[-40:] + [frame]
+            self.trace.arrival(frame)
+
+    def hand_out(self) -> None:
+        answer = self.trace.hand_out()
+        if answer.fields[0]:
+            self.frames = self.frames[-40:] + [bytes(answer.fields[1:])]
+
+    def sender(self) -> int:
+        """An entry's index, mostly that of a sender that is up."""
+        ends = self.trace.node.ends
+        good = [k for k, end in enumerate(ends) if isinstance(end, Sender) and end.state == OPEN]
+        if good and self.rng.random() < 0.9:
+            focus = self.focus % len(ends)
+            return focus if focus in good and self.rng.random() < 0.8 else self.rng.choice(good)
+        return self.index()
+
+    def give(self, call: Callable[[int, bytes], Answer]) -> None:
+        """A send or an Urgent."""
+        index, ends = self.sender(), self.trace.node.ends
+        call(index, self.payload(ends[index].entry.largest if index < len(ends) else 4))
+
+    def open_some(self) -> None:
+        for index in range(len(self.trace.node.ends)):
+            if self.rng.random() < 0.8:
+                self.trace.open(index)
+
+    def new_table(self) -> None:
+        rng = self.rng
+        own, protocol, entries = random_table(rng)
+        data = model.table(own, protocol, entries)
+        if rng.random() < 0.6 and entries:
+            data = rng.choice(list(broken_tables(data)))[1]
+        self.trace.table(data)
+
+    def move(self) -> None:
+        rng, trace = self.rng, self.trace
+        what = rng.choices(("arrive", "hand out", "send", "urgent", "tick", "wait",
+                            "counts", "open", "close", "focus", "flood", "table"),
+                           (40, 34, 20, 3, 7, 0.6, 2, 2, 0.4, 3, 0.3, 0.15))[0]
+        if what == "arrive":
+            self.arrive()
+        elif what == "hand out":
+            self.hand_out()
+        elif what == "send":
+            self.give(trace.send)
+        elif what == "urgent":
+            self.give(trace.urgent)
+        elif what == "tick":
+            trace.tick()
+        elif what == "wait":
+            for _ in range(rng.choice((2, 5, 10, 40))):
+                trace.tick()
+        elif what == "counts":
+            trace.counts(self.index())
+        elif what == "open":
+            trace.open(self.index())
+        elif what == "close":
+            trace.close(self.index())
+        elif what == "focus":
+            self.focus = rng.randrange(16)
+        elif what == "flood":
+            for _ in range(rng.randint(20, 50)):
+                self.arrive()
+        elif rng.random() < 0.7:
+            self.new_table()
+            self.open_some()
+
+
+def stray_end(rng: random.Random, trace: Trace) -> None:
+    """Now and then a stream ends badly."""
+    roll, number = rng.random(), len(trace.lines) + 1
+    record = bytes((rng.choice((1, 4, 6, 7, 8, 20)), rng.randrange(3), 0, 5)) + rng.randbytes(5)
+    if len(trace.stream) + len(record) > model.MOST_STREAM or roll < 0.8:
+        return
+    if roll < 0.9:
+        trace.end_with(record[:rng.randint(1, 8)], "torn %d\n" % number)
+    else:
+        kind = rng.choice((0, 9, 19, 21, rng.randint(22, 255)))
+        trace.end_with(bytes((kind,)) + record[1:], "unknown %d\n" % number)
+
+
+def one_node(seed: int) -> Trace:
+    """(a): a trace at one node."""
+    rng = random.Random("a %d" % seed)
+    trace = Trace("a%d" % seed)
+    player = Player(rng, trace)
+    if rng.random() < 0.1:
+        for _ in range(10):
+            player.move()  # on a node that nobody set up
+    own, protocol, entries = random_table(rng)
+    trace.setup(own, protocol, entries)
+    player.open_some()
+    try:
+        for _ in range(rng.choice((60, 300, 1500, 3000))):
+            player.move()
+    except Full:
+        pass
+    stray_end(rng, trace)
+    return trace
