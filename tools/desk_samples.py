@@ -293,8 +293,8 @@ HEADER = """# The sample run of desk
 
 `rt ci` runs `desk` on `stdin` and holds what it writes to `stdout`. Both files and this one are written by \
 `tools/desk_samples.py`, with the
-answers of the model in `tools/model.py`; `tests/desk_sample` asks the C peer for the same. Scenes stand one after \
-the other in one stream, each but
+answers of the model in `comparison/model.py`; `tests/desk_sample` asks the C peer for the same. Scenes stand one \
+after the other in one stream, each but
 the first begun by a table. Together they show every kind of call, every refusal number of every call but 6 and 8, \
 and every change of state. A
 desk cannot be brought to 6, since it always lends enough, nor to 8, since 4,294,967,295 payloads fit in no stream.

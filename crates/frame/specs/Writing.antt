@@ -45,4 +45,5 @@ writeAnswer d p b = writtenAs (verdict (writeTests d (length p) (length b))) (le
 
 -- the buffer afterwards: bytes after the frame stay [H4, R44]
 unfoldable pub writtenOf : Fields → List ℕ → List ℕ → List ℕ
-writtenOf d p b = bytesAs (verdict (writeTests d (length p) (length b))) (frameBytes d p ++ drop (length p + overhead) b) b
+writtenOf d p b =
+    bytesAs (verdict (writeTests d (length p) (length b))) (frameBytes d p ++ drop (length p + overhead) b) b
