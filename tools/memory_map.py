@@ -64,6 +64,10 @@ LINE, WIDE, GAP, MARGIN, TOP = 17, 360, 26, 20, 96
 BLUE, GREEN, YELLOW, RED, VIOLET, WHITE = "#e6eef9", "#e3f1e5", "#fff3d6", "#f7e3e3", "#ece6f5", "#ffffff"
 
 
+class BadLayout(Exception):
+    """What the constants say cannot be drawn."""
+
+
 class Part(NamedTuple):
     first: int
     last: int
@@ -76,7 +80,7 @@ def constants() -> dict[str, int]:
     found = {name: int(value) for name, value in CONSTANT.findall(LAYOUT.read_text(encoding="utf-8"))}
     known = set(HEAD) | set(TABLE) | set(STATE) | set(RUN) | set(QUEUES) | PARTS
     if found.keys() != known:
-        sys.exit(f"memory_map: layout.rt and this script differ in {sorted(found.keys() ^ known)}")
+        raise BadLayout(f"layout.rt and tools/memory_map.py differ in {sorted(found.keys() ^ known)}")
     return found
 
 
@@ -96,7 +100,7 @@ def whole(parts: list[Part], length: int) -> list[Part]:
         if part.first > at:
             out.append(Part(at, part.first - 1, "free", [], WHITE))
         if part.first < at or part.last < part.first or part.last >= length:
-            sys.exit(f"memory_map: {part.name} does not lie after what is before it")
+            raise BadLayout(f"layout.rt: {part.name} does not lie after what is before it")
         out.append(part)
         at = part.last + 1
     return out + ([Part(at, length - 1, "free", [], WHITE)] if at < length else [])
@@ -179,7 +183,11 @@ all zeros is a new node</text>
 
 
 def main() -> int:
-    drawn = picture()
+    try:
+        drawn = picture()
+    except BadLayout as bad:
+        print(f"{bad}\n0 passed, 1 failed")
+        return 1
     if "--write" in sys.argv[1:]:
         PICTURE.write_text(drawn, encoding="utf-8")
     good = PICTURE.is_file() and PICTURE.read_text(encoding="utf-8") == drawn
