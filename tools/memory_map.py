@@ -176,8 +176,8 @@ def picture() -> str:
   <style>.title {{ font-size: 17px; font-weight: bold }} .name {{ font-weight: bold }} .free {{ fill: #777 }}
     .small {{ fill: #222 }} .place {{ fill: #7a2e00 }}</style>
   <rect width="{wide}" height="{high}" fill="#ffffff"/>
-  <text x="{MARGIN}" y="34" font-size="20" font-weight="bold">What lies where: {8 * words + 2 * halves:,} bytes a node; \
-all zeros is a new node</text>
+  <text x="{MARGIN}" y="34" font-size="20" font-weight="bold">What lies where: {8 * words + 2 * halves:,} bytes \
+a node; all zeros is a new node</text>
 '''
     return head + "\n".join(line for lines, _ in columns for line in lines) + "\n</svg>\n"
 

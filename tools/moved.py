@@ -37,8 +37,8 @@ def antt(text: str) -> dict[str, str]:
     name = ""
     for line in text.splitlines():
         outer = INNER.sub("", line)
-        signature = SIGNATURE.match(outer) if outer[:1].strip() and not outer.startswith(("--", "use ", "module ")) else None
-        if signature:
+        begins = outer[:1].strip() and not outer.startswith(("--", "use ", "module "))
+        if begins and (signature := SIGNATURE.match(outer)):
             name = signature[1]
         found.setdefault(name, []).append(line)
     return {name: bare(lines, "--") for name, lines in found.items() if name}
@@ -115,7 +115,8 @@ def main() -> int:
         mine, theirs = {n for k, n in new if k == kind}, {n for k, n in old if k == kind}
         altered = {name for name in mine & theirs if old[kind, name] != new[kind, name]}
         sets = {"altered": altered, "new": mine - theirs, "gone": theirs - mine}
-        print(f"| {kind} | {len(mine & theirs) - len(altered)} | " + " | ".join(str(len(s)) for s in sets.values()) + " |")
+        counts = [len(mine & theirs) - len(altered), *map(len, sets.values())]
+        print(f"| {kind} | " + " | ".join(map(str, counts)) + " |")
         moved += [f"{kind}, {word}: {name}" for word, names in sets.items() for name in sorted(names)]
     print("\n| lines | added | removed |\n|---|---|---|")
     for folder, (added, removed) in lines(sys.argv[1]).items():
