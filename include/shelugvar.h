@@ -14,6 +14,12 @@
 #include <stddef.h>
 #include <stdint.h>
 
+/* The version of this header and of the archive that it declares, as in CHANGELOG.md. */
+#define SHELUGVAR_VERSION "0.1.0"
+#define SHELUGVAR_VERSION_MAJOR 0
+#define SHELUGVAR_VERSION_MINOR 1
+#define SHELUGVAR_VERSION_PATCH 0
+
 #ifdef __cplusplus
 extern "C" {
 #endif
