@@ -1,4 +1,4 @@
--- On a good node no corner of total meaning is used. Assumes nothing.
+-- On a good node no case arises that is there for garbage alone. Assumes nothing.
 use Prim.Native.Nat.{ℕ, _≤_, _<_}
 use mathlib.Core.Path.{_≡_, refl}
 use mathlib.Core.Bool.{true, _&&_}

@@ -1,5 +1,6 @@
--- Corners of total meaning that no node from setup and calls comes to: reads and stores past the end of what is lent,
--- windows without a size, counts that would wrap, an index that says something else than the table. Assumes nothing.
+-- Cases that are there for garbage alone, to which no node from setup and calls comes: reads and stores past the end
+-- of what is lent, windows without a size, counts that would wrap, an index that says something else than the table.
+-- Assumes nothing.
 use Prim.Native.Nat.{ℕ, _+_, _≤_, _<_}
 use mathlib.Core.Path.{_≡_}
 use mathlib.Core.Bool.{true, _&&_}
