@@ -26,7 +26,6 @@ use denote.Lend.{lends-ref, ref-back}
 use denote.Steps.{only, opens, closes, owned, facts, heard}
 use denote.Struct.Steps.{spelt}
 use denote.Struct.Laws as LL
-use denote.Triple.Walked.{says}
 use Rattle.units.specs.declared.Seq.{Seq as SeqNumber}
 use Rattle.units.proofs.Seq as S
 use Rattle.units.proofs.Seq.Laws as S′
@@ -153,9 +152,3 @@ module _ {M : Type 1} {𝓤 : URA M} {H : Heap 𝓤} {A : Atoms 𝓤} {K : Type 
       move t (0 ∷ 2 ∷ 1 ∷ []) $ use3 W (later (‵ (partAt T.the-row fullShare h l 0))) (ref-back 𝓤 H A W T.the-row (α ∷ []) δ h l 0) $ await t tt $
       use1 W (given (Fits h) (‵ (fat fullShare T′.mir l 0 (val h)))) (from-lent 𝓤 H A W h l) $ learn t (λ fits.
       regoal t (λ (u : Val). lands C Λ Ev d u rest q) (ap only (told r (v ∷ []) is)) refl $ k r e (subst (Is R r) (told r (v ∷ []) is) is) fits))))
-
-  -- ---- a goal P ∗ (⌜φ⌝ ∗ ⌜ψ⌝): both are shown, and P is left
-
-  pub says-both : K → {φ ψ : Type 0} {P : SProp 𝓤} → φ → ψ → Step K W Γ (prop P) Γ (prop (sep 𝓤 P (sep 𝓤 (fact 𝓤 φ) (fact 𝓤 ψ))))
-  says-both t {φ} {ψ} {P} x y =
-      step (λ s. record { prf = via 𝓤 (sep 𝓤 (sep 𝓤 P (fact 𝓤 φ)) (fact 𝓤 ψ)) ((says t y $ says t x $ s) .prf) (assoc∗ 𝓤 P (fact 𝓤 φ) (fact 𝓤 ψ)) })

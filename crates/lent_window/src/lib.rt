@@ -3,7 +3,7 @@
 // Proved, by hand: afterwards the record is the window's own step applied to the record as it was lent, and the answer
 // is that step's, for every record and number. None asks anything of its caller.
 ghost use mathlib.Core.Path.{_≡_};
-ghost use Rattle.window.specs.Windows.{insideOf, acceptOf, passOf, resetOf};
+ghost use Rattle.lent_window.specs.Lending.{Tests, Accepts, Passes, Resets};
 ghost use Rattle.lent_window.specs.Received.{receivedOf};
 use units::Seq;
 use window::Found;
@@ -12,7 +12,7 @@ use window::Window;
 
 // Whether s lies in the window that is lent.
 pub fn inside(w: &Window, s: Seq) -> bool
-    ensures { λ r. ⌜ r ≡ insideOf (now (w .entry)) (s .0) ⌝ }
+    ensures { λ r. ⌜ Tests (now (w .entry)) (s .0) r ⌝ }
 {
     let v = *w;
     v.inside(s)
@@ -20,8 +20,7 @@ pub fn inside(w: &Window, s: Seq) -> bool
 
 // Holds s too, where s lies in the window and is new; says what was found of s. [W4, W6, G8]
 pub fn accept(w: &mut Window, s: Seq) -> Found
-    ensures answer { λ r. ⌜ r ≡ acceptOf (now (w .entry)) (s .0) .found ⌝ }
-    ensures after { λ _. ⌜ now (w .exit) ≡ acceptOf (now (w .entry)) (s .0) .window ⌝ }
+    ensures { λ r. ⌜ Accepts (now (w .entry)) (s .0) r (now (w .exit)) ⌝ }
 {
     let v = *w;
     let a = v.accept(s);
@@ -32,8 +31,7 @@ pub fn accept(w: &mut Window, s: Seq) -> Found
 
 // Passes all that is held from the start on without a gap; says how many those are. [W5, G8]
 pub fn pass(w: &mut Window) -> u8
-    ensures answer { λ r. ⌜ r ≡ passOf (now (w .entry)) .run ⌝ }
-    ensures after { λ _. ⌜ now (w .exit) ≡ passOf (now (w .entry)) .window ⌝ }
+    ensures { λ r. ⌜ Passes (now (w .entry)) r (now (w .exit)) ⌝ }
 {
     let v = *w;
     let p = v.pass();
@@ -44,7 +42,7 @@ pub fn pass(w: &mut Window) -> u8
 
 // Starts at 1 again, with nothing held. [E8, G8]
 pub fn reset(w: &mut Window)
-    ensures { λ _. ⌜ now (w .exit) ≡ resetOf (now (w .entry)) ⌝ }
+    ensures { λ _. ⌜ Resets (now (w .entry)) (now (w .exit)) ⌝ }
 {
     let v = *w;
     *w = v.reset();

@@ -31,7 +31,7 @@ use denote.Triple.Call.{calls-at}
 use denote.Triple.Entry.{onEntry}
 use denote.Triple.Spec.{Meets, tripleOf}
 use denote.Triple.Table.{entered, cited}
-use denote.Triple.Walked.{Stays, stay-ref, stay-none, walkOf, AllGo, goes-none, goes-ref, Walks, ends-at, walked, walk-meets}
+use denote.Triple.Walked.{says, Stays, stay-ref, stay-none, walkOf, AllGo, goes-none, goes-ref, Walks, ends-at, walked, walk-meets}
 use denote.Triple.Clauses.{ensured, lasts}
 use denote.Exit.{yes}
 use Rattle.units.specs.declared.Seq.{Seq}
@@ -49,7 +49,7 @@ use Rattle.window.proofs.Window.accept as step
 use Rattle.window.proofs.Window.accept.Symbol as step-def
 use Rattle.window.proofs.Window.accept.Symbol.{name as #window·Window·accept}
 use Rattle.window.proofs.Window.accept.Met as step-thm
-use Rattle.lent_window.proofs.Steps.{val, Fits, seqVal, SeqFits, code as coded, Held, typed, made, opened, closed, answered, says-both}
+use Rattle.lent_window.proofs.Steps.{val, Fits, seqVal, SeqFits, code as coded, Held, typed, made, opened, closed, answered}
 use Rattle.lent_window.proofs.accept.Key.{name as #lent·accept}
 use Rattle.lent_window.proofs.accept as accept
 use Rattle.lent_window.proofs.accept.Statement as stated
@@ -94,7 +94,7 @@ module _ {M : Type 1} (𝓤 : URA M) (H : Heap 𝓤) (A : Atoms 𝓤) (W : Given
   exits r e fits =
       qed W (‵ (fobs γ (coded (r .window))) ∷ ‵ (fbor κ (Held b o γ)) ∷ ‵ (flft κ q) ∷ []) ∵
       suffices ! _ (ends-at 𝓤 H A accept.ended stayed (accept.clauses 𝓤 H A at-mem run) W (((κ, tt), (q, tt), tt, x, at), tt) (foundVal r) (r .found) (r .window, (tt, tt)) (tt, (tt, tt))) $
-      says-both ! (ap (λ (p : Accepted). p .found) e) (ap (λ (p : Accepted). p .window) e) $
+      says ! (record { answer = ap (λ (p : Accepted). p .found) e; after = ap (λ (p : Accepted). p .window) e }) $
       nothing ! $ move ! (3 ∷ 0 ∷ []) $ join ! $ frame ! $ feqI ! (List Val) (vptr b o ∷ []) (vptr b o ∷ []) refl $ fjoin3 ! $
       nothing ! $ owned ! S.the-row (Is S.the-row) (LL.makes S.the-type S′.the-plain 𝓤 H A) s _ s-fits $ fjoin ! $ move ! (1 ∷ 0 ∷ []) $ fjoin ! $
       owned ! F.the-row (Is F.the-row) (LE.makes F.the-type F′.the-plain 𝓤 H A) (r .found) _ fits $ move ! (1 ∷ 0 ∷ []) $ done !

@@ -79,7 +79,7 @@ module _ {M : Type 1} (𝓤 : URA M) (H : Heap 𝓤) (A : Atoms 𝓤) (W : Given
   exits : (r : Bool) → r ≡ insideOf h (s .0) → ent 𝓤 (sep 𝓤 (A .lft κ q) (sep 𝓤 (A .res γ (coded h)) (A .shr-bor κ (λ t. partAt T.the-row t h b o)))) (Post (vbool r))
   exits r e =
       qed W (‵ (flft κ q) ∷ ‵ (fres γ (coded h)) ∷ ‵ (fshr-bor κ (λ t. partAt T.the-row t h b o)) ∷ []) ∵
-      suffices ! _ (ends-at 𝓤 H A inside.ended stayed (inside.clauses 𝓤 H A at-mem run) W (((κ, tt), (q, tt), tt, x, at), tt) (vbool r) r (tt, (tt, tt)) (tt, (tt, tt))) $ says ! e $
+      suffices ! _ (ends-at 𝓤 H A inside.ended stayed (inside.clauses 𝓤 H A at-mem run) W (((κ, tt), (q, tt), tt, x, at), tt) (vbool r) r (tt, (tt, tt)) (tt, (tt, tt))) $ says ! (record { answer = e }) $
       nothing ! $ move ! (1 ∷ 0 ∷ []) $ join ! $ frame ! $ feqI ! (List Val) (vptr b o ∷ []) (vptr b o ∷ []) refl $ fjoin3 ! $
       nothing ! $ owned ! S.the-row (Is S.the-row) (LL.makes S.the-type S′.the-plain 𝓤 H A) s _ s-fits $ fjoin ! $ move ! (1 ∷ 0 ∷ []) $ fjoin ! $ frame ! $
       owned ! bool (Is bool) (bool-makes 𝓤 H A W) r _ refl $ done !

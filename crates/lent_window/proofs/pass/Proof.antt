@@ -32,7 +32,7 @@ use denote.Triple.Call.{calls-at}
 use denote.Triple.Entry.{onEntry}
 use denote.Triple.Spec.{Meets, tripleOf}
 use denote.Triple.Table.{entered, cited}
-use denote.Triple.Walked.{Stays, stay-ref, walkOf, AllGo, goes-ref, Walks, ends-at, walked, walk-meets}
+use denote.Triple.Walked.{says, Stays, stay-ref, walkOf, AllGo, goes-ref, Walks, ends-at, walked, walk-meets}
 use denote.Triple.Clauses.{ensured, lasts}
 use Rattle.window.specs.declared.Window.{Window}
 use Rattle.window.specs.declared.Passed.{Passed}
@@ -44,7 +44,7 @@ use Rattle.window.proofs.Window.pass as step
 use Rattle.window.proofs.Window.pass.Symbol as step-def
 use Rattle.window.proofs.Window.pass.Symbol.{name as #window·Window·pass}
 use Rattle.window.proofs.Window.pass.Met as step-thm
-use Rattle.lent_window.proofs.Steps.{val, Fits, code as coded, Held, typed, made, opened, closed, answered, says-both}
+use Rattle.lent_window.proofs.Steps.{val, Fits, code as coded, Held, typed, made, opened, closed, answered}
 use Rattle.lent_window.proofs.pass.Key.{name as #lent·pass}
 use Rattle.lent_window.proofs.pass as pass
 use Rattle.lent_window.proofs.pass.Statement as stated
@@ -86,7 +86,7 @@ module _ {M : Type 1} (𝓤 : URA M) (H : Heap 𝓤) (A : Atoms 𝓤) (W : Given
   exits r e fits =
       qed W (‵ (fobs γ (coded (r .window))) ∷ ‵ (fbor κ (Held b o γ)) ∷ ‵ (flft κ q) ∷ []) ∵
       suffices ! _ (ends-at 𝓤 H A pass.ended stayed (pass.clauses 𝓤 H A at-mem run) W (((κ, tt), (q, tt), tt, x, at), tt) (vint w8 (r .run)) (r .run) (r .window, tt) (tt, tt)) $
-      says-both ! (ap (λ (p : Passed). p .run) e) (ap (λ (p : Passed). p .window) e) $
+      says ! (record { answer = ap (λ (p : Passed). p .run) e; after = ap (λ (p : Passed). p .window) e }) $
       nothing ! $ move ! (3 ∷ 0 ∷ []) $ join ! $ frame ! $ feqI ! (List Val) (vptr b o ∷ []) (vptr b o ∷ []) refl $ fjoin3 ! $ nothing ! $ move ! (1 ∷ 0 ∷ []) $ fjoin ! $
       owned ! u8 (Is u8) (uint-makes 𝓤 H A W w8) (r .run) _ (refl, fits) $ move ! (1 ∷ 0 ∷ []) $ done !
 

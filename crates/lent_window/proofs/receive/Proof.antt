@@ -42,6 +42,7 @@ use Rattle.window.specs.declared.Marks.{Marks}
 use Rattle.window.specs.declared.Window.{Window}
 use Rattle.window.specs.declared.Found.{Found}
 use Rattle.window.specs.Windows.{acceptOf, passOf}
+use Rattle.lent_window.specs.Lending.{Accepts, Passes}
 use Rattle.window.proofs.Marks as K
 use Rattle.window.proofs.Marks.Laws as K′
 use Rattle.window.proofs.Window as T
@@ -91,9 +92,9 @@ module _ {M : Type 1} (𝓤 : URA M) (H : Heap 𝓤) (A : Atoms 𝓤) (W : Given
   told-accept : (s : Seq) (r : Found) → ent 𝓤 (accepted-of s r) (guard 𝓤 (r ≡ acceptOf h (s .0) .found) (A .res δ (coded (acceptOf h (s .0) .window))))
   told-accept s r =
       qed W (some (λ (ws : Window × (Unit {0} × Unit {0})). ‵ (lasts accept.ended (α ∷ [], tt) (ref l δ h, (s, tt)) ws)
-      ⊛ (raw (fact 𝓤 (r ≡ acceptOf h (s .0) .found)) ⊛ raw (fact 𝓤 (ws .0 ≡ acceptOf h (s .0) .window)))) ∷ []) ∵ pick ! (λ ws. split ! $ fsplit ! $ move ! (2 ∷ []) $ split ! $
-      heard ! (r ≡ acceptOf h (s .0) .found) (λ e. heard ! (ws .0 ≡ acceptOf h (s .0) .window) (λ e′. check ! e $
-      rewrite ! 0 (λ (w : Window). ‵ (fres δ (coded w))) e′ refl $ keep ! (0 ∷ []) $ done !)))
+      ⊛ raw (fact 𝓤 (Accepts h (s .0) r (ws .0)))) ∷ []) ∵ pick ! (λ ws. split ! $ fsplit ! $ move ! (2 ∷ []) $
+      heard ! (Accepts h (s .0) r (ws .0)) (λ e. check ! (e .answer) $
+      rewrite ! 0 (λ (w : Window). ‵ (fres δ (coded w))) (e .after) refl $ keep ! (0 ∷ []) $ done !))
 
   abbrev passed-of : ℕ → SProp 𝓤
   passed-of r = ensured 𝓤 H A pass.ended (pass.clauses 𝓤 H A at-mem run) (α ∷ [], tt) (ref l δ h, tt) tt r
@@ -101,9 +102,9 @@ module _ {M : Type 1} (𝓤 : URA M) (H : Heap 𝓤) (A : Atoms 𝓤) (W : Given
   told-pass : (r : ℕ) → ent 𝓤 (passed-of r) (guard 𝓤 (r ≡ passOf h .run) (A .res δ (coded (passOf h .window))))
   told-pass r =
       qed W (some (λ (ws : Window × Unit {0}). ‵ (lasts pass.ended (α ∷ [], tt) (ref l δ h, tt) ws)
-      ⊛ (raw (fact 𝓤 (r ≡ passOf h .run)) ⊛ raw (fact 𝓤 (ws .0 ≡ passOf h .window)))) ∷ []) ∵ pick ! (λ ws. split ! $ fsplit ! $ move ! (2 ∷ []) $ split ! $
-      heard ! (r ≡ passOf h .run) (λ e. heard ! (ws .0 ≡ passOf h .window) (λ e′. check ! e $
-      rewrite ! 0 (λ (w : Window). ‵ (fres δ (coded w))) e′ refl $ keep ! (0 ∷ []) $ done !)))
+      ⊛ raw (fact 𝓤 (Passes h r (ws .0)))) ∷ []) ∵ pick ! (λ ws. split ! $ fsplit ! $ move ! (2 ∷ []) $
+      heard ! (Passes h r (ws .0)) (λ e. check ! (e .answer) $
+      rewrite ! 0 (λ (w : Window). ‵ (fres δ (coded w))) (e .after) refl $ keep ! (0 ∷ []) $ done !))
 
   -- what each callee's triple binds outside, and that the caller has what it asks
   abbrev to-accept : Seq → Accept 𝓤 H A at-mem run .Ghost

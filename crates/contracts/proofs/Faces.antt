@@ -1,0 +1,94 @@
+-- One outcome: the functions for C, and lines of text. A theorem a function, over its contract's own text. Assumes
+-- nothing.
+use Prim.Native.Nat.{ℕ, _-_, _^_, _≤_, _<_}
+use mathlib.Core.Path.{_≡_, ap}
+use mathlib.Core.List.{List, []}
+use native.Mathlib.Decide.{decLt}
+use native.Mathlib.Nat.{pow-le-pow-right}
+use native.Mathlib.Omega.{arith}
+use denote.Ref.{now}
+use Rattle.firmware.proofs.shelugvar_frame_read.Reads as shelugvar-frame-read
+use Rattle.firmware.proofs.shelugvar_frame_write.Reads as shelugvar-frame-write
+use Rattle.firmware.proofs.shelugvar_window_test.Reads as shelugvar-window-test
+use Rattle.firmware.proofs.nodes.shelugvar_setup.Reads as shelugvar-setup
+use Rattle.firmware.proofs.nodes.shelugvar_open.Reads as shelugvar-open
+use Rattle.firmware.proofs.nodes.shelugvar_close.Reads as shelugvar-close
+use Rattle.firmware.proofs.nodes.shelugvar_counts.Reads as shelugvar-counts
+use Rattle.firmware.proofs.nodes.shelugvar_send.Reads as shelugvar-send
+use Rattle.firmware.proofs.nodes.shelugvar_urgent.Reads as shelugvar-urgent
+use Rattle.firmware.proofs.nodes.shelugvar_arrival.Reads as shelugvar-arrival
+use Rattle.firmware.proofs.nodes.shelugvar_hand_out.Reads as shelugvar-hand-out
+use Rattle.firmware.proofs.nodes.shelugvar_tick.Reads as shelugvar-tick
+use Rattle.lines.proofs.text.Reads as lines-text
+use Rattle.lines.proofs.number.Reads as lines-number
+use Rattle.io.specs.Digits.{Fewest}
+use Rattle.end_points.specs.Lent.{Lent, bare, stored, whole}
+use Rattle.contracts.proofs.Stores.{but-store}
+use Rattle.contracts.specs.Outcome.{One, OneAnswer}
+
+-- ---- firmware
+
+pub shelugvar-frame-read-one : One shelugvar-frame-read.Post (λ e. now (e .1 .0))
+shelugvar-frame-read-one u v a r₁ r₂ e₁ e₂ p q = (cc (p .0, q .0), cc (p .1, q .1))
+
+pub shelugvar-frame-write-one : One shelugvar-frame-write.Post (λ e. now (e .0))
+shelugvar-frame-write-one u v a r₁ r₂ e₁ e₂ p q = (cc (p .0, q .0), cc (p .1, q .1))
+
+pub shelugvar-window-test-one : OneAnswer shelugvar-window-test.Post (λ r. r)
+shelugvar-window-test-one u v a r₁ r₂ e₁ e₂ p q = cc
+
+pub shelugvar-setup-one : One shelugvar-setup.Post (λ e. bare (now (e .0)) (now (e .1 .0)))
+shelugvar-setup-one u v a r₁ r₂ e₁ e₂ p q = (cc (p .0, q .0), but-store (now (a .1 .1 .0)) (cc (p .1, q .1)))
+
+pub shelugvar-open-one : One shelugvar-open.Post (λ e. bare (now (e .0)) (now (e .1 .0)))
+shelugvar-open-one u v a r₁ r₂ e₁ e₂ p q = (cc (p .0, q .0), cc (p .1, q .1))
+
+pub shelugvar-close-one : One shelugvar-close.Post (λ e. bare (now (e .0)) (now (e .1 .0)))
+shelugvar-close-one u v a r₁ r₂ e₁ e₂ p q = (cc (p .0, q .0), cc (p .1, q .1))
+
+pub shelugvar-counts-one : One shelugvar-counts.Post (λ e. now (e .1 .1 .0))
+shelugvar-counts-one u v a r₁ r₂ e₁ e₂ p q = (cc (p .0, q .0), cc (p .1, q .1))
+
+pub shelugvar-send-one : One shelugvar-send.Post (λ e. stored (now (e .0)) (now (e .1 .0)) (now (e .1 .1 .0)))
+shelugvar-send-one u v a r₁ r₂ e₁ e₂ p q = (cc (p .0, q .0), cc (p .1, q .1))
+
+pub shelugvar-urgent-one : One shelugvar-urgent.Post (λ e. stored (now (e .0)) (now (e .1 .0)) (now (e .1 .1 .0)))
+shelugvar-urgent-one u v a r₁ r₂ e₁ e₂ p q = (cc (p .0, q .0), cc (p .1, q .1))
+
+pub shelugvar-arrival-one : One {M = Lent × List ℕ} shelugvar-arrival.Post
+    (λ e. (whole (now (e .0)) (now (e .1 .0)) (now (e .1 .1 .0)) (now (e .1 .1 .1 .0)), now (e .1 .1 .1 .1 .1 .0)))
+shelugvar-arrival-one u v a r₁ r₂ e₁ e₂ p q = (cc (p .0, q .0), cc (p .1 .0, q .1 .0, p .1 .1, q .1 .1))
+
+pub shelugvar-hand-out-one : One {M = Lent × ℕ} shelugvar-hand-out.Post
+    (λ e. (whole (now (e .0)) (now (e .1 .0)) [] (now (e .1 .1 .1 .0)), now (e .1 .1 .1 .1 .0)))
+shelugvar-hand-out-one u v a r₁ r₂ e₁ e₂ p q =
+    let l : whole (now (e₁ .0)) (now (e₁ .1 .0)) [] (now (e₁ .1 .1 .1 .0))
+    ≡ whole (now (e₂ .0)) (now (e₂ .1 .0)) [] (now (e₂ .1 .1 .1 .0)) =
+    but-store (now (a .1 .1 .0)) (cc (p .1 .0, q .1 .0)) in
+    (cc (p .0, q .0), cc (l, p .1 .1, q .1 .1))
+
+pub shelugvar-tick-one : One shelugvar-tick.Post (λ e. bare (now (e .0)) (now (e .1 .0)))
+shelugvar-tick-one u v a r₁ r₂ e₁ e₂ p q = (cc (p .0, q .0), cc (p .1, q .1))
+
+-- ---- lines
+
+pub lines-text-one : One lines-text.Post (λ e. now (e .0))
+lines-text-one u v a r₁ r₂ e₁ e₂ p q = (cc (p .0, q .0), cc (p .1, q .1))
+
+-- `lines::number` speaks of the fewest digits that hold its number: two counts that are fewest are one
+no-more : (v k l : ℕ) → Fewest 10 1 v k → Fewest 10 1 v l → k ≤ l
+no-more v k l f g = sides (decLt l k)
+  where
+    sides : Dec (l < k) → k ≤ l
+    sides (no h) = omega arith
+    sides (yes h) =
+        let most : 10 ^ l ≤ 10 ^ (k - 1) = pow-le-pow-right (omega arith) (omega arith) in
+        let least : 10 ^ (k - 1) ≤ v = f .2 (omega (arith, g .0)) in
+        omega (arith, g .1)
+
+pub lines-number-one : One lines-number.Post (λ e. now (e .0))
+lines-number-one u v a r₁ r₂ e₁ e₂ p q =
+    let k = no-more (a .1 .1 .0) (p .places) (q .places) (p .fewest) (q .fewest) in
+    let l = no-more (a .1 .1 .0) (q .places) (p .places) (q .fewest) (p .fewest) in
+    let e : p .places ≡ q .places = omega arith in
+    (cc (p .answer, q .answer), cc (p .stored, q .stored))

@@ -1,0 +1,9 @@
+pub mod Stores
+pub mod Base
+pub mod State
+pub mod Inner
+pub mod Node
+pub mod Faces
+pub mod Refused
+pub mod LentWindow
+pub mod Calls

@@ -1,0 +1,284 @@
+-- A refused call leaves all that was lent as it was, by the contract's own text: a theorem for every function that
+-- refuses and alters, bare or for C. Of the node's calls `counts` alters nothing and `tick` refuses nothing. Assumes
+-- nothing.
+use Prim.Native.Nat.{ℕ}
+use mathlib.Core.Path.{_≡_, refl, sym, subst, _∙_}
+use mathlib.Core.Bool.{Bool, true, false, _&&_}
+use mathlib.Core.List.{List, []}
+use native.Mathlib.Omega.{arith}
+use denote.Ref.{now}
+use lib.Dec.{eqb}
+use lib.ListN.{length}
+use Rattle.units.specs.Refusals.{pick, verdict}
+use Rattle.units.specs.declared.refusals.Refusal.{Refusal}
+use Rattle.units.specs.declared.refusals.Verdict.{Verdict}
+use Rattle.units.specs.declared.refusals.Verdict.the-variants as verdicts
+use Rattle.frame.specs.Layout.{payloadOf}
+use Rattle.frame.specs.Reading.{headerOf, readOf}
+use Rattle.frame.specs.Writing.{writeTests, writeAnswer, writtenOf, writtenAs, bytesAs}
+use Rattle.frame.specs.declared.Fields.{Fields}
+use Rattle.frame.specs.declared.FrameType.{FrameType}
+use Rattle.frame.specs.declared.FrameType.the-variants as type
+use Rattle.frame.specs.declared.Read.{Read}
+use Rattle.frame.specs.declared.Read.the-variants as read
+use Rattle.frame.specs.declared.Written.the-variants as written
+use Rattle.end_points.specs.Answers.{answerOf, countedOf, arrivedOf, handedOf}
+use Rattle.end_points.specs.Ends.{endOf}
+use Rattle.end_points.specs.Lent.{Lent, bare, stored, whole}
+use Rattle.end_points.specs.declared.EndPoint.{EndPoint}
+use Rattle.end_points.specs.declared.State.{State}
+use Rattle.end_points.specs.declared.State.the-variants.{Closed, Enabled, Open, Failing}
+use Rattle.end_points.specs.declared.answers.Arrived.{Arrived}
+use Rattle.end_points.specs.declared.answers.Arrived.the-variants as arrived
+use Rattle.end_points.specs.declared.answers.Counted.{Counted}
+use Rattle.end_points.specs.declared.answers.Counted.the-variants as counted
+use Rattle.end_points.specs.declared.answers.HandedOut.{HandedOut}
+use Rattle.end_points.specs.declared.answers.HandedOut.the-variants as handed
+use Rattle.call_open.specs.Opening.{openAnswer, openAfter, closeAnswer, closeAfter, countsAnswer}
+use Rattle.call_open.specs.Setup.{setupAnswer, setupAfter}
+use Rattle.call_send.specs.Sending.{sendAnswer, sendAfter, urgentAnswer, urgentAfter}
+use Rattle.arrive_ack.specs.Acking.{counts, passing, ackAnswer}
+use Rattle.arrive_data.specs.Receiving.{resetAnswer, dataAnswer, urgentAnswer as urgentTaken}
+use Rattle.call_arrive.specs.Arriving.{frameTests, entryOf, entryVerdict, takenAnswer, answerAs, afterAs, entryAnswer}
+use Rattle.call_arrive.specs.Arriving.{entryAfter, readAnswer, readAfter, arrivalAnswer, arrivalAfter}
+use Rattle.call_hand_out.specs.Handing.{handOutAnswer, handOutAfter}
+use Rattle.firmware.specs.Firmware.{readNumber, readFields, fieldsIn, writeNumber}
+use Rattle.firmware.specs.Nodes.{refusalIn, valueIn, valuesIn}
+use Rattle.node.proofs.setup.Reads as node-setup
+use Rattle.node.proofs.open.Reads as node-open
+use Rattle.node.proofs.close.Reads as node-close
+use Rattle.node.proofs.send.Reads as node-send
+use Rattle.node.proofs.urgent.Reads as node-urgent
+use Rattle.node.proofs.arrival.Reads as node-arrival
+use Rattle.node.proofs.hand_out.Reads as node-hand-out
+use Rattle.frame.proofs.writing.write.Reads as frame-write
+use Rattle.firmware.proofs.shelugvar_frame_read.Reads as shelugvar-frame-read
+use Rattle.firmware.proofs.shelugvar_frame_write.Reads as shelugvar-frame-write
+use Rattle.firmware.proofs.nodes.shelugvar_setup.Reads as shelugvar-setup
+use Rattle.firmware.proofs.nodes.shelugvar_open.Reads as shelugvar-open
+use Rattle.firmware.proofs.nodes.shelugvar_close.Reads as shelugvar-close
+use Rattle.firmware.proofs.nodes.shelugvar_counts.Reads as shelugvar-counts
+use Rattle.firmware.proofs.nodes.shelugvar_send.Reads as shelugvar-send
+use Rattle.firmware.proofs.nodes.shelugvar_urgent.Reads as shelugvar-urgent
+use Rattle.firmware.proofs.nodes.shelugvar_arrival.Reads as shelugvar-arrival
+use Rattle.firmware.proofs.nodes.shelugvar_hand_out.Reads as shelugvar-hand-out
+use Rattle.contracts.specs.Outcome.{Spares, IsRefused, NotZero}
+use Rattle.contracts.proofs.Stores.{but-store}
+
+-- ---- the node's calls
+
+pub node-setup-refused : Spares node-setup.Post (IsRefused verdicts.Refused) (λ e. bare (now (e .0)) (now (e .1 .0)))
+unfolding setupAfter
+node-setup-refused u a r e p w = but-store (now (a .1 .1 .0)) (cc (p .1, w .1))
+
+pub node-open-refused : Spares node-open.Post (IsRefused verdicts.Refused) (λ e. bare (now (e .0)) (now (e .1 .0)))
+unfolding openAfter
+node-open-refused u a r e p w = cc (p .1, w .1)
+
+pub node-close-refused : Spares node-close.Post (IsRefused verdicts.Refused) (λ e. bare (now (e .0)) (now (e .1 .0)))
+unfolding closeAfter
+node-close-refused u a r e p w = cc (p .1, w .1)
+
+pub node-send-refused : Spares node-send.Post (IsRefused verdicts.Refused)
+    (λ e. stored (now (e .0)) (now (e .1 .0)) (now (e .1 .1 .0)))
+unfolding sendAfter
+node-send-refused u a r e p w = cc (p .1, w .1)
+
+pub node-urgent-refused : Spares node-urgent.Post (IsRefused verdicts.Refused)
+    (λ e. stored (now (e .0)) (now (e .1 .0)) (now (e .1 .1 .0)))
+unfolding urgentAfter
+node-urgent-refused u a r e p w = cc (p .1, w .1)
+
+pub node-hand-out-refused : Spares node-hand-out.Post (IsRefused handed.Refused)
+    (λ e. whole (now (e .0)) (now (e .1 .0)) [] (now (e .1 .1 .1 .0)))
+unfolding handOutAfter
+node-hand-out-refused u a r e p w = but-store (now (a .1 .1 .0)) (cc (p .1, w .1))
+
+-- ---- an arrival: refused by a test, it alters nothing; taken in, it is not refused
+
+module _ (w : Refusal) where
+  -- what is answered of a frame that is taken in
+  opened : (b : Bool) → pick b arrived.Opened arrived.Ignored ≡ arrived.Refused w → ⊥
+  opened true e = let z : _≡_ {A = ℕ} 0 1 = cc in omega arith
+  opened false e = let z : _≡_ {A = ℕ} 0 1 = cc in omega arith
+
+  acked : (b : Bool) (k : ℕ) → pick b (arrived.Acknowledged k) arrived.Ignored ≡ arrived.Refused w → ⊥
+  acked true k e = let z : _≡_ {A = ℕ} 0 1 = cc in omega arith
+  acked false k e = let z : _≡_ {A = ℕ} 0 1 = cc in omega arith
+
+  ack-taken : (e : EndPoint) (s : State) (n : ℕ) → ackAnswer e s n ≡ arrived.Refused w → ⊥
+  unfolding ackAnswer
+  ack-taken e Closed n q = let z : _≡_ {A = ℕ} 0 1 = cc in omega arith
+  ack-taken e (Enabled t sent) n q = opened (sent && eqb n 0) q
+  ack-taken e Open n q = acked (counts (e .run) n) (passing (e .run) n .run) q
+  ack-taken e (Failing k) n q = acked (counts (e .run) n) (passing (e .run) n .run) q
+
+  taken : (x : Lent) (i : ℕ) (e : EndPoint) (t : FrameType) (s : ℕ) (p : List ℕ) → takenAnswer x i e t s p
+      ≡ arrived.Refused w → ⊥
+  unfolding takenAnswer dataAnswer resetAnswer urgentTaken
+  taken x i e type.Data s p q = let z : _≡_ {A = ℕ} 0 1 = cc in omega arith
+  taken x i e type.Acknowledge s p q = ack-taken e (e .state) s q
+  taken x i e type.Reset s p q = let z : _≡_ {A = ℕ} 0 1 = cc in omega arith
+  taken x i e type.Urgent s p q = let z : _≡_ {A = ℕ} 0 1 = cc in omega arith
+
+  -- each verdict gives answer and memory alike
+  judged : (v : Verdict) (a : Arrived) (x y : Lent) → (a ≡ arrived.Refused w → y ≡ x) → answerAs v a
+      ≡ arrived.Refused w → afterAs v x y ≡ x
+  judged verdicts.Passed a x y h e = h e
+  judged (verdicts.Refused v) a x y h e = refl
+
+  read-on : (x : Lent) (r : Read) (p : List ℕ) → readAnswer x r p ≡ arrived.Refused w → readAfter x r p ≡ x
+  unfolding readAnswer readAfter entryAnswer entryAfter
+  read-on x (read.Refused v) p e = refl
+  read-on x (read.Frame h) p e =
+      judged (entryVerdict x (entryOf x h) h) _ x _
+      (λ q. absurd (taken x (entryOf x h) (endOf (x .node) (entryOf x h)) (h .kind) (h .seq .0) p q)) e
+
+  arrival-spared : (x : Lent) (f : List ℕ) → arrivalAnswer x f ≡ arrived.Refused w → arrivalAfter x f ≡ x
+  unfolding arrivalAnswer arrivalAfter
+  arrival-spared x f e = judged (verdict (frameTests (x .node) f)) _ x _ (read-on x (headerOf f) (payloadOf f)) e
+
+pub node-arrival-refused : Spares node-arrival.Post (IsRefused arrived.Refused)
+    (λ e. whole (now (e .0)) (now (e .1 .0)) (now (e .1 .1 .0)) (now (e .1 .1 .1 .0)))
+node-arrival-refused u a r e p w =
+    let x = whole (now (a .0)) (now (a .1 .0)) (now (a .1 .1 .0)) (now (a .1 .1 .1 .0)) in
+    p .1 ∙ arrival-spared (w .0) x (now (a .1 .1 .1 .1 .0)) (sym (p .0) ∙ w .1)
+
+-- ---- the frame writer
+
+-- each verdict gives answer and bytes alike
+as-written : (v : Verdict) (n : ℕ) (new old : List ℕ) (w : Refusal)
+    → writtenAs v n ≡ written.Refused w → bytesAs v new old ≡ old
+as-written verdicts.Passed n new old w e = let z : _≡_ {A = ℕ} 0 1 = cc in absurd (omega arith)
+as-written (verdicts.Refused v) n new old w e = refl
+
+write-spared : (d : Fields) (p b : List ℕ) (w : Refusal) → writeAnswer d p b ≡ written.Refused w → writtenOf d p b ≡ b
+unfolding writeAnswer writtenOf
+write-spared d p b w = as-written (verdict (writeTests d (length p) (length b))) _ _ _ w
+
+pub frame-write-refused : Spares frame-write.Post (IsRefused written.Refused) (λ e. now (e .0))
+frame-write-refused u a r e p w =
+    p .1 ∙ write-spared (a .1 .0) (now (a .1 .1 .0)) (now (a .0)) (w .0) (sym (p .0) ∙ w .1)
+
+-- ---- for C: an answer other than 0
+
+module _ (x : Lent) (after : Verdict → Lent) (refused : (w : Refusal) → after (verdicts.Refused w) ≡ x) where
+  told : (v : Verdict) → NotZero (refusalIn (answerOf v)) → after v ≡ x
+  told verdicts.Passed n = absurd (n refl)
+  told (verdicts.Refused w) n = refused w
+
+setup-told : (x : Lent) (t : List ℕ) → NotZero (refusalIn (answerOf (setupAnswer x t)))
+    → setupAfter x t (setupAnswer x t) ≡ x
+unfolding setupAfter
+setup-told x t = told x (setupAfter x t) (λ w. refl) (setupAnswer x t)
+
+pub shelugvar-setup-refused : Spares shelugvar-setup.Post NotZero (λ e. bare (now (e .0)) (now (e .1 .0)))
+shelugvar-setup-refused u a r e p z =
+    let x = stored (now (a .0)) (now (a .1 .0)) (now (a .1 .1 .0)) in but-store (now (a .1 .1 .0))
+    (p .1 ∙ setup-told x (now (a .1 .1 .1 .0)) (subst NotZero (p .0) z))
+
+open-told : (x : Lent) (i : ℕ) → NotZero (refusalIn (answerOf (openAnswer x i)))
+    → openAfter x i (openAnswer x i) ≡ x
+unfolding openAfter
+open-told x i = told x (openAfter x i) (λ w. refl) (openAnswer x i)
+
+pub shelugvar-open-refused : Spares shelugvar-open.Post NotZero (λ e. bare (now (e .0)) (now (e .1 .0)))
+shelugvar-open-refused u a r e p z =
+    let x = bare (now (a .0)) (now (a .1 .0)) in p .1 ∙ open-told x (a .1 .1 .0) (subst NotZero (p .0) z)
+
+close-told : (x : Lent) (i : ℕ) → NotZero (refusalIn (answerOf (closeAnswer x i)))
+    → closeAfter x i (closeAnswer x i) ≡ x
+unfolding closeAfter
+close-told x i = told x (closeAfter x i) (λ w. refl) (closeAnswer x i)
+
+pub shelugvar-close-refused : Spares shelugvar-close.Post NotZero (λ e. bare (now (e .0)) (now (e .1 .0)))
+shelugvar-close-refused u a r e p z =
+    let x = bare (now (a .0)) (now (a .1 .0)) in p .1 ∙ close-told x (a .1 .1 .0) (subst NotZero (p .0) z)
+
+send-told : (x : Lent) (i : ℕ) (p : List ℕ) → NotZero (refusalIn (answerOf (sendAnswer x i p)))
+    → sendAfter x i p (sendAnswer x i p) ≡ x
+unfolding sendAfter
+send-told x i p = told x (sendAfter x i p) (λ w. refl) (sendAnswer x i p)
+
+pub shelugvar-send-refused : Spares shelugvar-send.Post NotZero
+    (λ e. stored (now (e .0)) (now (e .1 .0)) (now (e .1 .1 .0)))
+shelugvar-send-refused u a r e p z =
+    let x = stored (now (a .0)) (now (a .1 .0)) (now (a .1 .1 .0)) in p .1 ∙ send-told x (a .1 .1 .1 .0)
+    (now (a .1 .1 .1 .1 .0)) (subst NotZero (p .0) z)
+
+urgent-told : (x : Lent) (i : ℕ) (p : List ℕ) → NotZero (refusalIn (answerOf (urgentAnswer x i p)))
+    → urgentAfter x i p (urgentAnswer x i p) ≡ x
+unfolding urgentAfter
+urgent-told x i p = told x (urgentAfter x i p) (λ w. refl) (urgentAnswer x i p)
+
+pub shelugvar-urgent-refused : Spares shelugvar-urgent.Post NotZero
+    (λ e. stored (now (e .0)) (now (e .1 .0)) (now (e .1 .1 .0)))
+shelugvar-urgent-refused u a r e p z =
+    let x = stored (now (a .0)) (now (a .1 .0)) (now (a .1 .1 .0)) in p .1 ∙ urgent-told x (a .1 .1 .1 .0)
+    (now (a .1 .1 .1 .1 .0)) (subst NotZero (p .0) z)
+
+counted-in : (a : Counted) (values : List ℕ) → NotZero (refusalIn (countedOf a)) → valuesIn (countedOf a) values
+    ≡ values
+unfolding valuesIn
+counted-in (counted.Counts n m) values z = absurd (z refl)
+counted-in (counted.Refused w) values z = refl
+
+pub shelugvar-counts-refused : Spares shelugvar-counts.Post NotZero (λ e. now (e .1 .1 .0))
+shelugvar-counts-refused u a r e p z =
+    p .1 ∙ counted-in (countsAnswer (now (a .0)) (a .1 .0)) (now (a .1 .1 .0)) (subst NotZero (p .0) z)
+
+arrived-in : (x : Lent) (f values : List ℕ) (a : Arrived) → arrivalAnswer x f
+    ≡ a → NotZero (refusalIn (arrivedOf a)) → (arrivalAfter x f ≡ x) × (valuesIn (arrivedOf a) values ≡ values)
+unfolding valuesIn
+arrived-in x f values arrived.Ignored e z = absurd (z refl)
+arrived-in x f values (arrived.Acknowledged k) e z = absurd (z refl)
+arrived-in x f values arrived.Opened e z = absurd (z refl)
+arrived-in x f values (arrived.Reset n) e z = absurd (z refl)
+arrived-in x f values (arrived.Data n) e z = absurd (z refl)
+arrived-in x f values (arrived.Urgent n) e z = absurd (z refl)
+arrived-in x f values (arrived.Refused w) e z = (arrival-spared w x f e, refl)
+
+pub shelugvar-arrival-refused : Spares {M = Lent × List ℕ} shelugvar-arrival.Post NotZero
+    (λ e. (whole (now (e .0)) (now (e .1 .0)) (now (e .1 .1 .0)) (now (e .1 .1 .1 .0)), now (e .1 .1 .1 .1 .1 .0)))
+shelugvar-arrival-refused u a r e p z =
+    let x = whole (now (a .0)) (now (a .1 .0)) (now (a .1 .1 .0)) (now (a .1 .1 .1 .0)) in
+    let f = now (a .1 .1 .1 .1 .0) in
+    let b = arrived-in x f (now (a .1 .1 .1 .1 .1 .0)) (arrivalAnswer x f) refl (subst NotZero (p .0) z) in
+    cc (p .1 .0, p .1 .1, b .0, b .1)
+
+handed-in : (x : Lent) (value : ℕ) (a : HandedOut) → NotZero (refusalIn (handedOf a)) → (handOutAfter x a ≡ x)
+    × (valueIn (handedOf a) value ≡ value)
+unfolding handOutAfter valueIn
+handed-in x value (handed.Length n) z = absurd (z refl)
+handed-in x value (handed.Refused w) z = (refl, refl)
+
+pub shelugvar-hand-out-refused : Spares {M = Lent × ℕ} shelugvar-hand-out.Post NotZero
+    (λ e. (whole (now (e .0)) (now (e .1 .0)) [] (now (e .1 .1 .1 .0)), now (e .1 .1 .1 .1 .0)))
+shelugvar-hand-out-refused u a r e p z =
+    let x = whole (now (a .0)) (now (a .1 .0)) (now (a .1 .1 .0)) (now (a .1 .1 .1 .0)) in
+    let b = handed-in x (now (a .1 .1 .1 .1 .0)) (handOutAnswer x) (subst NotZero (p .0) z) in
+    let l : whole (now (e .0)) (now (e .1 .0)) [] (now (e .1 .1 .1 .0))
+    ≡ whole (now (a .0)) (now (a .1 .0)) [] (now (a .1 .1 .1 .0)) =
+    but-store (now (a .1 .1 .0)) (p .1 .0 ∙ b .0) in
+    cc (l, p .1 .1, b .1)
+
+read-in : (r : Read) (fields : List ℕ) → NotZero (readNumber r) → readFields r fields ≡ fields
+unfolding readFields
+read-in (read.Frame h) fields z = absurd (z refl)
+read-in (read.Refused w) fields z = refl
+
+pub shelugvar-frame-read-refused : Spares shelugvar-frame-read.Post NotZero (λ e. now (e .1 .0))
+shelugvar-frame-read-refused u a r e p z =
+    p .1 ∙ read-in (readOf (now (a .0))) (now (a .1 .0)) (subst NotZero (p .0) z)
+
+written-in : (v : Verdict) (n : ℕ) (new old : List ℕ) → NotZero (writeNumber (writtenAs v n)) → bytesAs v new old ≡ old
+written-in verdicts.Passed n new old z = absurd (z refl)
+written-in (verdicts.Refused w) n new old z = refl
+
+write-told : (d : Fields) (p b : List ℕ) → NotZero (writeNumber (writeAnswer d p b)) → writtenOf d p b ≡ b
+unfolding writeAnswer writtenOf
+write-told d p b = written-in (verdict (writeTests d (length p) (length b))) _ _ _
+
+pub shelugvar-frame-write-refused : Spares shelugvar-frame-write.Post NotZero (λ e. now (e .0))
+shelugvar-frame-write-refused u a r e p z =
+    p .1 ∙ write-told (fieldsIn (now (a .1 .0))) (now (a .1 .1 .0)) (now (a .0)) (subst NotZero (p .0) z)

@@ -1,0 +1,37 @@
+-- Outcomes of a function, over its contract's own text. `Post` is what the contract says of a call: of the arguments at
+-- entry, the answer, and the arguments at exit. Cited by the laws of proofs/, for every public function. Assumes
+-- nothing.
+use Prim.Native.Nat.{ℕ}
+use mathlib.Core.Path.{_≡_}
+use Rattle.units.specs.declared.refusals.Refusal.{Refusal}
+
+-- ---- one outcome: two that a contract allows for the same arguments are the same
+
+-- the same answer, and the same in all memory that was lent and may alter. That a contract allows any outcome, the
+-- function shows that meets it. [O1]
+abbrev pub One : {L A R E M : Type 0} → (L → A → R → E → Type 0) → (E → M) → Type 0
+One {L} {A} {R} {E} Post lent =
+    (u v : L) (a : A) (r₁ r₂ : R) (e₁ e₂ : E) → Post u a r₁ e₁ → Post v a r₂ e₂ → (r₁ ≡ r₂) × (lent e₁ ≡ lent e₂)
+
+-- of a function that is lent nothing that may alter [O1]
+abbrev pub OneAnswer : {L A R E T : Type 0} → (L → A → R → E → Type 0) → (R → T) → Type 0
+OneAnswer {L} {A} {R} {E} Post value =
+    (u v : L) (a : A) (r₁ r₂ : R) (e₁ e₂ : E) → Post u a r₁ e₁ → Post v a r₂ e₂ → value r₁ ≡ value r₂
+
+-- of a function that answers nothing [O1]
+abbrev pub OneAfter : {L A R E M : Type 0} → (L → A → R → E → Type 0) → (E → M) → Type 0
+OneAfter {L} {A} {R} {E} Post lent =
+    (u v : L) (a : A) (r₁ r₂ : R) (e₁ e₂ : E) → Post u a r₁ e₁ → Post v a r₂ e₂ → lent e₁ ≡ lent e₂
+
+-- ---- refused calls
+
+-- where the answer is one that refuses, all memory that was lent and may alter is as it was [R44]
+abbrev pub Spares : {L A R M : Type 0} → (L → A → R → A → Type 0) → (R → Type 0) → (A → M) → Type 0
+Spares {L} {A} {R} Post Refuses lent = (u : L) (a : A) (r : R) (e : A) → Post u a r e → Refuses r → lent e ≡ lent a
+
+-- an answer that is a refusal, whichever; and for C one that is not 0 [R44]
+abbrev pub IsRefused : {R : Type 0} → (Refusal → R) → R → Type 0
+IsRefused refused r = (w : Refusal) × (r ≡ refused w)
+
+abbrev pub NotZero : ℕ → Type 0
+NotZero n = n ≡ 0 → ⊥
