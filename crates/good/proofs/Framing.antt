@@ -13,7 +13,7 @@ use lib.Seq.{getD-set-other, length-sets}
 use lib.Dec.{eqb}
 use borrow.Author.Tests.{ne-eqb}
 use Rattle.units.specs.Refusals.{pick}
-use Rattle.memory.specs.Layout.{resets, urgents, resends, datas, clockAt, quietAt, rowAt, entryAt, lengthAt, timerAt, retriesAt}
+use Rattle.memory.specs.Layout.{resets, urgents, resends, datas, clockAt, quietAt, rowAt, entryAt, lengthAt, timerAt, retriesAt, cellOwner}
 use Rattle.waiting.specs.Queues.{appended, unlinked}
 use Rattle.waiting.specs.Acks.{waitingOf}
 use Rattle.waiting.specs.Order.{acksIn}
@@ -34,7 +34,6 @@ use Rattle.slots.specs.Slots.{slotFor, cell, past, lengthIn, timerIn}
 use Rattle.timing.specs.Timing.{clockIn, quietIn}
 use Rattle.table.proofs.Good.{good-head}
 use Rattle.good.specs.Good.{Lists, Lines, ownerOf, Ranged, mine, Share, Resends, Silent, Filled, Sending, Receiving, running, Anew, Stated, Entered, Outlasts, Timely, Tabled, Owed, Good}
-use Rattle.good.specs.Independence.{cellOwner}
 use Rattle.good.proofs.Members.{mine-append, mine-other, mine-apart, without-in, rest, rest-append, rest-own, rest-without}
 use Rattle.good.proofs.Lined.{added, less, added-here, added-there, added-in, append-lines, append-cells, unlink-lines, unlink-cells, set-lines}
 

@@ -32,7 +32,7 @@ pub mod TickEntry
 pub mod Timely
 pub mod TickKeeps
 pub mod ReachGood
-pub mod Independently
+pub mod ShortStores
 pub mod NoCorners
 pub mod NewStays
 pub mod Stores

@@ -29,7 +29,7 @@ use Rattle.arrive_data.specs.Receiving.{resetAfter, taken, repeated, dataAfter,
 use Rattle.units.specs.Refusals.{pick}
 use Rattle.call_arrive.specs.Arriving.{takenAfter}
 use Rattle.good.specs.Good.{Lists, Good}
-use Rattle.good.specs.Calls.{Memory, lent, bare, after, SetUp, at-setup, by-call}
+use Rattle.good.specs.Calls.{Memory, lent, bare, after, SetUp, at-setup, by-call, by-store}
 use Rattle.machine.specs.Calls.{Call, opens, closes, counts, sends, urges, arrives, hands-out, ticks, Fed}
 use Rattle.good.specs.Reaching.{ReachIsGood}
 use Rattle.good.proofs.SetupGood.{setup-good}
@@ -158,3 +158,4 @@ pub reach-is-good : ReachIsGood
 unfolding ReachIsGood
 reach-is-good t n (at-setup _ s) = setup-holds t n s
 reach-is-good t n (by-call m c f r) = call-holds t m c f (reach-is-good t m r)
+reach-is-good t n (by-store m s long r) = let h = reach-is-good t m r in (h .0, h .1, long)

@@ -14,7 +14,7 @@ use lib.Dec.{eqb}
 use lib.Pow.{pow-pos, pow-add}
 use borrow.Author.Tests.{eqb-true, eqb-false}
 use Rattle.units.specs.Refusals.{pick}
-use Rattle.memory.specs.Layout.{resets, resetId, lengthAt, timerAt, clockAt, quietAt}
+use Rattle.memory.specs.Layout.{resets, resetId, lengthAt, timerAt, clockAt, quietAt, cellOwner}
 use Rattle.waiting.specs.Queues.{appended}
 use Rattle.waiting.specs.Order.{acksIn}
 use Rattle.end_points.proofs.Kept.{RunFits}
@@ -37,7 +37,6 @@ use Rattle.end_points.specs.States.{isOver}
 use Rattle.good.specs.Good.{Lists, Silent, Stated, Timely, Good}
 use Rattle.good.proofs.Lined.{added}
 use Rattle.good.proofs.Known.{stated-as}
-use Rattle.good.specs.Independence.{cellOwner}
 use Rattle.good.proofs.Clocked.{pass-clocked, pass-quiet, pass-clock, clocked-end, clocked-acks, clocked-good}
 use Rattle.good.proofs.Framing.{le-trans, apart-saved, apart-count, count-low, entry-low, timer-owner}
 use Rattle.good.proofs.Turns.{run-fits, turnedTo, end-saved, anew-fits, anew-size, acks-ext, sender-turn, Kept, kept-same}

@@ -1,12 +1,13 @@
 -- A node with its store, and its public calls as one: what each answers, in the paper's numbers, and what it leaves, as
 -- the contracts of crates/node have it; and the nodes that a setup and calls after it can give. Cited by what is proved
 -- of such nodes. Assumes nothing.
-use Prim.Native.Nat.{ℕ}
+use Prim.Native.Nat.{ℕ, _≤_}
 use mathlib.Core.Path.{_≡_}
 use mathlib.Core.List.{List, [], _∷_}
 use lib.ListN.{length}
 use Rattle.units.specs.declared.refusals.Verdict.the-variants.{Passed}
 use Rattle.memory.specs.Layout.{nodeWords, bookHalves}
+use Rattle.table.specs.Areas.{storeOf}
 use Rattle.end_points.specs.Lent.{Lent}
 use Rattle.end_points.specs.Lent as lending
 use Rattle.end_points.specs.Answers.{answerOf, countedOf, arrivedOf, handedOf}
@@ -82,7 +83,13 @@ pub record SetUp (t : List ℕ) (n : Memory) : Type 0 where
   pub passed : setupAnswer before t ≡ Passed
   pub is : n ≡ kept (setupAfter before t Passed)
 
--- and calls after it [P11, O2]
+-- with another store, of another content and another length
+abbrev pub relent : List ℕ → Memory → Memory
+relent s n = record { node = n .node; book = n .book; store = s }
+
+-- and calls after it, between which the host may lend another store that is long enough. (One that is too short is
+-- refused, and alters nothing: `ShortIsRefused`.) [P11, O2]
 pub data Reach (t : List ℕ) : Memory → Type 0 where
   at-setup : (n : Memory) → SetUp t n → Reach t n
   by-call : (n : Memory) (c : Call) → Fed c → Reach t n → Reach t (after n c)
+  by-store : (n : Memory) (s : List ℕ) → storeOf t ≤ length s → Reach t n → Reach t (relent s n)

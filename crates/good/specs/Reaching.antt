@@ -1,12 +1,39 @@
 -- What is proved of every node that setup and calls can give. Assumes nothing.
-use Prim.Native.Nat.{ℕ, _≤_}
-use mathlib.Core.List.{List}
+use Prim.Native.Nat.{ℕ, _≤_, _<_}
+use mathlib.Core.Path.{_≡_}
+use mathlib.Core.List.{List, [], _∷_}
 use lib.ListN.{length}
+use Rattle.units.specs.Refusals.{numberOf}
+use Rattle.units.specs.declared.refusals.Refusal.{Refusal}
 use Rattle.table.specs.Areas.{storeOf}
+use Rattle.machine.specs.Calls.{Call, opens, closes, counts, sends, urges, arrives, hands-out, ticks}
+use Rattle.machine.specs.Laws.{lent}
 use Rattle.good.specs.Good.{Lists, Good}
-use Rattle.good.specs.Calls.{Memory, Reach}
+use Rattle.good.specs.Calls.{Memory, answer, after, relent, Reach}
 
 -- such a node is good, and its store long enough [O2]
 unfoldable pub ReachIsGood : Type 0
 ReachIsGood = (t : List ℕ) (n : Memory) → Reach t n → (l : Lists) × Good t (n .node) (n .book) l
     × (storeOf t ≤ length (n .store))
+
+-- the calls that are lent a store
+abbrev pub Stored : Call → Type 0
+Stored (opens i) = ⊥
+Stored (closes i) = ⊥
+Stored (counts i) = ⊥
+Stored (sends i p) = Unit {0}
+Stored (urges i p) = Unit {0}
+Stored (arrives block f) = Unit {0}
+Stored (hands-out buffer) = Unit {0}
+Stored ticks = ⊥
+
+-- a call: its answer is a refusal, and all that was lent is as it was [R44]
+pub record Declined (n : Memory) (c : Call) : Type 0 where
+  pub why : Refusal
+  pub answered : answer n c ≡ record { numbers = numberOf why ∷ []; out = lent c }
+  pub left : after n c ≡ n
+
+-- a store that is too short is refused by every call that is lent one, and nothing alters [R6, R42, R44]
+unfoldable pub ShortIsRefused : Type 0
+ShortIsRefused = (t : List ℕ) (n : Memory) → Reach t n → (s : List ℕ) → length s < storeOf t
+    → (c : Call) → Stored c → Declined (relent s n) c

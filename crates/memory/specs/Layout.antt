@@ -177,3 +177,7 @@ timerAt g = 6272 + g
 
 abbrev pub retriesAt : ℕ → ℕ
 retriesAt g = 8320 + g
+
+-- whose a word of the book beyond the links is: lengths, timers and retries lie by entry
+abbrev pub cellOwner : ℕ → ℕ
+cellOwner k = (k - 4224) % 2048 / 128

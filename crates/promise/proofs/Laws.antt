@@ -6,7 +6,7 @@ use mathlib.Core.Bool.{Bool, true}
 use mathlib.Core.List.{List, [], _∷_}
 use Rattle.window.specs.Numbers.{byteOf}
 use Rattle.promise.specs.History.{Pay, s-enabled, s-open, s-failing, SSeen, s-quiet, s-accepts, s-resets, s-sends, s-hears, s-ends, RSeen, r-quiet, r-acks, r-resets, r-takes, r-closes}
-use Rattle.promise.specs.Promise.{SSide, RSide, Reach, at-setup, by-call}
+use Rattle.promise.specs.Promise.{SSide, RSide, Reach, at-setup, by-call, by-store}
 use Rattle.promise.proofs.Channel.{Send, s-send, s-state, s-hand, s-ack, Recv, r-closed, r-enabled, r-open, Up, r-wait, r-reset, r-data}
 
 -- ---- the steps of an end point
@@ -49,6 +49,7 @@ pub record SLaws (W : ℕ) (A : SSide) : Type 1 where
   pub first : (n : A .Node) → A .SetUp n → (s : Send) × Views n s
   pub agrees : (n : A .Node) (s : Send) → Views n s
       → (s .state ≡ A .state n) × (s .accepted ≡ A .accepted n) × (s .confirmed ≡ A .confirmed n)
+  pub lends : (n m : A .Node) (s : Send) → Views n s → A .Lends n m → (t : Send) × Views m t
   pub law : (n m : A .Node) (c : A .Call) (s : Send) → Views n s → A .Did n c m → (t : Send) × SNext W s (A .seen c) t × Views m t
 
 -- of the receiver's node the same, with its waiting acknowledgements
@@ -56,22 +57,25 @@ pub record RLaws (W : ℕ) (B : RSide) : Type 1 where
   pub Views : B .Node → Recv → Type 0
   pub first : (n : B .Node) → B .SetUp n → (r : Recv) × Views n r
   pub agrees : (n : B .Node) (r : Recv) → Views n r → r .waiting ≡ B .waiting n
+  pub lends : (n m : B .Node) (r : Recv) → Views n r → B .Lends n m → (t : Recv) × Views m t
   pub law : (n m : B .Node) (c : B .Call) (r : Recv) → Views n r → B .Did n c m → (t : Recv) × RNext W r (B .seen c) t × Views m t
 
 -- ---- so every node that setup and calls can give has a view
 
-pub s-viewed : (W : ℕ) (A : SSide) (L : SLaws W A) (n : A .Node) → Reach (A .Node) (A .Call) (A .SetUp) (A .Did) n
+pub s-viewed : (W : ℕ) (A : SSide) (L : SLaws W A) (n : A .Node) → Reach (A .Node) (A .Call) (A .SetUp) (A .Did) (A .Lends) n
     → (s : Send) × L .Views n s
 s-viewed W A L n (at-setup _ u) = L .first n u
 s-viewed W A L n (by-call m _ c r d) =
     let x = s-viewed W A L m r in
     let y = L .law m n c (x .0) (x .1) d in
     (y .0, y .2)
+s-viewed W A L n (by-store m _ r d) = let x = s-viewed W A L m r in L .lends m n (x .0) (x .1) d
 
-pub r-viewed : (W : ℕ) (B : RSide) (L : RLaws W B) (n : B .Node) → Reach (B .Node) (B .Call) (B .SetUp) (B .Did) n
+pub r-viewed : (W : ℕ) (B : RSide) (L : RLaws W B) (n : B .Node) → Reach (B .Node) (B .Call) (B .SetUp) (B .Did) (B .Lends) n
     → (r : Recv) × L .Views n r
 r-viewed W B L n (at-setup _ u) = L .first n u
 r-viewed W B L n (by-call m _ c r d) =
     let x = r-viewed W B L m r in
     let y = L .law m n c (x .0) (x .1) d in
     (y .0, y .2)
+r-viewed W B L n (by-store m _ r d) = let x = r-viewed W B L m r in L .lends m n (x .0) (x .1) d

@@ -21,15 +21,15 @@ use Rattle.end_points.specs.declared.State.the-variants.{Closed, Enabled, Open,
 use Rattle.end_points.specs.Ends.{endOf}
 use Rattle.end_points.specs.States.{isSends}
 use Rattle.call_open.specs.Setup.{setupAfter}
-use Rattle.good.specs.Calls.{Memory, kept, answer, after}
+use Rattle.good.specs.Calls.{Memory, kept, answer, after, relent}
 use Rattle.good.specs.Calls as nodes
 use Rattle.machine.specs.Calls.{Call, opens, closes, counts, sends, urges, arrives, hands-out, ticks, Fed}
 use Rattle.machine.specs.Machine.{End, Machine, first, begun, step, SetUp}
 use Rattle.machine.specs.Sound.{Sound}
-use Rattle.refinement.specs.Standing.{Reading, stateFor, readAt, endFor, endAt, ackItem, waitingFor, Stands, Follows, SetupAnswers, Begins, Refines, StandsSound}
+use Rattle.refinement.specs.Standing.{Reading, standsFor, stateFor, readAt, endFor, endAt, ackItem, waitingFor, Stands, Follows, SetupAnswers, Begins, Refines, StandsSound}
 use Rattle.machine.proofs.Listed.{elem-listed}
 use Rattle.refinement.proofs.SetupStands.{setup-answers, begins}
-use Rattle.refinement.proofs.Refining.{refines}
+use Rattle.refinement.proofs.Refining.{refines, restored}
 use Rattle.refinement.proofs.Sounding.{stands-sound}
 use Rattle.promise.specs.Promise.{Demand3}
 use Rattle.promise.specs.Seen.{Event, s-state-of}
@@ -174,6 +174,21 @@ module _ (K : Watch) (t : List ℕ) (i : ℕ) (h : i < countOf t)
       let a = d .answered ∙ follows t i n m (s .0) (e .call) (d .fed) .answers in
       (x .0, rw a (x .1), (step m (e .call) .machine, rw (d .left) (x .2)))
 
+  -- with another store it is seen as before, but for its payloads
+  node-lends : (n n′ : Memory) (v : K .View) → SeesN n v → nodal.Lends t n n′ → (z : K .View) × SeesN n′ z
+  node-lends n n′ v (m, s) d =
+      let S = s .0 .stands in
+      let o = relent (d .store) n in
+      let x : At t i o (standsFor t o (S .lists)) =
+      record {
+        stands = restored t n m S (d .store) (d .long);
+        end = endAt o i;
+        there = elem-listed (countOf t) (endAt o) i h;
+      } in
+      let k = standsFor t o (S .lists) in
+      let z = K .view (endAt o i) (owed i k) in
+      (z, subst (λ (y : Memory). SeesN y z) (sym (d .is)) (k, (x, refl)))
+
 -- ---- the sender's side
 
 module _ (t : List ℕ) (i : ℕ) (h : i < countOf t) (k : entryOf t i .kind ≡ Sends) where
@@ -190,6 +205,7 @@ module _ (t : List ℕ) (i : ℕ) (h : i < countOf t) (k : entryOf t i .kind ≡
         Views = SeesM (s-watch t i) t i h s-steps;
         first = first-machine (s-watch t i) t i h s-steps;
         agrees = λ m s v. rw (v .1 .0 .there, v .1 .1) (refl, refl, refl);
+        lends = λ m m′ s v d. absurd d;
         law = machine-law (s-watch t i) t i h s-steps;
       }
 
@@ -215,6 +231,7 @@ module _ (t : List ℕ) (i : ℕ) (h : i < countOf t) (k : entryOf t i .kind ≡
         agrees = λ n s v.
             rw (v .1 .1, end-there n (v .0) (v .1 .0))
             (seen-for (readAt n) (endOf (n .node) i .state), refl, refl);
+        lends = node-lends (s-watch t i) t i h s-steps;
         law = node-law (s-watch t i) t i h s-steps;
       }
 
@@ -235,6 +252,7 @@ module _ (u : List ℕ) (j : ℕ) (h : j < countOf u) (k : entryOf u j .kind ≡
         Views = SeesM (r-watch u j) u j h r-steps;
         first = first-machine (r-watch u j) u j h r-steps;
         agrees = λ m r v. ap (λ (y : Recv). y .waiting) (v .1 .1);
+        lends = λ m m′ r v d. absurd d;
         law = machine-law (r-watch u j) u j h r-steps;
       }
 
@@ -247,6 +265,7 @@ module _ (u : List ℕ) (j : ℕ) (h : j < countOf u) (k : entryOf u j .kind ≡
         agrees = λ n r v.
             ap (λ (y : Recv). y .waiting) (v .1 .1) ∙ ap (owed j) (sym (v .1 .0 .stands .is))
             ∙ owed-items j (acksIn (n .node));
+        lends = node-lends (r-watch u j) u j h r-steps;
         law = node-law (r-watch u j) u j h r-steps;
       }
 

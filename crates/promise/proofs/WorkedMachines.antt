@@ -148,11 +148,11 @@ unfolding computes
 setR-up =
     record { room = 4; bytes = λ k. byte receives-table k tt; passed = refl; is = refl }
 
-reached : Reach (A .Node) (A .Call) (A .SetUp) (A .Did) a
+reached : Reach (A .Node) (A .Call) (A .SetUp) (A .Did) (A .Lends) a
 unfolding computes
 reached = by-call setS a (event (opens 0) (says (0 ∷ []))) (at-setup setS setS-up) (did setS (opens 0) (says (0 ∷ [])) tt refl)
 
-reached′ : Reach (B .Node) (B .Call) (B .SetUp) (B .Did) b
+reached′ : Reach (B .Node) (B .Call) (B .SetUp) (B .Did) (B .Lends) b
 unfolding computes
 reached′ = by-call setR b (event (opens 0) (says (0 ∷ []))) (at-setup setR setR-up) (did setR (opens 0) (says (0 ∷ [])) tt refl)
 
@@ -437,8 +437,8 @@ at-end = refl
 pub record Worked (end : Sys A B) : Type 0 where
   pub paired : Paired sends-table 0 receives-table 0
   pub window : W ≡ 2
-  pub reached : Reach (A .Node) (A .Call) (A .SetUp) (A .Did) a
-  pub reached′ : Reach (B .Node) (B .Call) (B .SetUp) (B .Did) b
+  pub reached : Reach (A .Node) (A .Call) (A .SetUp) (A .Did) (A .Lends) a
+  pub reached′ : Reach (B .Node) (B .Call) (B .SetUp) (B .Did) (B .Lends) b
   pub enabled : A .state a ≡ s-enabled false
   pub moves : Moves W A B (begin A B a b []) end
   pub opened : A .state (end .sender) ≡ s-open

@@ -21,7 +21,8 @@ pub record Did (m : Machine) (e : Event) (m′ : Machine) : Type 0 where
   pub answered : e .answer ≡ step m (e .call) .answer
   pub left : m′ ≡ step m (e .call) .machine
 
--- entry i of a machine that was set up from table t [P11]
+-- entry i of a machine that was set up from table t. A machine has no store that could be another: its payloads are its
+-- own. [P11]
 abbrev pub sender : List ℕ → ℕ → SSide
 sender t i =
     record {
@@ -29,6 +30,7 @@ sender t i =
       Call = Event;
       Did = Did;
       SetUp = SetUp t;
+      Lends = λ m m′. ⊥;
       seen = λ e. s-seen (entryOf t i) i (e .call) (e .answer);
       state = λ m. at m i s-closed (λ e. s-state-of (e .state));
       accepted = λ m. at m i 0 (λ e. e .accepted);
@@ -47,6 +49,7 @@ receiver u j =
       Call = Event;
       Did = Did;
       SetUp = SetUp u;
+      Lends = λ m m′. ⊥;
       seen = λ e. r-seen (entryOf u j) j (e .call) (e .answer);
       waiting = λ m. owedTo j (m .waiting acks);
     }

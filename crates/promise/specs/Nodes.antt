@@ -1,14 +1,16 @@
 -- DEMAND 3 of two nodes and their public calls: the promise of Link.antt, with what the calls' contracts say in the
 -- machine's place. Assumes nothing.
-use Prim.Native.Nat.{ℕ, _/_, _%_}
+use Prim.Native.Nat.{ℕ, _/_, _%_, _≤_}
 use mathlib.Core.Path.{_≡_}
 use mathlib.Core.List.{List, [], _∷_}
+use lib.ListN.{length}
 use lib.Dec.{eqb}
 use Rattle.units.specs.Refusals.{pick}
 use Rattle.waiting.specs.Order.{acksIn}
+use Rattle.table.specs.Areas.{storeOf}
 use Rattle.table.specs.Layout.{entryOf}
 use Rattle.end_points.specs.Ends.{endOf}
-use Rattle.good.specs.Calls.{Memory, answer, after, SetUp}
+use Rattle.good.specs.Calls.{Memory, answer, after, relent, SetUp}
 use Rattle.machine.specs.Calls.{Fed}
 use Rattle.promise.specs.Promise.{SSide, RSide, Demand3}
 use Rattle.promise.specs.Seen.{Event, s-seen, r-seen, s-state-of}
@@ -20,6 +22,12 @@ pub record Did (n : Memory) (e : Event) (m : Memory) : Type 0 where
   pub answered : e .answer ≡ answer n (e .call)
   pub left : m ≡ after n (e .call)
 
+-- the host lends another store, of any content, that is long enough for the table [P11]
+pub record Lends (t : List ℕ) (n m : Memory) : Type 0 where
+  pub store : List ℕ
+  pub long : storeOf t ≤ length store
+  pub is : m ≡ relent store n
+
 -- entry i of a node that was set up from table t [P11]
 abbrev pub sender : List ℕ → ℕ → SSide
 sender t i =
@@ -28,6 +36,7 @@ sender t i =
       Call = Event;
       Did = Did;
       SetUp = SetUp t;
+      Lends = Lends t;
       seen = λ e. s-seen (entryOf t i) i (e .call) (e .answer);
       state = λ n. s-state-of (endOf (n .node) i .state);
       accepted = λ n. endOf (n .node) i .run .accepted .0;
@@ -46,6 +55,7 @@ receiver u j =
       Call = Event;
       Did = Did;
       SetUp = SetUp u;
+      Lends = Lends u;
       seen = λ e. r-seen (entryOf u j) j (e .call) (e .answer);
       waiting = λ n. owedIn j (acksIn (n .node));
     }

@@ -19,6 +19,7 @@ pub record SSide : Type 1 where
   pub Call : Type 0  -- a call with its answer
   pub Did : Node → Call → Node → Type 0  -- the call's contract, from before to after
   pub SetUp : Node → Type 0  -- what setup leaves
+  pub Lends : Node → Node → Type 0  -- the host lends another store, between calls
   pub seen : Call → SSeen  -- what the call was for the entry
   pub state : Node → SState  -- the entry's state
   pub accepted : Node → ℕ  -- the entry's counts
@@ -30,13 +31,17 @@ pub record RSide : Type 1 where
   pub Call : Type 0
   pub Did : Node → Call → Node → Type 0
   pub SetUp : Node → Type 0
+  pub Lends : Node → Node → Type 0
   pub seen : Call → RSeen
   pub waiting : Node → List ℕ  -- the sequence bytes of the entry's waiting acknowledgements, the oldest first
 
--- the nodes that setup and calls can give [P11]
-pub data Reach (Node Call : Type 0) (SetUp : Node → Type 0) (Did : Node → Call → Node → Type 0) : Node → Type 0 where
-  at-setup : (n : Node) → SetUp n → Reach Node Call SetUp Did n
-  by-call : (n m : Node) (c : Call) → Reach Node Call SetUp Did n → Did n c m → Reach Node Call SetUp Did m
+-- the nodes that setup and calls can give, with another store now and then. In the run itself the store stays as the
+-- calls leave it: its moves are calls alone. [P11]
+pub data Reach (Node Call : Type 0) (SetUp : Node → Type 0) (Did : Node → Call → Node → Type 0)
+    (Lends : Node → Node → Type 0) : Node → Type 0 where
+  at-setup : (n : Node) → SetUp n → Reach Node Call SetUp Did Lends n
+  by-call : (n m : Node) (c : Call) → Reach Node Call SetUp Did Lends n → Did n c m → Reach Node Call SetUp Did Lends m
+  by-store : (n m : Node) → Reach Node Call SetUp Did Lends n → Lends n m → Reach Node Call SetUp Did Lends m
 
 -- ---- what is promised
 
@@ -139,8 +144,8 @@ module _ (W : ℕ) (A : SSide) (B : RSide) where
   -- the sender is open, what is promised holds. [P1, P11, P12, P13]
   unfoldable pub Demand3 : Type 0
   Demand3 = (a : A .Node) (b : B .Node) (delivered : List Pay)
-      → Reach (A .Node) (A .Call) (A .SetUp) (A .Did) a
-      → Reach (B .Node) (B .Call) (B .SetUp) (B .Did) b
+      → Reach (A .Node) (A .Call) (A .SetUp) (A .Did) (A .Lends) a
+      → Reach (B .Node) (B .Call) (B .SetUp) (B .Did) (B .Lends) b
       → A .state a ≡ s-enabled false
       → (t : Sys A B) → Moves (begin A B a b delivered) t
       → Live (A .state (t .sender)) → Kept (A .accepted (t .sender)) (A .confirmed (t .sender)) (t .hist)

@@ -21,3 +21,4 @@ pub mod Refining
 pub mod Sounding
 pub mod OneMachine
 pub mod NewNodes
+pub mod Independently

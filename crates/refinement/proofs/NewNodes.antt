@@ -26,7 +26,6 @@ use Rattle.timing.specs.Timing.{clockIn, later}
 use Rattle.call_tick.specs.Ticking.{tickAnswer, tickBoth, scanAfter, scanBoth, stillAfter, recoverAll, tickEntries}
 use Rattle.good.specs.Calls.{Memory, lent, bare, answer}
 use Rattle.good.specs.NewNode.{newAt}
-use Rattle.good.proofs.NewStays.{new-stays}
 use Rattle.machine.specs.Calls.{Call, opens, closes, counts, sends, urges, arrives, hands-out, ticks, Answer}
 use Rattle.machine.specs.Machine.{Machine, Outcome, blank, opening, closing, counting, sending, urgentSending, reading, arriving, goingOut, inOrder, handing, each, bitsFrom, ticking, judged, step}
 use Rattle.refinement.specs.Standing.{NewIsBlank}
@@ -119,9 +118,5 @@ module _ (store : List ℕ) (c q : ℕ) where
   all-same ticks = ticks-same
 
 pub new-is-blank : NewIsBlank
-new-is-blank =
-    record {
-      begins = new-stays .begins;
-      stays = λ store c q small k. let s = all-same store c q k in record { answers = s .0; node = new-stays .stays store c q small k; machine = s .1 };
-      small = new-stays .small;
-    }
+unfolding NewIsBlank
+new-is-blank store c q k = let s = all-same store c q k in record { answers = s .0; machine = s .1 }

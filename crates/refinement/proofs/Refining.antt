@@ -1,15 +1,15 @@
 -- The whole theorem: every call does what the machine does, and so every node that setup and calls can give stands for
 -- a machine. Assumes nothing.
 use Prim.Native.Nat.{ℕ, _≤_}
-use mathlib.Core.Path.{subst}
+use mathlib.Core.Path.{refl, subst}
 use mathlib.Core.List.{List}
 use lib.ListN.{length}
 use Rattle.table.specs.Areas.{storeOf}
 use Rattle.good.specs.Good.{Lists, Good}
-use Rattle.good.specs.Calls.{Memory, at-setup, by-call}
+use Rattle.good.specs.Calls.{Memory, relent, at-setup, by-call, by-store}
 use Rattle.machine.specs.Calls.{Call, Fed, opens, closes, counts, sends, urges, arrives, hands-out, ticks}
 use Rattle.machine.specs.Machine.{Machine, begun, step}
-use Rattle.refinement.specs.Standing.{standsFor, Follows, Begins, Refines, ReachStands}
+use Rattle.refinement.specs.Standing.{standsFor, Stands, Follows, Begins, Refines, ReachStands}
 use Rattle.refinement.proofs.SetupStands.{begins}
 use Rattle.refinement.proofs.OpenStands.{open-follows, close-follows, counts-follow}
 use Rattle.refinement.proofs.SendStands.{send-follows, urgent-follows}
@@ -33,7 +33,15 @@ pub refines : Refines
 unfolding Refines
 refines t n m s c f = subst (λ (m : Machine). Follows t n m c) (s .is) (follows-at t n (s .lists) (s .good) (s .room) c f)
 
+-- with another store the memory stands for the machine that has the payloads found there
+pub restored : (t : List ℕ) (n : Memory) (m : Machine) (S : Stands t n m) (s : List ℕ) → storeOf t ≤ length s
+    → Stands t (relent s n) (standsFor t (relent s n) (S .lists))
+restored t n m S s long = record { lists = S .lists; good = S .good; room = long; is = refl }
+
 pub reach-stands : ReachStands
 unfolding ReachStands Begins Refines
 reach-stands t n (at-setup _ s) = (begun t (length (n .store)), begins t n s)
 reach-stands t _ (by-call n c f r) = let s = reach-stands t n r in (step (s .0) c .machine, refines t n (s .0) (s .1) c f .stands)
+reach-stands t _ (by-store n s long r) =
+    let S = reach-stands t n r .1 in
+    (standsFor t (relent s n) (S .lists), restored t n (reach-stands t n r .0) S s long)

@@ -20,7 +20,7 @@ use Rattle.end_points.specs.States.{isSends}
 use Rattle.end_points.specs.declared.State.{State}
 use Rattle.end_points.specs.declared.State.the-variants.{Closed, Enabled, Open, Failing}
 use Rattle.end_points.specs.declared.EndPoint.{EndPoint}
-use Rattle.timing.specs.Timing.{clockIn, later, leftOf}
+use Rattle.timing.specs.Timing.{clockIn, leftOf}
 use Rattle.slots.specs.Slots.{cell, past, numberIn, timerIn, retriesIn}
 use Rattle.call_open.specs.Setup.{setupAnswer}
 use Rattle.blocks.specs.Payloads.{payloadAt}
@@ -28,7 +28,7 @@ use Rattle.call_hand_out.specs.Handing.{urgentPayload}
 use Rattle.memory.specs.Layout.{idSlot}
 use Rattle.good.specs.Good.{Lists, Good, ownerOf}
 use Rattle.good.specs.Calls.{Memory, answer, after, SetUp, Reach}
-use Rattle.good.specs.NewNode.{newNode, newAt, newAfter}
+use Rattle.good.specs.NewNode.{newAt}
 use Rattle.machine.specs.Calls.{Call, Fed}
 use Rattle.machine.specs.Sound.{Sound}
 use Rattle.machine.specs.Machine.{Number, End, Item, Sort, acks, resets, urgents, resends, datas}
@@ -155,15 +155,12 @@ OneMachine = (t u : List ℕ) (n : Memory) (m k : Machine) → Stands t n m → 
 unfoldable pub StandsSound : Type 0
 StandsSound = (t : List ℕ) (n : Memory) (m : Machine) → Stands t n m → Sound t m
 
--- a new node, before its first setup, answers as the blank machine does, whatever ticks have passed. The machine stays
--- as it is, and of the node a tick moves the clock alone.
+-- a call on a new node, before its first setup, whatever ticks have passed
 pub record Blank (store : List ℕ) (c q : ℕ) (k : Call) : Type 0 where
   pub answers : answer (newAt store c q) k ≡ step (blank (length store)) k .answer
-  pub node : after (newAt store c q) k ≡ newAfter store c q k
   pub machine : step (blank (length store)) k .machine ≡ blank (length store)
 
--- so it begins, and so it stays after any calls but setup [N1]
-pub record NewIsBlank : Type 0 where
-  pub begins : (store : List ℕ) → newNode store ≡ newAt store 0 0
-  pub stays : (store : List ℕ) (c q : ℕ) → c ≤ 65535 → (k : Call) → Blank store c q k
-  pub small : (c : ℕ) → c ≤ 65535 → later c 1 ≤ 65535
+-- such a node answers as the blank machine does, which stays as it is. What the call leaves of the node is `NewStays`
+-- (crates/good). [N1]
+unfoldable pub NewIsBlank : Type 0
+NewIsBlank = (store : List ℕ) (c q : ℕ) (k : Call) → Blank store c q k

@@ -1,0 +1,13 @@
+-- A call on a node leaves every entry that it is not on. Assumes nothing.
+use Rattle.machine.specs.Machine.{step}
+use Rattle.machine.specs.Laws.{OthersStay}
+use Rattle.machine.proofs.Apart.{others-stay}
+use Rattle.refinement.specs.Standing.{Refines, StandsSound}
+use Rattle.refinement.specs.Independence.{OthersStayAtNodes}
+use Rattle.refinement.proofs.Refining.{refines}
+use Rattle.refinement.proofs.Sounding.{stands-sound}
+
+pub others-stay-at-nodes : OthersStayAtNodes
+unfolding OthersStayAtNodes OthersStay Refines StandsSound
+others-stay-at-nodes t n m s c f i off =
+    (step m c .machine, refines t n m s c f .stands, others-stay t m (stands-sound t n m s) c i off)
