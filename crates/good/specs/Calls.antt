@@ -8,7 +8,7 @@ use lib.ListN.{length}
 use Rattle.units.specs.declared.refusals.Verdict.the-variants.{Passed}
 use Rattle.memory.specs.Layout.{nodeWords, bookHalves}
 use Rattle.end_points.specs.Lent.{Lent}
-use Rattle.node.specs.Lending as lending
+use Rattle.end_points.specs.Lent as lending
 use Rattle.end_points.specs.Answers.{answerOf, countedOf, arrivedOf, handedOf}
 use Rattle.call_open.specs.Setup.{setupAnswer, setupAfter}
 use Rattle.call_open.specs.Opening.{openAnswer, openAfter, closeAnswer, closeAfter, countsAnswer}
