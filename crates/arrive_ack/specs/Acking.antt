@@ -6,6 +6,7 @@ use mathlib.Core.List.{List}
 use lib.ListN.{set}
 use lib.Dec.{eqb, ltb}
 use Rattle.units.specs.Refusals.{pick}
+use Rattle.memory.specs.Layout.{entryAt, startWord, lowMarksWord, highMarksWord, takenWord, handedWord, confirmedWord}
 use Rattle.memory.specs.Layout.{resetId, cellId, timerAt}
 use Rattle.waiting.specs.Queues.{unlinked}
 use Rattle.timing.specs.Timing.{roused}
@@ -87,12 +88,22 @@ stopped b g = set (pick (eqb (timerIn b g) 0) (unlinked b (cellId g)) b) (timerA
 abbrev pub fewer : ℕ → ℕ → ℕ
 fewer t n = pick (eqb t 0) n (n - 1)
 
+-- a number counts at Open: of an end point's words six alter, and the run that is loaded then is r [A4]
+abbrev pub countedNode : List ℕ → ℕ → Run → List ℕ
+countedNode ws i r =
+    let ws₁ = set ws (entryAt i + startWord) (r .window .start .0) in
+    let ws₂ = set ws₁ (entryAt i + lowMarksWord) (r .window .marks .0) in
+    let ws₃ = set ws₂ (entryAt i + highMarksWord) (r .window .marks .1) in
+    let ws₄ = set ws₃ (entryAt i + takenWord) (r .taken) in
+    let ws₅ = set ws₄ (entryAt i + handedWord) (r .handed) in
+    set ws₅ (entryAt i + confirmedWord) (r .confirmed .0)
+
 -- the node: the end point put back, Open where it was opened, with its run as it then is; at Failing the next tick goes
 -- through the entries, since none may be left running [E9, E10, A4, A5]
 unfoldable pub ackNode : List ℕ → List ℕ → ℕ → EndPoint → State → ℕ → List ℕ
 ackNode ws b i e Closed s = ws
 ackNode ws b i e (Enabled t sent) s = pick (sent && eqb s 0) (saved ws i Open (openedRun (e .run))) ws
-ackNode ws b i e Open s = pick (counts (e .run) s) (saved ws i Open (ackedRun (e .run) s)) ws
+ackNode ws b i e Open s = pick (counts (e .run) s) (countedNode ws i (ackedRun (e .run) s)) ws
 ackNode ws b i e (Failing n) s =
     pick (counts (e .run) s)
     (roused (saved ws i (Failing (fewer (timerIn b (cell i (e .run .window) s)) n)) (ackedRun (e .run) s))) ws

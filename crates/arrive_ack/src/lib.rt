@@ -10,6 +10,7 @@ use end_points::states::is_new;
 use memory::half_at;
 use memory::layout;
 use memory::put_half;
+use memory::put_word;
 use slots::cell_of;
 use timing::rouse;
 use units::Seq;
@@ -21,7 +22,7 @@ ghost use mathlib.Core.Path.{_≡_};
 ghost use Prim.Native.Nat.{_-_, _<_};
 ghost use Rattle.end_points.specs.declared.State.the-variants as state;
 ghost use Rattle.arrive_ack.specs.Acking.{fewer, moved, openedRun, tallied, resetGone, stopped, ackAnswer};
-ghost use Rattle.arrive_ack.specs.Acking.{ackNode, ackBook};
+ghost use Rattle.arrive_ack.specs.Acking.{countedNode, ackNode, ackBook};
 
 // What a number acknowledged at Open or Failing comes to.
 enum Tally {
@@ -139,6 +140,20 @@ fn stop(book: &mut [u16], g: u16)
     put_half(book, at, 0)
 }
 
+// A number counts: of the run's words six alter, and no other is written.
+fn put_counted(node: &mut [u64], i: usize, r: Run)
+    requires { ⌜ i < 4096 ⌝ }
+    ensures { λ _. ⌜ now (node .exit) ≡ countedNode (now (node .entry)) i r ⌝ }
+{
+    let at = layout::ENTRY_AT + layout::ENTRY_WORDS * i;
+    put_word(node, at + layout::START, r.window.start.0 as u64);
+    put_word(node, at + layout::LOW_MARKS, r.window.marks.0);
+    put_word(node, at + layout::HIGH_MARKS, r.window.marks.1);
+    put_word(node, at + layout::TAKEN, r.taken as u64);
+    put_word(node, at + layout::HANDED, r.handed as u64);
+    put_word(node, at + layout::CONFIRMED, r.confirmed.0 as u64)
+}
+
 // At Open.
 fn at_open(node: &mut [u64], book: &mut [u16], i: u8, e: EndPoint, s: Seq) -> Arrived
     ensures answer { λ r. ⌜ r ≡ ackAnswer e state.Open (s .0) ⌝ }
@@ -150,7 +165,7 @@ fn at_open(node: &mut [u64], book: &mut [u16], i: u8, e: EndPoint, s: Seq) -> Ar
         Tally::Ignored => Arrived::Ignored,
         Tally::Counts(next, passed) => {
             stop(book, cell_of(i, e.run.window, s));
-            save(node, i as usize, State::Open, next);
+            put_counted(node, i as usize, next);
             Arrived::Acknowledged(passed)
         }
     }

@@ -5,7 +5,7 @@ use mathlib.Core.List.{List, [], _∷_}
 use lib.ListN.{length, set}
 use lib.Seq.{sets}
 use Rattle.units.specs.Refusals.{pick}
-use Rattle.memory.specs.Layout.{lengthAt}
+use Rattle.memory.specs.Layout.{entryAt, startWord, lowMarksWord, highMarksWord, lengthAt}
 use Rattle.waiting.specs.Acks.{pushed, dropped}
 use Rattle.window.specs.Windows.{acceptOf, passOf, heldCount}
 use Rattle.window.specs.declared.Window.{Window}
@@ -53,6 +53,13 @@ withWindow r w =
       urgent = r .urgent;
     }
 
+-- of the node only the window alters: the run that is loaded then is `withWindow` of the one before [W5]
+abbrev pub windowNode : List ℕ → ℕ → Window → List ℕ
+windowNode ws i w =
+    set
+    (set (set ws (entryAt i + startWord) (w .start .0)) (entryAt i + lowMarksWord) (w .marks .0))
+    (entryAt i + highMarksWord) (w .marks .1)
+
 -- in the window and new: the payload p lies in its slot [S3, S5, W4]
 abbrev pub putStore : List ℕ → EndPoint → ℕ → List ℕ → List ℕ
 putStore store e s p = sets store (spot (e .place) (e .entry .largest) (slotFor (e .run .window) s)) p
@@ -82,7 +89,7 @@ dataAnswer x i e s p = arrived.Data (length (blockOf (given x i e s p)))
 abbrev pub taken : Lent → ℕ → EndPoint → ℕ → List ℕ → Lent
 taken x i e s p =
     record {
-      node = saved (acknowledged (x .node) i s) i (e .state) (withWindow (e .run) (passing e s .window));
+      node = windowNode (acknowledged (x .node) i s) i (passing e s .window);
       book = putBook (x .book) i e s p;
       store = putStore (x .store) e s p;
       out = sets (x .out) 0 (blockOf (delivered x i e s p));

@@ -5,7 +5,6 @@ use blocks::put_block;
 use blocks::put_none;
 use blocks::put_one;
 use end_points::EndPoint;
-use end_points::Run;
 use end_points::State;
 use end_points::answers::Arrived;
 use end_points::save;
@@ -13,6 +12,7 @@ use end_points::states::anew_run;
 use end_points::states::is_new;
 use memory::layout;
 use memory::put_half;
+use memory::put_word;
 use slots::cell_of;
 use slots::slot_for;
 use slots::spot_of;
@@ -28,7 +28,7 @@ ghost use lib.ListN.{length};
 ghost use lib.Seq.{sets};
 ghost use Rattle.blocks.specs.Blocks.{blockOf};
 ghost use Rattle.end_points.specs.Lent.{whole};
-ghost use Rattle.arrive_data.specs.Receiving.{resetAnswer, resetNode, withWindow, putStore, putBook, dataAnswer};
+ghost use Rattle.arrive_data.specs.Receiving.{resetAnswer, resetNode, windowNode, putStore, putBook, dataAnswer};
 ghost use Rattle.arrive_data.specs.Receiving.{dataAfter, urgentAnswer};
 
 // A Reset, at Enabled or Open: the receiver is Open at start 1, with acknowledgement 0 alone waiting for it.
@@ -64,9 +64,7 @@ pub fn take_data(
         ⌜ whole (now (node .exit)) (now (book .exit)) (now (store .exit)) (now (out .exit))
         ≡ dataAfter x i e (s .0) (now (payload .entry)) ⌝ }
 {
-    let state = e.state;
-    let run = e.run;
-    let window = run.window;
+    let window = e.run.window;
     push(node, i, s);
     let accepted = window.accept(s);
     let found = accepted.found;
@@ -83,7 +81,7 @@ pub fn take_data(
             window,
             passed.run,
         );
-        save(node, i as usize, state, with_window(run, passed.window));
+        put_window(node, i as usize, passed.window);
         return Arrived::Data(n);
     }
     Arrived::Data(put_none(out))
@@ -108,12 +106,15 @@ fn keep(book: &mut [u16], store: &mut [u8], i: u8, e: EndPoint, s: Seq, payload:
     )
 }
 
-// The run with another window.
-fn with_window(mut r: Run, w: Window) -> Run
-    ensures { λ n. ⌜ n ≡ withWindow r w ⌝ }
+// Another window: of the run's words three alter, and no other is written.
+fn put_window(node: &mut [u64], i: usize, w: Window)
+    requires { ⌜ i < 4096 ⌝ }
+    ensures { λ _. ⌜ now (node .exit) ≡ windowNode (now (node .entry)) i w ⌝ }
 {
-    r.window = w;
-    r
+    let at = layout::ENTRY_AT + layout::ENTRY_WORDS * i;
+    put_word(node, at + layout::START, w.start.0 as u64);
+    put_word(node, at + layout::LOW_MARKS, w.marks.0);
+    put_word(node, at + layout::HIGH_MARKS, w.marks.1)
 }
 
 // An Urgent, at Open: it is delivered, and not acknowledged.

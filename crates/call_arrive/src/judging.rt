@@ -1,7 +1,8 @@
 // The tests of an arrival at an entry: 13, 5, 14, 6, in this order.
-use end_points::EndPoint;
 use end_points::heads::count;
 use end_points::heads::need;
+use end_points::load_entry;
+use end_points::load_state;
 use end_points::states::is_closed;
 use end_points::states::is_open;
 use frame::FrameType;
@@ -14,6 +15,7 @@ ghost use mathlib.Core.List.{[], _∷_};
 ghost use lib.Dec.{leb, ltb};
 ghost use Rattle.units.specs.declared.refusals.Refusal.the-variants as refusal;
 ghost use Rattle.waiting.specs.Acks.{waitingOf};
+ghost use Rattle.end_points.specs.Ends.{endOf};
 ghost use Rattle.end_points.specs.Heads.{needIn};
 ghost use Rattle.end_points.specs.States.{isOpen};
 ghost use Rattle.units.specs.Refusals.{verdict};
@@ -45,10 +47,11 @@ fn is_answered(t: FrameType) -> bool
 }
 
 // The room that Data and Urgent need in the block.
-fn block_room(e: EndPoint) -> usize
-    ensures { λ r. ⌜ r ≡ blockRoom e ⌝ }
+fn block_room(node: &[u64], i: u8) -> usize
+    ensures { λ r. ⌜ r ≡ blockRoom (endOf (now (node .entry)) i) ⌝ }
 {
-    6 + e.run.window.size as usize * (4 + e.entry.largest as usize)
+    let entry = load_entry(node, i as usize);
+    6 + (entry.window % 256) as usize * (4 + entry.largest as usize)
 }
 
 // Data or a Reset, with so many acknowledgements waiting.
@@ -61,26 +64,22 @@ fn acks_full(t: FrameType, n: u8) -> bool
     false
 }
 
-// Data and Urgent, with a payload of n bytes, at an end point e that is not Closed.
-fn judge_payload(
-    node: &[u64],
-    e: EndPoint,
-    t: FrameType,
-    n: u16,
-    store: usize,
-    block: usize,
-) -> Verdict
-    ensures { λ r. ⌜ r ≡ verdict ((not (isOpen (e .state)), refusal.NoEndPoint)
+// Data and Urgent, with a payload of n bytes, for entry i, which is not Closed.
+fn judge_payload(node: &[u64], i: u8, t: FrameType, n: u16, store: usize, block: usize) -> Verdict
+    ensures { λ r.
+        let e = endOf (now (node .entry)) i in
+        ⌜ r ≡ verdict ((not (isOpen (e .state)), refusal.NoEndPoint)
         ∷ (ltb (e .entry .largest) n, refusal.PayloadLength)
         ∷ (answered t && leb 32 (waitingOf (now (node .entry))), refusal.AcksFull)
         ∷ (ltb store (needIn (now (node .entry))), refusal.TooShort)
         ∷ (ltb block (blockRoom e), refusal.TooShort) ∷ []) ⌝ }
 {
-    let state = e.state;
+    let state = load_state(node, i as usize);
     if !is_open(state) {
         return Verdict::Refused(Refusal::NoEndPoint);
     }
-    if e.entry.largest < n {
+    let entry = load_entry(node, i as usize);
+    if entry.largest < n {
         return Verdict::Refused(Refusal::PayloadLength);
     }
     if acks_full(t, waiting(node)) {
@@ -89,7 +88,7 @@ fn judge_payload(
     if store < need(node) {
         return Verdict::Refused(Refusal::TooShort);
     }
-    if block < block_room(e) {
+    if block < block_room(node, i) {
         return Verdict::Refused(Refusal::TooShort);
     }
     Verdict::Passed
@@ -109,28 +108,22 @@ fn judge_bare(node: &[u64], t: FrameType, store: usize) -> Verdict
     Verdict::Passed
 }
 
-// The verdict on a frame of type t with a payload of n bytes, for entry i, which is e; with a store and a block of so
-// many bytes.
-pub fn judge(
-    node: &[u64],
-    i: u8,
-    e: EndPoint,
-    t: FrameType,
-    n: u16,
-    store: usize,
-    block: usize,
-) -> Verdict
-    ensures { λ r. ⌜ r ≡ verdict (entryTests (now (node .entry)) i e t n store block) ⌝ }
+// The verdict on a frame of type t with a payload of n bytes, for entry i; with a store and a block of so many bytes.
+// What it asks of the end point it reads itself, a word or two: the whole is read once the frame is to be taken in.
+pub fn judge(node: &[u64], i: u8, t: FrameType, n: u16, store: usize, block: usize) -> Verdict
+    ensures { λ r.
+        let ws = now (node .entry) in
+        ⌜ r ≡ verdict (entryTests ws i (endOf ws i) t n store block) ⌝ }
 {
     if count(node) <= i {
         return Verdict::Refused(Refusal::NoEndPoint);
     }
-    let state = e.state;
+    let state = load_state(node, i as usize);
     if is_closed(state) {
         return Verdict::Refused(Refusal::NoEndPoint);
     }
     if is_delivered(t) {
-        return judge_payload(node, e, t, n, store, block);
+        return judge_payload(node, i, t, n, store, block);
     }
     judge_bare(node, t, store)
 }

@@ -121,10 +121,12 @@ fn come(
         ⌜ whole (now (node .exit)) (now (book .exit)) (now (store .exit)) (now (out .exit))
         ≡ afterAs v x (takenAfter x i e t (s .0) (now (payload .entry))) ⌝ }
 {
-    let e = read_end(node, i as usize);
-    match judge(node, i, e, t, n, store.len(), out.len()) {
+    match judge(node, i, t, n, store.len(), out.len()) {
         Verdict::Refused(w) => Arrived::Refused(w),
-        Verdict::Passed => take(node, book, store, out, i, e, t, s, payload),
+        Verdict::Passed => {
+            let e = read_end(node, i as usize);
+            take(node, book, store, out, i, e, t, s, payload)
+        }
     }
 }
 

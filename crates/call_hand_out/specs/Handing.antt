@@ -8,7 +8,7 @@ use lib.Seq.{sets}
 use lib.Dec.{leb, ltb}
 use Rattle.units.specs.Refusals.{pick}
 use Rattle.units.specs.declared.refusals.Refusal.the-variants as refusal
-use Rattle.memory.specs.Layout.{resets, urgents, resends, datas, queues, timerAt}
+use Rattle.memory.specs.Layout.{entryAt, handedWord, resets, urgents, resends, datas, queues, timerAt}
 use Rattle.memory.specs.Layout.{resetEntry, urgentEntry, idCell, idEntry, idSlot}
 use Rattle.timing.specs.Timing.{clockIn, later, heeded}
 use Rattle.waiting.specs.Queues.{nextOf, unlinked}
@@ -138,9 +138,14 @@ resetNode ws i e =
 abbrev pub urgentNode : List ℕ → ℕ → EndPoint → List ℕ
 urgentNode ws i e = saved ws i (e .state) (urgentGone (e .run))
 
--- of data one number more is handed out; its timer starts, as that of a retransmission does [D2]
+-- one number more is handed out, and no other word of the end point alters: the run that is loaded then is `handedRun`
+-- of the one before [A2]
+abbrev pub handedNode : List ℕ → ℕ → Run → List ℕ
+handedNode ws i r = set ws (entryAt i + handedWord) ((r .handed + 1) % 256)
+
+-- so of data; its timer starts, as that of a retransmission does [D2]
 abbrev pub dataNode : List ℕ → ℕ → EndPoint → List ℕ
-dataNode ws i e = heeded (saved ws i (e .state) (handedRun (e .run))) (e .entry .timeout)
+dataNode ws i e = heeded (handedNode ws i (e .run)) (e .entry .timeout)
 
 abbrev pub againNode : List ℕ → EndPoint → List ℕ
 againNode ws e = heeded ws (e .entry .timeout)

@@ -8,13 +8,13 @@ use end_points::load;
 use end_points::load_entry;
 use end_points::load_place;
 use end_points::load_run;
-use end_points::load_state;
 use end_points::save;
 use end_points::states::without_urgent;
 use frame::FrameType;
 use memory::half_at;
 use memory::layout;
 use memory::put_half;
+use memory::put_word;
 use slots::number_in;
 use slots::part;
 use slots::spot_of;
@@ -35,7 +35,7 @@ ghost use Rattle.call_hand_out.specs.Handing.{fitted, once, ackFrame, re
 ghost use Rattle.memory.specs.Layout.{resetEntry};
 ghost use Rattle.call_hand_out.specs.Handing.{resetNode, urgentNode, dataNode, againNode};
 ghost use Rattle.memory.specs.Layout.{urgentEntry, idEntry};
-ghost use Rattle.call_hand_out.specs.Handing.{timed, handedRun};
+ghost use Rattle.call_hand_out.specs.Handing.{timed, handedNode};
 
 // a less b, and 0 where b is more.
 fn less(a: u16, b: u16) -> u16
@@ -175,12 +175,17 @@ pub fn put_again(
     }
 }
 
-// The run with one number more handed out.
-fn handed_run(mut r: Run) -> Run
-    ensures { λ n. ⌜ n ≡ handedRun r ⌝ }
+// One number more is handed out: of the run's words one alters, and no other is written.
+fn put_handed(node: &mut [u64], i: usize, r: Run)
+    requires { ⌜ i < 4096 ⌝ }
+    ensures { λ _. ⌜ now (node .exit) ≡ handedNode (now (node .entry)) i r ⌝ }
 {
-    r.handed = std::num::wrapping_add_u8(r.handed, 1);
-    r
+    let at = layout::ENTRY_AT + layout::ENTRY_WORDS * i;
+    put_word(
+        node,
+        at + layout::HANDED,
+        std::num::wrapping_add_u8(r.handed, 1) as u64,
+    )
 }
 
 // The data that is x in its queue: its timer starts, and one number more is handed out. The same as `put_again` and
@@ -219,7 +224,7 @@ pub fn put_data(
                 layout::TIMER_AT + g as usize,
                 later(clock(node), entry.timeout),
             );
-            save(node, i, load_state(node, i), handed_run(run));
+            put_handed(node, i, run);
             heed(node, entry.timeout);
             HandedOut::Length(n)
         }

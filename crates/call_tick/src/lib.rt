@@ -5,12 +5,17 @@
 // a tick makes of an entry leaves every other entry as it was.
 mod timers; // timers.rt: an entry's timers
 
+use end_points::EndPoint;
 use end_points::State;
 use end_points::heads::count;
 use end_points::load;
+use end_points::load_entry;
+use end_points::load_place;
+use end_points::load_run;
 use end_points::load_state;
 use end_points::save;
 use end_points::states::anew_run;
+use end_points::states::is_open;
 use end_points::states::without_urgent;
 use memory::layout;
 use timers::tick_slots;
@@ -23,8 +28,8 @@ use timing::soonest;
 use waiting::queues::append;
 ghost use mathlib.Core.Path.{_≡_};
 ghost use mathlib.Core.List.{[]};
-ghost use mathlib.Core.Bool.{true, false};
 ghost use Prim.Native.Nat.{_<_, _≤_, _^_};
+ghost use Rattle.units.specs.Refusals.{pick};
 ghost use Rattle.end_points.specs.Ends.{endOf};
 ghost use Rattle.end_points.specs.Lent.{bare};
 ghost use Rattle.call_tick.specs.Ticking.{ticked, tickEnabled, tickOpen, tickFailing, tickEntry, tickEntries};
@@ -59,32 +64,46 @@ fn tick_enabled(
     least
 }
 
-// Entry i at Open: it is Failing from now on where a number's retries are spent, and only then does the node alter.
-fn tick_open(node: &mut [u64], book: &mut [u16], i: u8, c: u16, least: u16) -> u16
-    ensures { λ r. ⌜ scanOf (now (node .exit)) (now (book .exit)) r
-        ≡ tickOpen (scanOf (now (node .entry)) (now (book .entry)) least) i (endOf (now (node .entry)) i)
-        (ticked c i (endOf (now (node .entry)) i) false (now (book .entry)) least) ⌝ }
+// End point i as `load` reads it. It has one caller, as `tick_sent` and all that it calls have, so that the compiler
+// reads there what is used, where it is used: of an end that has handed nothing out no more than that.
+fn read_end(node: &[u64], i: usize) -> EndPoint
+    requires { ⌜ i < 4096 ⌝ }
+    ensures { λ r. ⌜ r ≡ endOf (now (node .entry)) i ⌝ }
 {
-    let e = load(node, i as usize);
-    let t = tick_slots(book, i, e, c, false, least);
-    if t.failing {
-        let run = without_urgent(e.run);
+    let entry = load_entry(node, i);
+    let place = load_place(node, i);
+    let state = load_state(node, i);
+    let run = load_run(node, i, (entry.window % 256) as u8);
+    EndPoint {
+        entry,
+        place,
+        state,
+        run,
+    }
+}
+
+// Entry i at Open or Failing: an open end is Failing from now on where a number's retries are spent, and only then does
+// the node alter; one that was Failing says how many timers still run. The run is read again for that, and not carried
+// through the loop, since it is seldom written.
+fn tick_sent(node: &mut [u64], book: &mut [u16], i: u8, c: u16, failing: bool, least: u16) -> u16
+    ensures { λ r.
+        let y = scanOf (now (node .entry)) (now (book .entry)) least in
+        let e = endOf (now (node .entry)) i in
+        let t = ticked c i e failing (now (book .entry)) least in
+        ⌜ scanOf (now (node .exit)) (now (book .exit)) r ≡ pick failing (tickFailing y i e t) (tickOpen y i e t) ⌝ }
+{
+    let e = read_end(node, i as usize);
+    let t = tick_slots(book, i, e, c, failing, least);
+    if failing {
+        let run = load(node, i as usize).run;
         save(node, i as usize, State::Failing(t.running as u16), run);
         return t.least;
     }
-    t.least
-}
-
-// Entry i at Failing.
-fn tick_failing(node: &mut [u64], book: &mut [u16], i: u8, c: u16, least: u16) -> u16
-    ensures { λ r. ⌜ scanOf (now (node .exit)) (now (book .exit)) r
-        ≡ tickFailing (scanOf (now (node .entry)) (now (book .entry)) least) i (endOf (now (node .entry)) i)
-        (ticked c i (endOf (now (node .entry)) i) true (now (book .entry)) least) ⌝ }
-{
-    let e = load(node, i as usize);
-    let t = tick_slots(book, i, e, c, true, least);
-    let run = e.run;
-    save(node, i as usize, State::Failing(t.running as u16), run);
+    if t.failing {
+        let run = without_urgent(load(node, i as usize).run);
+        save(node, i as usize, State::Failing(t.running as u16), run);
+        return t.least;
+    }
     t.least
 }
 
@@ -97,8 +116,10 @@ fn tick_entry(node: &mut [u64], book: &mut [u16], i: u8, c: u16, least: u16) -> 
     match state {
         State::Closed => least,
         State::Enabled(d, sent) => tick_enabled(node, book, i, c, d, sent, least),
-        State::Open => tick_open(node, book, i, c, least),
-        State::Failing(_) => tick_failing(node, book, i, c, least),
+        State::Open | State::Failing(_) => {
+            let failing = !is_open(state);
+            tick_sent(node, book, i, c, failing, least)
+        }
     }
 }
 

@@ -23,12 +23,15 @@ use Rattle.end_points.specs.declared.State.{State}
 use Rattle.end_points.specs.declared.State.the-variants.{Closed, Enabled, Open, Failing}
 use Rattle.end_points.specs.declared.answers.Arrived.the-variants as arrived
 use Rattle.slots.specs.Slots.{cell, past, lengthIn, timerIn}
-use Rattle.arrive_ack.specs.Acking.{counts, passing, ackedRun, openedRun, ackAnswer, resetGone, stopped, fewer, ackNode, ackBook, ackAfter}
+use Rattle.arrive_ack.specs.Acking.{counts, passing, ackedRun, openedRun, ackAnswer, resetGone, stopped, fewer}
+use Rattle.arrive_ack.specs.Acking.{countedNode, ackNode, ackBook, ackAfter}
 use Rattle.good.specs.Good.{Lists, mine, ids, Silent, Sending, OpenSender, FailingSender, Outlasts, Timely, Good}
 use Rattle.good.proofs.Lined.{less, unlink-cells}
-use Rattle.good.proofs.Framing.{Within, within-same, within-unlink, Apart, apart-same, apart-then, apart-saved, outlasts-fewer, entry-low}
+use Rattle.good.proofs.Framing.{Within, within-same, within-unlink, Apart, apart-same, apart-then, apart-saved}
+use Rattle.good.proofs.Framing.{outlasts-fewer, timely-fewer, entry-low}
 use Rattle.good.proofs.Offsets.{reset-owner}
 use Rattle.good.proofs.Turns.{run-fits, state-fits, turnedTo, end-saved, saved-acks, sender-put, sender-turn, Kept}
+use Rattle.good.proofs.RunSets.{counted-puts, counted-end}
 use Rattle.good.proofs.Senders.{Timed, timed-set, within-timed, reset-waited, reset-gone, entry-window, sender-stated, sender-entered}
 use Rattle.timing.specs.Timing.{clockIn, quietIn, roused}
 use Rattle.good.proofs.Clocked.{Clocked, clocked-set, clocked-end, clocked-waiting, clocked-acks, roused-apart, roused-quiet}
@@ -111,19 +114,33 @@ module _ (t ws b : List ℕ) (l : Lists) (G : Good t ws b l) (i s : ℕ) (li : i
           moved-outlasts b (stopped b (cell i (r .window) s)) i (entry-low t ws b l G i li) r (entry-window t ws b l G i li) (run-fits ws i) (endOf ws i .entry .largest) (o .sending) (offsetOf (r .window) s) (says .handed) (passing r s) pass
           (open-gone .timed) (clockIn ws) (quietIn ws) (subst (Timely (clockIn ws) (quietIn ws) b i (endOf ws i)) q (G .timely i li))
 
+      abbrev book-then : List ℕ
+      book-then = stopped b (cell i (endOf ws i .run .window) s)
+
+      open-end : endOf ws i .state ≡ Open → endOf (countedNode ws i (ackedRun (endOf ws i .run) s)) i
+          ≡ turnedTo (endOf ws i) Open (ackedRun (endOf ws i .run) s)
+      unfolding ackedRun
+      open-end q =
+          counted-end ws i (G .long) (entry-low t ws b l G i li) (ackedRun (endOf ws i .run) s) open-fits (pass .size)
+          refl refl ∙ rw q
+
       open-outcome : endOf ws i .state ≡ Open
-          → Outcome t ws b l (saved ws i Open (ackedRun (endOf ws i .run) s)) (stopped b (cell i (endOf ws i .run .window) s)) i s
+          → Outcome t ws b l (countedNode ws i (ackedRun (endOf ws i .run) s)) book-then i s
       unfolding ackedRun
       open-outcome q =
           let r = ackedRun (endOf ws i .run) s in
           let z = open-gone in
+          let p = counted-puts ws i (G .long) (entry-low t ws b l G i li) r in
+          let soon = timely-fewer (clockIn ws) (quietIn ws) (quietIn (countedNode ws i r)) book-then i
+          (turnedTo (endOf ws i) Open r) Open (p .apart .quiet) (open-timely q) in
           record {
             lists = z .lists;
-            good = sender-turn t ws b l G i li kind Open r tt open-fits (pass .size) (stopped b (cell i (endOf ws i .run .window) s)) (z .lists) (z .within)
-                (sender-entered t ws b l G i li kind (stopped b (cell i (endOf ws i .run .window) s)) (z .lists) Open r (pass .good) open-sender) (open-timely q);
-            apart = apart-saved i ws Open r;
+            good = sender-put t ws b l G i li kind (countedNode ws i r) (p .apart) (p .waits) (p .acks) book-then
+                (z .lists) (z .within) (turnedTo (endOf ws i) Open r) (open-end q)
+                (sender-entered t ws b l G i li kind book-then (z .lists) Open r (pass .good) open-sender) soon;
+            apart = p .apart;
             within = z .within;
-            ends = counted q c (end-saved ws i Open r (G .long) (entry-low t ws b l G i li) tt open-fits (pass .size));
+            ends = counted q c (open-end q);
             lengths = z .timed .lengths;
           }
 
@@ -290,7 +307,8 @@ module _ (t ws b : List ℕ) (l : Lists) (G : Good t ws b l) (i s : ℕ) (li : i
   outcome Open q = sides (counts (endOf ws i .run) s) refl
     where
       sides : (z : Bool) → counts (endOf ws i .run) s ≡ z
-          → Outcome t ws b l (pick z (saved ws i Open (ackedRun (endOf ws i .run) s)) ws) (pick z (stopped b (cell i (endOf ws i .run .window) s)) b) i s
+          → Outcome t ws b l (pick z (countedNode ws i (ackedRun (endOf ws i .run) s)) ws)
+          (pick z (stopped b (cell i (endOf ws i .run .window) s)) b) i s
       sides true c = open-outcome c (sender-stated t ws b l G i li kind Open q) q
       sides false c = nothing (rw (q, c))
   outcome (Failing n) q = sides (counts (endOf ws i .run) s) refl

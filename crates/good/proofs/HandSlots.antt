@@ -13,8 +13,7 @@ use Rattle.waiting.specs.Acks.{waitingOf}
 use Rattle.waiting.specs.Order.{acksIn, Distinct}
 use Rattle.window.specs.Windows.{held, Good as GoodWindow}
 use Rattle.window.proofs.Sizes.{size-le}
-use Rattle.end_points.proofs.Kept.{RunFits}
-use Rattle.end_points.specs.Ends.{endOf, saved}
+use Rattle.end_points.specs.Ends.{endOf}
 use Rattle.end_points.specs.States.{isSends}
 use Rattle.end_points.specs.Lent.{Lent}
 use Rattle.end_points.specs.declared.State.{State}
@@ -25,18 +24,19 @@ use Rattle.timing.specs.Timing.{clockIn, quietIn, later, heeded}
 use Rattle.timing.proofs.Falling.{later-runs}
 use Rattle.good.proofs.Clocked.{Clocked, clocked-set, clocked-end, clocked-waiting, clocked-acks, heeded-apart, heeded-quiet, starts}
 use Rattle.call_hand_out.specs.declared.Next.the-variants as next
-use Rattle.call_hand_out.specs.Handing.{handedRun, timed, againNode, outNode, outBook, handedOut}
+use Rattle.call_hand_out.specs.Handing.{handedRun, handedNode, timed, againNode, outNode, outBook, handedOut}
 use Rattle.memory.specs.Layout.{idCell, idEntry}
 use Rattle.good.specs.Good.{Lists, mine, idAt, ids, Resend, Resends, OpenSender, Stated, Outlasts, Timely, Good}
 use Rattle.good.proofs.Members.{without-in, without-keeps, mine-in, mine-without}
 use Rattle.good.proofs.Lined.{less}
-use Rattle.good.proofs.Framing.{Within, within-then, Apart, apart-then, apart-saved, outlasts-fewer, entry-low}
-use Rattle.good.proofs.Turns.{run-fits, turnedTo, saved-acks, sender-put}
+use Rattle.good.proofs.Framing.{Within, within-then, Apart, apart-then, outlasts-fewer, entry-low}
+use Rattle.good.proofs.Turns.{turnedTo, sender-put}
 use Rattle.good.proofs.Senders.{Timed, timed-outlasts, timed-set, timed-after, within-timed, entry-window, sender-entered, sender-timeout, timeout-fits}
 use Rattle.good.proofs.HandRuns.{withHanded, NextData, handed-sending, timed-sending, timed-resends, id-cell, id-slot, id-number, share-first, share-rest, next-data}
+use Rattle.good.proofs.RunSets.{handed-puts, handed-end}
 use Rattle.good.proofs.Handed.{Went, SlotOut, HandKept, resent, handed}
 use Rattle.good.proofs.HandFirst.{First, first-in, Whose, ranged-slot, slot-owner, whose}
-use Rattle.good.proofs.HandSorts.{open-state, open-sender, open-within, open-beyond, open-share, open-end}
+use Rattle.good.proofs.HandSorts.{open-state, open-sender, open-within, open-beyond, open-share}
 
 -- the tick at which the timer of what waits as n runs out
 abbrev over : Lent → ℕ → ℕ
@@ -301,42 +301,43 @@ module _ (t : List ℕ) (x : Lent) (l : Lists) (G : Good t (x .node) (x .book) l
     unfolding handedRun
     data-run = ap (withHanded (endOf (x .node) (idEntry n) .run)) data-count
 
-    data-fits : RunFits (handedRun (endOf (x .node) (idEntry n) .run))
-    unfolding handedRun
-    data-fits =
-        let f = run-fits (x .node) (idEntry n) in
-        record { start = f .start; taken = f .taken; handed = omega arith; accepted = f .accepted; confirmed = f .confirmed; urgent = f .urgent }
-
-    -- what is saved, and the node afterwards
-    abbrev data-saved : List ℕ
-    data-saved = saved (x .node) (idEntry n) (endOf (x .node) (idEntry n) .state) (handedRun (endOf (x .node) (idEntry n) .run))
+    -- the node with one number more handed out, and the one afterwards
+    abbrev data-put : List ℕ
+    data-put = handedNode (x .node) (idEntry n) (endOf (x .node) (idEntry n) .run)
 
     abbrev data-heeded : List ℕ
-    data-heeded = heeded data-saved (endOf (x .node) (idEntry n) .entry .timeout)
+    data-heeded = heeded data-put (endOf (x .node) (idEntry n) .entry .timeout)
 
-    data-clocked : Clocked data-saved data-heeded
-    data-clocked = clocked-set data-saved quietAt _ (omega arith) (omega arith)
+    data-clocked : Clocked data-put data-heeded
+    data-clocked = clocked-set data-put quietAt _ (omega arith) (omega arith)
 
-    data-long : length data-saved ≡ nodeWords
-    data-long = apart-saved (idEntry n) (x .node) (endOf (x .node) (idEntry n) .state) (handedRun (endOf (x .node) (idEntry n) .run)) .long ∙ G .long
+    data-puts : Apart (idEntry n) (x .node) data-put
+        × (waitingOf data-put ≡ waitingOf (x .node)) × (acksIn data-put ≡ acksIn (x .node))
+    data-puts =
+        let p = handed-puts (x .node) (idEntry n) (G .long) (slot-low 1 n m (omega arith)) in
+        (p .apart, p .waits, p .acks)
+
+    data-long : length data-put ≡ nodeWords
+    data-long = data-puts .0 .long ∙ G .long
 
     data-apart : Apart (idEntry n) (x .node) data-heeded
     data-apart =
         let i = idEntry n in
-        let e = endOf (x .node) i in
-        apart-then i (x .node) data-saved data-heeded (apart-saved i (x .node) (e .state) (handedRun (e .run))) (heeded-apart data-saved data-long (e .entry .timeout) i)
+        apart-then i (x .node) data-put data-heeded (data-puts .0)
+        (heeded-apart data-put data-long (endOf (x .node) i .entry .timeout) i)
 
     data-acks : (waitingOf data-heeded ≡ waitingOf (x .node)) × (acksIn data-heeded ≡ acksIn (x .node))
-    data-acks =
-        let p = saved-acks (x .node) (idEntry n) (endOf (x .node) (idEntry n) .state) (handedRun (endOf (x .node) (idEntry n) .run)) in
-        (clocked-waiting data-saved data-heeded data-clocked ∙ p .0, clocked-acks data-saved data-heeded data-clocked ∙ p .1)
+    data-acks = (
+      clocked-waiting data-put data-heeded data-clocked ∙ data-puts .1,
+      clocked-acks data-put data-heeded data-clocked ∙ data-puts .2,
+    )
 
-    data-end : endOf data-heeded (idEntry n) ≡ turnedTo (endOf (x .node) (idEntry n)) Open (handedRun (endOf (x .node) (idEntry n) .run))
-    unfolding handedRun
+    data-end : endOf data-heeded (idEntry n)
+        ≡ turnedTo (endOf (x .node) (idEntry n)) Open (handedRun (endOf (x .node) (idEntry n) .run))
     data-end =
         let i = idEntry n in
-        clocked-end data-saved data-heeded data-clocked i
-        ∙ open-end t x l G datas (omega arith) (λ z. omega arith) n i (slot-whose 1 n m (omega arith)) (handedRun (endOf (x .node) i .run)) data-fits (slot-window 1 n m (omega arith)) refl
+        clocked-end data-put data-heeded data-clocked i
+        ∙ rw (slot-state 1 n m (omega arith) .1) at (handed-end (x .node) i (G .long) (slot-low 1 n m (omega arith)))
 
     data-timely : Timely (clockIn (x .node)) (quietIn data-heeded) (timed (x .node) (x .book) n) (idEntry n)
         (turnedTo (endOf (x .node) (idEntry n)) Open (withHanded (endOf (x .node) (idEntry n) .run) (suc (endOf (x .node) (idEntry n) .run .handed)))) Open
@@ -344,7 +345,7 @@ module _ (t : List ℕ) (x : Lent) (l : Lists) (G : Good t (x .node) (x .book) l
         let e = endOf (x .node) (idEntry n) in
         slot-outlasts 1 n m (omega arith) (e .run .handed) (data-next .is) (data-next .more) (suc (e .run .handed)) (quietIn data-heeded)
         (omega (arith, data-sender .sending .taken, data-next .more)) (λ j h d. omega arith) (data-apart .quiet)
-        (heeded-quiet data-saved data-long (e .entry .timeout) (slot-length 1 n m (omega arith) .0))
+        (heeded-quiet data-put data-long (e .entry .timeout) (slot-length 1 n m (omega arith) .0))
 
     pub hand-data : Went x (handedOut x (next.Data n)) (next.Data n) → HandKept t x (handedOut x (next.Data n)) l
     unfolding outNode outBook handedRun

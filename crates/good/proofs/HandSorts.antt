@@ -246,7 +246,7 @@ module _ (t : List ℕ) (x : Lent) (l : Lists) (G : Good t (x .node) (x .book) l
           (sender-turn t (x .node) (x .book) l G i (w .known) (open-state .0) Open r tt fits size b′ (less l n) v
           (sender-entered t (x .node) (x .book) l G i (w .known) (open-state .0) b′ (less l n) Open r g o) soon)
 
-      pub open-end : endOf (saved (x .node) i (endOf (x .node) i .state) r) i ≡ turnedTo (endOf (x .node) i) Open r
+      open-end : endOf (saved (x .node) i (endOf (x .node) i .state) r) i ≡ turnedTo (endOf (x .node) i) Open r
       open-end =
           ap (λ (z : State). endOf (saved (x .node) i z r) i) (open-state .1)
           ∙ end-saved (x .node) i Open r (G .long) (entry-low t (x .node) (x .book) l G i (w .known)) tt fits size

@@ -12,7 +12,7 @@ pub mod SetupGood
 pub mod Idling
 pub mod OpenKeeps
 pub mod CloseKeeps
-pub mod Sent
+pub mod RunSets
 pub mod SendKeeps
 pub mod UrgentKeeps
 pub mod AckRuns

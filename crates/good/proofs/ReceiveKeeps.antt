@@ -15,7 +15,6 @@ use Rattle.memory.specs.Layout.{lengthAt, nodeWords, bookHalves}
 use Rattle.waiting.specs.Acks.{placeOf, waitingOf, dropped}
 use Rattle.waiting.specs.Order.{acksIn, notOf}
 use Rattle.waiting.proofs.Ringed.{Ring, from-length, push-acks, push-ring, drop-acks, drop-ring}
-use Rattle.end_points.proofs.Kept.{RunFits}
 use Rattle.window.specs.Windows.{offsetOf, insideOf, held, acceptOf, passOf, runOf, Good as GoodWindow}
 use Rattle.window.specs.declared.Window.{Window}
 use Rattle.window.proofs.Accepting.{found-new, accept-size, accept-good, accept-held}
@@ -32,13 +31,15 @@ use Rattle.end_points.specs.declared.State.the-variants.{Open}
 use Rattle.end_points.specs.declared.Run.{Run}
 use Rattle.end_points.specs.declared.EndPoint.{EndPoint}
 use Rattle.slots.specs.Slots.{cell, past, lengthIn}
-use Rattle.arrive_data.specs.Receiving.{acknowledged, resetAfter, resetNode, withWindow, putBook, taken, repeated, dataAfter}
+use Rattle.arrive_data.specs.Receiving.{acknowledged, resetAfter, resetNode, withWindow, windowNode, putBook}
+use Rattle.arrive_data.specs.Receiving.{taken, repeated, dataAfter}
 use Rattle.arrive_data.proofs.Taking.{dataAfter-new, dataAfter-other}
 use Rattle.timing.specs.Timing.{clockIn, quietIn}
 use Rattle.good.specs.Good.{Lists, Filled, OpenReceiver, Entered, Timely, Owed, Good}
 use Rattle.good.proofs.Known.{is-new, either, stated-as, entered-as, receiver-silent}
 use Rattle.good.proofs.Framing.{Within, within-same, within-set, Apart, apart-then, apart-saved, framed, apart-count, apart-timely, count-low, entry-low, cell-low, length-owner}
 use Rattle.good.proofs.Offsets.{cell-inj, cell-pass}
+use Rattle.good.proofs.RunSets.{window-puts, window-end}
 use Rattle.good.proofs.Turns.{run-fits, turnedTo, end-saved, anew-fits, anew-size, ring-of, saved-acks, owed-other, owed-open, push-apart, push-end, drop-apart, drop-end, not-in, Kept}
 
 -- ---- general
@@ -51,34 +52,27 @@ length-not i (x ∷ xs) = sides (length-not i xs) (eqb (x / 256 % 256) i)
     sides h true = omega arith
     sides h false = omega arith
 
--- ---- a receiver is put back Open, with acknowledgements that are others' or its own
+-- ---- a receiver's end point is Open, however it was put back, with acknowledgements that are others' or its own
 
-module _ (t ws b : List ℕ) (l : Lists) (g : Good t ws b l) (i : ℕ) (li : i < countIn ws) (k : isSends (endOf ws i .entry .kind) ≡ false) where
-  pub receiver-turn : (vs : List ℕ) → Apart i ws vs → length vs ≡ nodeWords → endOf vs i ≡ endOf ws i → waitingOf vs ≤ 32
-      → ((w : ℕ) → List·Memᴰ w (acksIn vs) → (Owed ws w × (w / 256 ≢ i)) ⊎ (w / 256 ≡ i))
-      → (r : Run) → RunFits r → r .window .size ≡ endOf ws i .run .window .size
-      → (b′ : List ℕ) → Within i b b′ l l → Entered b′ l i (turnedTo (endOf ws i) Open r) → Good t (saved vs i Open r) b′ l
-  receiver-turn vs a long same most acks r rf size b′ v e =
-      framed i ws (saved vs i Open r) whole t b b′ l l g v li (rw (ring .0) most) (λ w m. owed w (acks w (subst (λ (ws : List ℕ). List·Memᴰ w ws) (ring .1) m)))
-      (subst (Entered b′ l i) (sym now) e)
-      (subst (λ (z : EndPoint). Timely (clockIn (saved vs i Open r)) (quietIn (saved vs i Open r)) b′ i z (z .state)) (sym now) (λ j h. absurd (omega (arith, none))))
+module _ (t ws b : List ℕ) (l : Lists) (g : Good t ws b l) (i : ℕ) (li : i < countIn ws)
+    (k : isSends (endOf ws i .entry .kind) ≡ false) where
+  receiver-put : (ws′ : List ℕ) → Apart i ws ws′ → waitingOf ws′ ≤ 32
+      → ((w : ℕ) → List·Memᴰ w (acksIn ws′) → (Owed ws w × (w / 256 ≢ i)) ⊎ (w / 256 ≡ i))
+      → (r : Run) → endOf ws′ i ≡ turnedTo (endOf ws i) Open r
+      → (b′ : List ℕ) → Within i b b′ l l → Entered b′ l i (turnedTo (endOf ws i) Open r) → Good t ws′ b′ l
+  receiver-put ws′ whole most acks r now b′ v e =
+      framed i ws ws′ whole t b b′ l l g v li most (λ w m. owed w (acks w m)) (subst (Entered b′ l i) (sym now) e)
+      (subst (λ (z : EndPoint). Timely (clockIn ws′) (quietIn ws′) b′ i z (z .state)) (sym now)
+      (λ j h. absurd (omega (arith, none))))
     where
       -- a receiver hands out no data
       none : r .handed ≡ 0
       none = stated-as b′ l i (turnedTo (endOf ws i) Open r) e false k Open refl .receiving .handed
 
-      whole : Apart i ws (saved vs i Open r)
-      whole = apart-then i ws vs (saved vs i Open r) a (apart-saved i vs Open r)
-
-      ring : (waitingOf (saved vs i Open r) ≡ waitingOf vs) × (acksIn (saved vs i Open r) ≡ acksIn vs)
-      ring = saved-acks vs i Open r
-
-      now : endOf (saved vs i Open r) i ≡ turnedTo (endOf ws i) Open r
-      now = end-saved vs i Open r long (entry-low t ws b l g i li) tt rf (rw same size) ∙ ap (λ (e : EndPoint). turnedTo e Open r) same
-
-      owed : (w : ℕ) → (Owed ws w × (w / 256 ≢ i)) ⊎ (w / 256 ≡ i) → Owed (saved vs i Open r) w
-      owed w (inl o) = owed-other i ws (saved vs i Open r) whole w (o .0) (o .1)
-      owed w (inr h) = record { known = rw (h, apart-count i ws (saved vs i Open r) whole) li; receives = rw (h, now) k; opened = rw (h, now) }
+      owed : (w : ℕ) → (Owed ws w × (w / 256 ≢ i)) ⊎ (w / 256 ≡ i) → Owed ws′ w
+      owed w (inl o) = owed-other i ws ws′ whole w (o .0) (o .1)
+      owed w (inr h) =
+          record { known = rw (h, apart-count i ws ws′ whole) li; receives = rw (h, now) k; opened = rw (h, now) }
 
 -- ---- a Reset
 
@@ -140,17 +134,27 @@ module _ (t : List ℕ) (x : Lent) (l : Lists) (g : Good t (x .node) (x .book) l
       record {
         lists = l;
         good =
-            receiver-turn t (x .node) (x .book) l g i li k vs reset-apart (reset-apart .long ∙ g .long) reset-same
-            (push-ring (dropped i (x .node)) (drop-ring i (x .node) ring) (i * 256 + 0) (omega (arith, shorter)) .most)
-            (λ w m. sides w (List·Memᴰ·append-cases (notOf i (acksIn (x .node))) (subst (λ (ws : List ℕ). List·Memᴰ w ws) (reset-acks h) m)))
-            (anew (endOf (x .node) i .run)) (anew-fits (endOf (x .node) i .run) (run-fits (x .node) i)) (anew-size (endOf (x .node) i .run))
-            (x .book) (within-same i (x .book) l (g .lines)) reset-entered;
-        apart = apart-then i (x .node) vs (saved vs i Open (anew (endOf (x .node) i .run))) reset-apart (apart-saved i vs Open (anew (endOf (x .node) i .run)));
+            receiver-put t (x .node) (x .book) l g i li k (saved vs i Open r) whole
+            (rw (same .0)
+            (push-ring (dropped i (x .node)) (drop-ring i (x .node) ring) (i * 256 + 0) (omega (arith, shorter)) .most))
+            (λ w m. sides w (List·Memᴰ·append-cases (notOf i (acksIn (x .node)))
+            (subst (λ (ws : List ℕ). List·Memᴰ w ws) (same .1 ∙ reset-acks h) m)))
+            r reset-end (x .book) (within-same i (x .book) l (g .lines)) reset-entered;
+        apart = whole;
         within = within-same i (x .book) l (g .lines);
       }
     where
       vs : List ℕ
       vs = acknowledged (dropped i (x .node)) i 0
+
+      r : Run
+      r = anew (endOf (x .node) i .run)
+
+      whole : Apart i (x .node) (saved vs i Open r)
+      whole = apart-then i (x .node) vs (saved vs i Open r) reset-apart (apart-saved i vs Open r)
+
+      same : (waitingOf (saved vs i Open r) ≡ waitingOf vs) × (acksIn (saved vs i Open r) ≡ acksIn vs)
+      same = saved-acks vs i Open r
 
       sides : (w : ℕ) → List·Memᴰ w (notOf i (acksIn (x .node))) ⊎ List·Memᴰ w ((i * 256 + 0) ∷ []) → (Owed (x .node) w × (w / 256 ≢ i)) ⊎ (w / 256 ≡ i)
       sides w (inl m) = inl (left-owed w m)
@@ -230,16 +234,6 @@ module _ (t : List ℕ) (x : Lent) (l : Lists) (g : Good t (x .node) (x .book) l
   v-size : v .size ≡ w .size
   v-size = pass-size a ∙ accept-size w s
 
-  data-run-fits : RunFits (withWindow (e .run) v)
-  unfolding withWindow
-  data-run-fits =
-      let f = run-fits (x .node) i in
-      record { start = pass-good a good-a .byte; taken = f .taken; handed = f .handed; accepted = f .accepted; confirmed = f .confirmed; urgent = f .urgent }
-
-  data-size : withWindow (e .run) v .window .size ≡ w .size
-  unfolding withWindow
-  data-size = v-size
-
   data-entered : isNew (acceptOf w s .found) ≡ true → Entered (putBook (x .book) i e s p) l i (turnedTo e Open (withWindow (e .run) v))
   unfolding withWindow
   data-entered new =
@@ -255,11 +249,13 @@ module _ (t : List ℕ) (x : Lent) (l : Lists) (g : Good t (x .node) (x .book) l
         silent = was .silent;
       })
 
-  pub data-end : endOf (saved (acknowledged (x .node) i s) i Open (withWindow (e .run) v)) i ≡ turnedTo e Open (withWindow (e .run) v)
+  long-acked : length (acknowledged (x .node) i s) ≡ nodeWords
+  long-acked = apart-acked .long ∙ g .long
+
+  pub data-end : endOf (windowNode (acknowledged (x .node) i s) i v) i ≡ turnedTo e Open (withWindow (e .run) v)
   data-end =
-      end-saved (acknowledged (x .node) i s) i Open (withWindow (e .run) v) (apart-acked .long ∙ g .long) small tt data-run-fits
-      (rw end-acked data-size)
-      ∙ ap (λ (q : EndPoint). turnedTo q Open (withWindow (e .run) v)) end-acked
+      window-end (acknowledged (x .node) i s) i long-acked small v (pass-good a good-a .byte) (v-size ∙ rw end-acked)
+      ∙ rw (end-acked, o)
 
   -- an acknowledgement more
   pub data-acks : acksIn (acknowledged (x .node) i s) ≡ acksIn (x .node) ++ ((i * 256 + s) ∷ [])
@@ -272,17 +268,26 @@ module _ (t : List ℕ) (x : Lent) (l : Lists) (g : Good t (x .node) (x .book) l
       sides (inl q) = inl (g .owed m q)
       sides (inr q) = inr (let z = List·Memᴰ·eq-of-singleton q in omega arith)
 
+  -- the window is put, and no acknowledgement alters by that
+  pub data-puts : Apart i (x .node) (windowNode (acknowledged (x .node) i s) i v)
+      × (waitingOf (windowNode (acknowledged (x .node) i s) i v) ≡ waitingOf (acknowledged (x .node) i s))
+      × (acksIn (windowNode (acknowledged (x .node) i s) i v) ≡ acksIn (acknowledged (x .node) i s))
+  data-puts =
+      let p = window-puts (acknowledged (x .node) i s) i long-acked small v in
+      (apart-then i (x .node) (acknowledged (x .node) i s) _ apart-acked (p .apart), p .waits, p .acks)
+
   taken-keeps : isNew (acceptOf w s .found) ≡ true → Kept t x (taken x i e s p) l i
-  taken-keeps new = rw o (record {
+  taken-keeps new = record {
     lists = l;
     good =
-        receiver-turn t (x .node) (x .book) l g i li k (acknowledged (x .node) i s) apart-acked
-        (apart-acked .long ∙ g .long) end-acked (push-ring (x .node) acks-ring (i * 256 + s) room .most)
-        (λ m h. sides m (ℕ-discrete (m / 256) i) (acks-owed m h))
-        (withWindow (e .run) v) data-run-fits data-size (putBook (x .book) i e s p) within (data-entered new);
-    apart = apart-then i (x .node) (acknowledged (x .node) i s) _ apart-acked (apart-saved i (acknowledged (x .node) i s) Open (withWindow (e .run) v));
+        receiver-put t (x .node) (x .book) l g i li k (taken x i e s p .node) (data-puts .0)
+        (rw (data-puts .1) (push-ring (x .node) acks-ring (i * 256 + s) room .most))
+        (λ m h. sides m (ℕ-discrete (m / 256) i)
+        (acks-owed m (subst (λ (ws : List ℕ). List·Memᴰ m ws) (data-puts .2) h)))
+        (withWindow (e .run) v) data-end (putBook (x .book) i e s p) within (data-entered new);
+    apart = data-puts .0;
     within = within;
-  })
+  }
     where
       within : Within i (x .book) (putBook (x .book) i e s p) l l
       within = within-set i (x .book) l (g .lines) (lengthAt (cell i w s)) (length p) (omega arith) (length-owner i small w good-w s)

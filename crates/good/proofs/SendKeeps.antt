@@ -40,7 +40,7 @@ use Rattle.good.proofs.Known.{is-open, stated-as, entered-as}
 use Rattle.good.proofs.Framing.{Within, within-then, within-append, within-set, entry-low, cell-low, length-owner, retries-owner, timely-as, timely-fewer}
 use Rattle.good.proofs.Offsets.{id-high, id-owner, data-ranged, cell-inj, id-inj, ids-more, ids-in}
 use Rattle.good.proofs.Turns.{run-fits, turnedTo, sender-put, Kept, kept-same}
-use Rattle.good.proofs.Sent.{sent-apart, sent-end, sent-acks}
+use Rattle.good.proofs.RunSets.{sent-puts, sent-end}
 use Rattle.good.proofs.Senders.{resends-kept}
 
 -- ---- what waits
@@ -321,7 +321,7 @@ module _ (t : List ℕ) (x : Lent) (l : Lists) (i : ℕ) (p : List ℕ) (g : Goo
   soon : Timely (clockIn (x .node)) (quietIn (sent x i e p .node)) (sent x i e p .book) i (turnedTo e (e .state) (sentRun (e .run))) (e .state)
   unfolding sentRun
   soon =
-      let a = sent-apart (x .node) i (g .long) low few low-count in
+      let a = sent-puts (x .node) i (g .long) low .apart in
       timely-as (clockIn (x .node)) (quietIn (sent x i e p .node)) (x .book) (sent x i e p .book) i e (turnedTo e (e .state) (sentRun (e .run))) refl refl
       (timer (x .book) l (g .lines) i low e window was (length p) (d .some) (d .most) (d .room) none) (e .state)
       (timely-fewer (clockIn (x .node)) (quietIn (x .node)) (quietIn (sent x i e p .node)) (x .book) i e (e .state) (a .quiet) (g .timely i (d .known)))
@@ -331,11 +331,12 @@ module _ (t : List ℕ) (x : Lent) (l : Lists) (i : ℕ) (p : List ℕ) (g : Goo
       record {
         lists = added l datas (idAt i (e .run .window) (e .run .taken));
         good =
-            let a = sent-acks (x .node) i (g .long) low few low-count in
-            sender-put t (x .node) (x .book) l g i (d .known) (d .sends) (sent x i e p .node) (sent-apart (x .node) i (g .long) low few low-count) (a .0) (a .1)
+            let a = sent-puts (x .node) i (g .long) low in
+            sender-put t (x .node) (x .book) l g i (d .known) (d .sends) (sent x i e p .node) (a .apart) (a .waits)
+            (a .acks)
             (sent x i e p .book) (added l datas (idAt i (e .run .window) (e .run .taken))) within
             (turnedTo e (e .state) (sentRun (e .run))) put-end now soon;
-        apart = sent-apart (x .node) i (g .long) low few low-count;
+        apart = sent-puts (x .node) i (g .long) low .apart;
         within = within;
       }
 

@@ -36,7 +36,7 @@ use Rattle.slots.specs.Slots.{cell, past, timerIn, retriesIn}
 use Rattle.timing.specs.Timing.{clockIn, roused}
 use Rattle.timing.proofs.Falling.{left-zero}
 use Rattle.arrive_ack.specs.Acking as memory
-use Rattle.arrive_ack.specs.Acking.{ackAnswer, ackNode, ackBook, ackAfter, stopped}
+use Rattle.arrive_ack.specs.Acking.{ackAnswer, countedNode, ackNode, ackBook, ackAfter, stopped}
 use Rattle.good.specs.Good as good
 use Rattle.good.specs.Good.{Lists, Lines, Sending, OpenSender, FailingSender, Good, ownerOf, mine, idAt}
 use Rattle.good.specs.Calls.{Memory, lent, kept}
@@ -48,6 +48,7 @@ use Rattle.good.proofs.Idling.{none-nil}
 use Rattle.good.proofs.Offsets.{id-owner, id-inj, ids-in}
 use Rattle.good.proofs.Framing.{cell-low}
 use Rattle.good.proofs.Turns.{turnedTo, run-fits, saved-acks, Kept}
+use Rattle.good.proofs.RunSets.{counted-puts}
 use Rattle.good.proofs.Senders.{Timed, timed-set, gone-other}
 use Rattle.good.proofs.AckRuns.{Passes, Counts, counts-says, passes, passed-le, open-book}
 use Rattle.good.proofs.AckKeeps.{Acked, ignored, opened, counted, failed, ack-keeps, ack-ends}
@@ -174,8 +175,8 @@ module _ (t : List ℕ) (n : Memory) (l : Lists) (g : Good t (n .node) (n .book)
     P : Passes i w at p u
     P = passes i (e .run) s window C
 
-    node-acks : (z z′ : State) → now z .node ≡ saved (n .node) i z′ acked → acksIn (now z .node) ≡ acksIn (n .node)
-    node-acks z z′ h = rw h (saved-acks (n .node) i z′ acked .1)
+    node-acks : now Open .node ≡ countedNode (n .node) i acked → acksIn (now Open .node) ≡ acksIn (n .node)
+    node-acks h = rw h (counted-puts (n .node) i (g .long) low acked .acks)
 
     -- with a book b in which its timer stands
     module _ {b : List ℕ} (S : Sending (n .book) i (e .run) (e .entry .largest)) (T : Timed (n .book) b i w at 0)
@@ -363,7 +364,7 @@ module _ (t : List ℕ) (n : Memory) (l : Lists) (g : Good t (n .node) (n .book)
 
       waiting : (r : Sort) → waitingFor (now Open .node) (K .lists) r ≡ notAgain i s M .waiting r
       unfolding waitingFor ackNode
-      waiting acks = ap (map ackItem) (node-acks Open Open (rw c))
+      waiting acks = ap (map ackItem) (node-acks (rw c))
       waiting resets = ap (map plainItem) (lists 0 (omega arith) ∙ book .others 0 (omega arith) (λ z. omega arith))
       waiting urgents = ap (map plainItem) (lists 1 (omega arith) ∙ book .others 1 (omega arith) (λ z. omega arith))
       waiting resends =

@@ -22,7 +22,7 @@ use Rattle.window.proofs.Holding.{held-below}
 use Rattle.table.specs.Areas.{slotsOf, storeOf}
 use Rattle.table.specs.Layout.{entryOf}
 use Rattle.frame.specs.declared.FrameType.the-variants as type
-use Rattle.end_points.specs.Ends.{endOf, saved}
+use Rattle.end_points.specs.Ends.{endOf}
 use Rattle.end_points.specs.Heads.{countIn}
 use Rattle.end_points.specs.Runs as runs
 use Rattle.end_points.specs.Runs.{isNew}
@@ -44,7 +44,8 @@ use Rattle.good.proofs.Lined.{set-lines}
 use Rattle.good.proofs.Offsets.{slot-inj}
 use Rattle.good.proofs.Turns.{turnedTo, saved-acks, ring-of, push-end}
 use Rattle.good.proofs.AckRuns.{Passes, passes}
-use Rattle.good.proofs.ReceiveKeeps.{reset-acks, reset-end, reset-keeps, length-own, length-other, data-end, data-acks, data-keeps}
+use Rattle.good.proofs.ReceiveKeeps.{reset-acks, reset-end, reset-keeps, length-own, length-other, data-end}
+use Rattle.good.proofs.ReceiveKeeps.{data-acks, data-puts, data-keeps}
 use Rattle.good.proofs.Stores.{slot-low}
 use Rattle.good.proofs.Payloads.{payload-apart, r-filled, Stored, unaltered, put}
 use Rattle.machine.specs.Machine as machine
@@ -260,7 +261,6 @@ module _ (t : List ℕ) (n : Memory) (l : Lists) (g : Good t (n .node) (n .book)
       end : endOf (now-d .node) i ≡ turnedTo e (e .state) (withWindow (e .run) u)
       end =
           ap (λ (y : Lent). endOf (y .node) i) now-new
-          ∙ ap (λ (z : State). endOf (saved (acknowledged (n .node) i s) i z (withWindow (e .run) u)) i) o
           ∙ data-end t x l g i li kind o s hs p some-p most-p few
           ∙ ap (λ (z : State). turnedTo e z (withWindow (e .run) u)) (sym o)
 
@@ -284,7 +284,7 @@ module _ (t : List ℕ) (n : Memory) (l : Lists) (g : Good t (n .node) (n .book)
       new-stands =
           data-stands new-stored b′ (ap (λ (y : Lent). y .book) now-new)
           (set-lines (n .book) l (g .lines) (lengthAt (cell i w s)) (length p) (omega arith))
-          (ap (λ (y : Lent). acksIn (y .node)) now-new ∙ saved-acks (acknowledged (n .node) i s) i (e .state) (withWindow (e .run) u) .1)
+          (ap (λ (y : Lent). acksIn (y .node)) now-new ∙ data-puts t x l g i li kind o s hs p some-p most-p few .2)
           (handing-on (length (heldRun ps)) ps (endAt n i)) E-new
 
     -- both

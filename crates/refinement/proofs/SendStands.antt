@@ -22,7 +22,6 @@ use Rattle.waiting.specs.Queues.{appended}
 use Rattle.waiting.specs.Order.{acksIn}
 use Rattle.window.specs.Windows.{Good as GoodWindow}
 use Rattle.window.specs.declared.Window.{Window}
-use Rattle.window.proofs.Sizes.{size-le}
 use Rattle.table.specs.Layout.{entryOf}
 use Rattle.table.specs.Areas.{slotsOf, storeOf}
 use Rattle.end_points.specs.Ends.{endOf}
@@ -41,8 +40,8 @@ use Rattle.machine.specs.Calls.{sends, urges}
 use Rattle.good.proofs.Lined.{append-cells, append-lines}
 use Rattle.good.proofs.Offsets.{cell-inj, slot-inj, urgent-owner}
 use Rattle.good.proofs.Framing.{cell-low, slot-lt}
-use Rattle.good.proofs.Turns.{turnedTo, run-fits, saved-acks}
-use Rattle.good.proofs.Sent.{sent-acks}
+use Rattle.good.proofs.Turns.{turnedTo, saved-acks}
+use Rattle.good.proofs.RunSets.{sent-puts}
 use Rattle.good.proofs.SendKeeps.{next-waits, SendPassed, send-passed, send-keeps}
 use Rattle.good.proofs.Stores.{slot-low, urgent-low, slots-stay}
 use Rattle.good.proofs.Payloads.{payload-apart, s-filled, put}
@@ -183,10 +182,7 @@ module _ (t : List ℕ) (n : Memory) (l : Lists) (g : Good t (n .node) (n .book)
     window-stays = ap (λ (x : EndPoint). x .run .window) end
 
     acks-stay : acksIn (now .node) ≡ acksIn (n .node)
-    acks-stay =
-        let y = size-le (w .size) (good .sized) in
-        let z = run-fits (n .node) i .accepted in
-        rw (went .is) (sent-acks (n .node) i (g .long) low (omega (arith, went .room)) (omega (arith, went .counted)) .1)
+    acks-stay = rw (went .is) (sent-puts (n .node) i (g .long) low .acks)
 
     abbrev next : ℕ
     next = machine.past E (length (E .numbers))

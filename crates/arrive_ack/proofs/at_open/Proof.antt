@@ -22,11 +22,13 @@ cell-of-requires c κs = search needs
 
 stop-requires : tie.Need-stop-requires
 stop-requires c κs =
-    let a = c .before .before .before .before .before .before .before .before .before .args in
-    omega (arith, c .cell-of .ensures, cell-lt (a .i) (a .e .run .window) (a .s .0) (search needs) (omega (arith, c .before .before .before .before .before .before .before .before .before .good .1 .1 .1 .1)))
+    let z = c .before .before .before .before .before .before .before .before .before in
+    let a = z .args in
+    let few = cell-lt (a .i) (a .e .run .window) (a .s .0) (search needs) (omega (arith, z .good .1 .1 .1 .1)) in
+    omega (arith, c .cell-of .ensures, few)
 
-save-requires : tie.Need-save-requires
-save-requires c κs = search needs
+put-counted-requires : tie.Need-put-counted-requires
+put-counted-requires c κs = search needs
 
 returns : tie.Need-returns
 unfolding ackAnswer ackNode ackBook
@@ -41,8 +43,17 @@ same-length-2 c = search needs
 returns-2 : tie.Need-returns-2
 unfolding ackAnswer ackNode ackBook
 returns-2 c =
-    let h = counted _ _ _ _ (sym (c .before .before .before .before .before .before .before .before .before .before .before .before .tally-of .ensures) ∙ c .before .before .before .before .before .before .before .before .before .before .next .given .1) in
-    rw (h .0) (rw (h .1 .1), (rw (c .before .before .save .ensures, h .1 .0), rw (c .before .before .before .before .before .before .stop .ensures, c .before .before .before .before .before .before .before .cell-of .ensures)))
+    let u = c .before .before .before .before .before .before in
+    let t = u .before .before .before .before .before .before in
+    let g = c .before .before .before .before .before .before .before .before .before .before .next .given .1 in
+    let h = counted _ _ _ _ (sym (t .tally-of .ensures) ∙ g) in
+    rw (h .0) (
+      rw (h .1 .1),
+      (
+        rw (c .before .before .put-counted .ensures, h .1 .0),
+        rw (u .stop .ensures, u .before .cell-of .ensures),
+      ),
+    )
 
 pub at-open-spec : {M : Type 1} → statement M
 at-open-spec =
@@ -53,7 +64,7 @@ at-open-spec =
     enum-known-next
     cell-of-requires
     stop-requires
-    save-requires
+    put-counted-requires
     returns
     same-length
     same-length-2

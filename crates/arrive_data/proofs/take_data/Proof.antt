@@ -26,14 +26,14 @@ pass-requires c κs = search needs
 put-block-requires : tie.Need-put-block-requires
 put-block-requires c κs = search needs
 
-with-window-requires : tie.Need-with-window-requires
-with-window-requires c κs = search needs
-
-save-requires : tie.Need-save-requires
-save-requires c κs = omega (arith, c .before .before .before .before .before .before .before .before .before .before .before .before .before .before .before .before .before .before .before .before .before .before .before .before .before .before .before .before .before .before .fits .i)
+put-window-requires : tie.Need-put-window-requires
+put-window-requires c κs =
+    let k = c .before .before .before .before .before .before .before .before .before .before .before .before in
+    let p = k .before .before .before .before .before .before .before .before in
+    omega (arith, p .before .before .before .before .before .before .before .before .fits .i)
 
 same-length : tie.Need-same-length
-same-length c = c .before .before .save .kept .0 ∙ c .before .before .before .before .before .before .before .before .before .before .before .before .before .before .before .before .before .before .before .before .before .before .before .before .push .kept .0
+same-length c = search needs
 
 same-length-2 : tie.Need-same-length-2
 same-length-2 c = search needs
@@ -46,13 +46,28 @@ same-length-4 c = search needs
 
 returns : tie.Need-returns
 returns c =
-    let a = c .before .before .before .before .before .before .before .before .before .before .before .before .before .before .before .before .before .before .before .before .before .before .before .before .before .before .before .before .before .before .before .before .before .args in
+    let passed = c .before .before .before .before .before .before .before .before .before .before in
+    let kept = passed .before .before .before .before .before in
+    let pushed = kept .before .before .before .before .before .before .before .before in
+    let a = pushed .before .before .before .before .before .before .before .before .args in
     let x : Lent = record { node = now (a .node); book = now (a .book); store = now (a .store); out = now (a .out) } in
-    let new = rw (c .before .before .before .before .before .before .before .before .before .before .before .before .before .before .before .before .before .before .before .before .before .accept .ensures) at (sym (c .before .before .before .before .before .before .before .before .before .before .before .before .before .before .before .before .before .before .before .before .is-new .ensures) ∙ c .before .before .before .before .before .before .before .before .before .before .before .before .before .before .before .before .before .before .before .if1 .taken) in
-    let kept = c .before .before .before .before .before .before .before .before .before .before .before .before .before .before .before .before .keep in
-    let block = c .before .before .before .before .before .before .before .put-block in
-    rw (c .before .before .save .ensures, c .before .before .before .with-window .ensures, block .ensures .0, block .ensures .1, c .before .before .before .before .before .before .before .before .before .before .before .pass .ensures, kept .ensures .0, kept .ensures .1, c .before .before .before .before .before .before .before .before .before .before .before .before .before .before .before .before .before .before .before .before .before .before .before .before .push .ensures, c .before .before .before .before .before .before .before .before .before .before .before .before .before .before .before .before .before .before .before .before .before .accept .ensures)
-    (sym (dataAnswer-new x (a .i) (a .e) (a .s .0) (now (a .payload)) new), sym (dataAfter-new x (a .i) (a .e) (a .s .0) (now (a .payload)) new))
+    let accepted = kept .before .before .before .before .before .accept .ensures in
+    let tested = kept .before .before .before in
+    let new = rw accepted at (sym (tested .before .is-new .ensures) ∙ tested .if1 .taken) in
+    let block = c .before .before .before .before .before .before .put-block in
+    rw (
+      c .before .before .put-window .ensures,
+      block .ensures .0,
+      block .ensures .1,
+      passed .pass .ensures,
+      kept .keep .ensures .0,
+      kept .keep .ensures .1,
+      pushed .push .ensures,
+      accepted,
+    ) (
+      sym (dataAnswer-new x (a .i) (a .e) (a .s .0) (now (a .payload)) new),
+      sym (dataAfter-new x (a .i) (a .e) (a .s .0) (now (a .payload)) new),
+    )
 
 put-none-requires : tie.Need-put-none-requires
 put-none-requires c κs = search needs
@@ -65,12 +80,17 @@ same-length-6 c = search needs
 
 returns-2 : tie.Need-returns-2
 returns-2 c =
-    let a = c .before .before .before .before .before .before .before .before .before .before .before .before .before .before .before .before .before .before .args in
+    let pushed = c .before .before .before .before .before .before .before .before .before in
+    let a = pushed .before .before .before .before .before .before .before .before .args in
     let x : Lent = record { node = now (a .node); book = now (a .book); store = now (a .store); out = now (a .out) } in
-    let other = rw (c .before .before .before .before .before .before .accept .ensures) at (sym (c .before .before .before .before .before .is-new .ensures) ∙ c .before .before .before .before .if1 .left) in
+    let tested = c .before .before .before .before in
+    let accepted = tested .before .before .accept .ensures in
+    let other = rw accepted at (sym (tested .before .is-new .ensures) ∙ tested .if1 .left) in
     let block = c .before .before .put-none in
-    rw (block .ensures .0, block .ensures .1, c .before .before .before .before .before .before .before .before .before .push .ensures)
-    (sym (dataAnswer-other x (a .i) (a .e) (a .s .0) (now (a .payload)) other), sym (dataAfter-other x (a .i) (a .e) (a .s .0) (now (a .payload)) other))
+    rw (block .ensures .0, block .ensures .1, pushed .push .ensures) (
+      sym (dataAnswer-other x (a .i) (a .e) (a .s .0) (now (a .payload)) other),
+      sym (dataAfter-other x (a .i) (a .e) (a .s .0) (now (a .payload)) other),
+    )
 
 pub take-data-spec : {M : Type 1} → statement M
 take-data-spec =
@@ -82,8 +102,7 @@ take-data-spec =
     keep-requires
     pass-requires
     put-block-requires
-    with-window-requires
-    save-requires
+    put-window-requires
     same-length
     same-length-2
     same-length-3

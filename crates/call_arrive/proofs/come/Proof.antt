@@ -4,9 +4,6 @@ use borrow.Author.Needs.{needs}
 use Rattle.call_arrive.proofs.come.Statement.{statement}
 use Rattle.call_arrive.proofs.come.Tie as tie
 
-read-end-requires : tie.Need-read-end-requires
-read-end-requires c κs = search needs
-
 judge-requires : tie.Need-judge-requires
 judge-requires c κs = search needs
 
@@ -16,6 +13,9 @@ enum-known-w c = search needs
 enum-told : tie.Need-enum-told
 enum-told c = search needs
 
+read-end-requires : tie.Need-read-end-requires
+read-end-requires c κs = search needs
+
 take-requires : tie.Need-take-requires
 take-requires c κs = search needs
 
@@ -24,7 +24,7 @@ same-length c = search needs
 
 returns : tie.Need-returns
 returns c =
-    let q = rw (c .before .before .before .before .before .read-end .ensures) at (sym (c .before .before .before .judge .ensures) ∙ c .before .w .given .1) in
+    let q = sym (c .before .before .before .judge .ensures) ∙ c .before .w .given .1 in
     (rw q, rw q)
 
 same-length-2 : tie.Need-same-length-2
@@ -41,19 +41,20 @@ same-length-5 c = search needs
 
 returns-2 : tie.Need-returns-2
 returns-2 c =
-    let l = c .before .before .before .before .before .before .before .before .before .before .before .before .before .before .before .before .before .read-end .ensures in
-    let q = rw l at (sym (c .before .before .before .before .before .before .before .before .before .before .before .before .before .before .before .judge .ensures) ∙ c .before .before .before .before .before .before .before .before .before .before .before .before .before .enum-told .given .1) in
-    let d = c .before .before .before .before .before .before .before .before .take .ensures in
-    (rw q (rw l at (d .0)), rw q (rw l at (d .1)))
+    let t = c .before .before .before .before .before .before .before .before in
+    let l = t .before .before .before .before .before in
+    let q = sym (l .before .before .before .before .judge .ensures) ∙ l .before .before .enum-told .given .1 in
+    let e = l .read-end .ensures in
+    (rw q (rw e at (t .take .ensures .0)), rw q (rw e at (t .take .ensures .1)))
 
 pub come-spec : {M : Type 1} → statement M
 come-spec =
     tie.close
     (tie.spec
-    read-end-requires
     judge-requires
     enum-known-w
     enum-told
+    read-end-requires
     take-requires
     same-length
     returns

@@ -1,36 +1,46 @@
-use Prim.Native.Nat.{_+_}
+-- `call_arrive::judging::block_room` meets its contract. Assumes nothing.
+use Prim.Native.Nat.{_+_, _%_}
 use native.Mathlib.Omega.{arith}
+use Rattle.end_points.specs.Ends.{loadRun, endOf}
 use Rattle.call_arrive.proofs.Room.{room-lt}
 use borrow.Author.Needs.{needs}
 use Rattle.call_arrive.proofs.judging.block_room.Statement.{statement}
 use Rattle.call_arrive.proofs.judging.block_room.Tie as tie
-use Rattle.call_arrive.proofs.judging.block_room.Reads as reads
-use Rattle.call_arrive.proofs.judging.block_room.Lts as lts
 
--- src/judging.rt:47:9
+load-entry-requires : tie.Need-load-entry-requires
+load-entry-requires c κs = search needs
+
 cast-result : tie.Need-cast-result
 cast-result c = search needs
 
--- src/judging.rt:47:43
 cast-result-2 : tie.Need-cast-result-2
 cast-result-2 c = search needs
 
--- src/judging.rt:47:39
 add-result : tie.Need-add-result
 add-result c = search needs
 
--- src/judging.rt:47:9
 mul-result : tie.Need-mul-result
-mul-result c = omega (arith, room-lt (c .before .before .args .e .run .window .size) (4 + c .before .before .args .e .entry .largest) (search needs) (omega arith))
+mul-result c =
+    let l = c .before .before .load-entry in
+    omega (arith, room-lt (l .result .window % 256) (4 + l .result .largest) (omega arith) (omega (arith, l .ok)))
 
--- src/judging.rt:47:5
 add-result-2 : tie.Need-add-result-2
-add-result-2 c = omega (arith, room-lt (c .before .before .args .e .run .window .size) (4 + c .before .before .args .e .entry .largest) (search needs) (omega arith))
+add-result-2 c =
+    let l = c .before .before .load-entry in
+    omega (arith, room-lt (l .result .window % 256) (4 + l .result .largest) (omega arith) (omega (arith, l .ok)))
 
--- src/judging.rt:44:1
 returns : tie.Need-returns
-returns c = search needs
+unfolding endOf loadRun
+returns c = rw (c .before .before .load-entry .ensures)
 
 pub block-room-spec : {M : Type 1} → statement M
 block-room-spec =
-    tie.close (tie.spec cast-result cast-result-2 add-result mul-result add-result-2 returns)
+    tie.close
+    (tie.spec
+    load-entry-requires
+    cast-result
+    cast-result-2
+    add-result
+    mul-result
+    add-result-2
+    returns)

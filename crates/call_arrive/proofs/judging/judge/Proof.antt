@@ -4,6 +4,7 @@ use mathlib.Core.Bool.{true, false}
 use denote.Ref.{now}
 use lib.Dec.{leb}
 use borrow.Author.Tests.{le-leb, lt-leb}
+use Rattle.end_points.specs.Ends.{endOf}
 use Rattle.end_points.specs.Heads.{countIn}
 use Rattle.end_points.specs.States.{isClosed}
 use Rattle.frame.specs.Types.{carries}
@@ -17,17 +18,25 @@ count-requires c κs = search needs
 returns : tie.Need-returns
 returns c =
     let a = c .before .before .before .args in
-    let t1 : leb (countIn (now (a .node))) (a .i) ≡ true = rw (c .before .count .ensures) at (le-leb _ _ (c .if1 .taken)) in
+    let t1 : leb (countIn (now (a .node))) (a .i) ≡ true =
+    rw (c .before .count .ensures) at (le-leb _ _ (c .if1 .taken)) in
     rw t1
+
+load-state-requires : tie.Need-load-state-requires
+load-state-requires c κs = search needs
 
 is-closed-requires : tie.Need-is-closed-requires
 is-closed-requires c κs = search needs
 
 returns-2 : tie.Need-returns-2
+unfolding endOf
 returns-2 c =
-    let a = c .before .before .before .before .before .args in
-    let t1 : leb (countIn (now (a .node))) (a .i) ≡ false = rw (c .before .before .before .count .ensures) at (lt-leb _ _ (c .before .before .if1 .left)) in
-    let t2 : isClosed (a .e .state) ≡ true = sym (c .before .is-closed .ensures) ∙ c .if2 .taken in
+    let l = c .before .before in
+    let a = l .before .before .before .before .args in
+    let t1 : leb (countIn (now (a .node))) (a .i) ≡ false =
+    rw (l .before .before .count .ensures) at (lt-leb _ _ (l .before .if1 .left)) in
+    let t2 : isClosed (endOf (now (a .node)) (a .i) .state) ≡ true =
+    rw (l .load-state .ensures) at (sym (c .before .is-closed .ensures) ∙ c .if2 .taken) in
     rw (t1, t2)
 
 is-delivered-requires : tie.Need-is-delivered-requires
@@ -37,10 +46,15 @@ judge-payload-requires : tie.Need-judge-payload-requires
 judge-payload-requires c κs = search needs
 
 returns-3 : tie.Need-returns-3
+unfolding endOf
 returns-3 c =
-    let a = c .before .before .before .before .before .before .before .before .args in
-    let t1 : leb (countIn (now (a .node))) (a .i) ≡ false = rw (c .before .before .before .before .before .before .count .ensures) at (lt-leb _ _ (c .before .before .before .before .before .if1 .left)) in
-    let t2 : isClosed (a .e .state) ≡ false = sym (c .before .before .before .before .is-closed .ensures) ∙ c .before .before .before .if2 .left in
+    let l = c .before .before .before .before .before in
+    let a = l .before .before .before .before .args in
+    let t1 : leb (countIn (now (a .node))) (a .i) ≡ false =
+    rw (l .before .before .count .ensures) at (lt-leb _ _ (l .before .if1 .left)) in
+    let t2 : isClosed (endOf (now (a .node)) (a .i) .state) ≡ false =
+    rw (l .load-state .ensures)
+    at (sym (c .before .before .before .before .is-closed .ensures) ∙ c .before .before .before .if2 .left) in
     let t3 : carries (a .t) ≡ true = sym (c .before .before .is-delivered .ensures) ∙ c .before .if3 .taken in
     rw (t1, t2, t3) (c .judge-payload .ensures)
 
@@ -48,10 +62,15 @@ judge-bare-requires : tie.Need-judge-bare-requires
 judge-bare-requires c κs = search needs
 
 returns-4 : tie.Need-returns-4
+unfolding endOf
 returns-4 c =
-    let a = c .before .before .before .before .before .before .before .before .args in
-    let t1 : leb (countIn (now (a .node))) (a .i) ≡ false = rw (c .before .before .before .before .before .before .count .ensures) at (lt-leb _ _ (c .before .before .before .before .before .if1 .left)) in
-    let t2 : isClosed (a .e .state) ≡ false = sym (c .before .before .before .before .is-closed .ensures) ∙ c .before .before .before .if2 .left in
+    let l = c .before .before .before .before .before in
+    let a = l .before .before .before .before .args in
+    let t1 : leb (countIn (now (a .node))) (a .i) ≡ false =
+    rw (l .before .before .count .ensures) at (lt-leb _ _ (l .before .if1 .left)) in
+    let t2 : isClosed (endOf (now (a .node)) (a .i) .state) ≡ false =
+    rw (l .load-state .ensures)
+    at (sym (c .before .before .before .before .is-closed .ensures) ∙ c .before .before .before .if2 .left) in
     let t3 : carries (a .t) ≡ false = sym (c .before .before .is-delivered .ensures) ∙ c .before .if3 .left in
     rw (t1, t2, t3) (c .judge-bare .ensures)
 
@@ -61,6 +80,7 @@ judge-spec =
     (tie.spec
     count-requires
     returns
+    load-state-requires
     is-closed-requires
     returns-2
     is-delivered-requires

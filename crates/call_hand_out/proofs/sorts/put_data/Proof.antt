@@ -2,7 +2,7 @@
 use Rattle.call_hand_out.specs.Handing.{fitted, once, dataFrame}
 use lib.Seq.{sets}
 use denote.Ref.{now}
-use mathlib.Core.Path.{_≡_, refl, _∙_}
+use mathlib.Core.Path.{_≡_, refl}
 use native.Mathlib.Omega.{arith}
 use Rattle.end_points.specs.Ends.{endOf}
 use borrow.Author.Needs.{needs}
@@ -12,10 +12,28 @@ use Rattle.call_hand_out.proofs.sorts.put_data.Tie as tie
 -- the frame that is put is the slot's data
 data-put :
     (c : tie.After-put-frame) →
-    (c .put-frame .result ≡ fitted (now (c .before .before .before .before .before .before .before .before .before .before .before .before .before .before .before .before .before .before .before .before .before .args .frame)) (dataFrame (now (c .before .before .before .before .before .before .before .before .before .before .before .before .before .before .before .before .before .before .before .before .before .args .node)) (now (c .before .before .before .before .before .before .before .before .before .before .before .before .before .before .before .before .before .before .before .before .before .args .book)) (now (c .before .before .before .before .before .before .before .before .before .before .before .before .before .before .before .before .before .before .before .before .before .args .store)) (c .before .before .before .before .before .before .before .before .before .before .before .before .before .before .before .before .before .before .before .before .before .args .x))) × (c .put-frame .last .0 ≡ once (c .put-frame .result) (now (c .before .before .before .before .before .before .before .before .before .before .before .before .before .before .before .before .before .before .before .before .before .args .frame)) (sets (now (c .before .before .before .before .before .before .before .before .before .before .before .before .before .before .before .before .before .before .before .before .before .args .frame)) 0 (dataFrame (now (c .before .before .before .before .before .before .before .before .before .before .before .before .before .before .before .before .before .before .before .before .before .args .node)) (now (c .before .before .before .before .before .before .before .before .before .before .before .before .before .before .before .before .before .before .before .before .before .args .book)) (now (c .before .before .before .before .before .before .before .before .before .before .before .before .before .before .before .before .before .before .before .before .before .args .store)) (c .before .before .before .before .before .before .before .before .before .before .before .before .before .before .before .before .before .before .before .before .before .args .x))))
+    let z = c .before .before .before .before .before .before .before .before .before .before
+    .before .before .before .before .before .before .before .before .before .before .before .args in
+    let f = dataFrame (now (z .node)) (now (z .book)) (now (z .store)) (z .x) in
+    (c .put-frame .result ≡ fitted (now (z .frame)) f)
+    × (c .put-frame .last .0 ≡ once (c .put-frame .result) (now (z .frame)) (sets (now (z .frame)) 0 f))
 unfolding dataFrame endOf
 data-put c =
-    rw (c .before .part .ensures, c .before .before .before .spot-of .ensures, c .before .before .before .before .load-place .ensures, c .before .before .before .before .before .before .half-at .ensures, c .before .before .before .before .before .before .before .before .fields-to .ensures, c .before .before .before .before .before .before .before .before .before .before .number-in .ensures, c .before .before .before .before .before .before .before .before .before .before .before .run-of .ensures, c .before .before .before .before .before .before .before .before .before .before .before .before .before .load-entry .ensures, c .before .before .before .before .before .before .before .before .before .before .before .before .before .before .before .less .ensures, c .before .before .before .before .before .before .before .before .before .before .before .before .before .before .before .before .entry-of .ensures) at (c .put-frame .ensures)
+    let p = c .before .before .before .before in
+    let n = p .before .before .before .before .before .before in
+    let l = n .before .before .before in
+    rw (
+      c .before .part .ensures,
+      c .before .before .before .spot-of .ensures,
+      p .load-place .ensures,
+      p .before .before .half-at .ensures,
+      p .before .before .before .before .fields-to .ensures,
+      n .number-in .ensures,
+      n .before .run-of .ensures,
+      l .load-entry .ensures,
+      l .before .before .less .ensures,
+      l .before .before .before .entry-of .ensures,
+    ) at (c .put-frame .ensures)
 
 entry-of-requires : tie.Need-entry-of-requires
 entry-of-requires c κs = search needs
@@ -72,10 +90,16 @@ unlink-requires : tie.Need-unlink-requires
 unlink-requires c κs = search needs
 
 cast-put-half : tie.Need-cast-put-half
-cast-put-half c = omega (arith, c .before .before .before .before .before .before .before .before .before .before .before .before .before .before .before .before .before .before .before .before .before .before .before .before .before .less .ok)
+cast-put-half c =
+    let f = c .before .before .before .before .before .before .before in
+    let l = f .before .before .before .before .before .before .before .before .before in
+    omega (arith, l .before .before .before .before .before .before .before .before .before .less .ok)
 
 add-put-half : tie.Need-add-put-half
-add-put-half c = omega (arith, c .before .before .before .before .before .before .before .before .before .before .before .before .before .before .before .before .before .before .before .before .before .before .before .before .before .less .ok)
+add-put-half c =
+    let f = c .before .before .before .before .before .before .before in
+    let l = f .before .before .before .before .before .before .before .before .before in
+    omega (arith, l .before .before .before .before .before .before .before .before .before .less .ok)
 
 clock-requires : tie.Need-clock-requires
 clock-requires c κs = search needs
@@ -86,14 +110,11 @@ later-requires c κs = search needs
 put-half-requires : tie.Need-put-half-requires
 put-half-requires c κs = search needs
 
-load-state-requires : tie.Need-load-state-requires
-load-state-requires c κs = omega (arith, c .before .before .before .before .before .before .before .before .before .before .before .before .before .before .before .before .before .before .before .before .before .before .before .before .before .before .before .before .before .before .before .before .before .before .entry-of .ensures)
-
-handed-run-requires : tie.Need-handed-run-requires
-handed-run-requires c κs = search needs
-
-save-requires : tie.Need-save-requires
-save-requires c κs = omega (arith, c .before .before .before .before .before .before .before .before .before .before .before .before .before .before .before .before .before .before .before .before .before .before .before .before .before .before .before .before .before .before .before .before .before .before .before .before .entry-of .ensures)
+put-handed-requires : tie.Need-put-handed-requires
+put-handed-requires c κs =
+    let f = c .before .before .before .before .before .before .before .before .before .before .before .before in
+    let r = f .before .before .before .before .before .before .before .before .before .before .before .before in
+    omega (arith, r .before .before .before .before .before .before .before .before .before .entry-of .ensures)
 
 heed-requires : tie.Need-heed-requires
 heed-requires c κs = search needs
@@ -116,18 +137,43 @@ same-length-4 : tie.Need-same-length-4
 same-length-4 c = search needs
 
 same-length-5 : tie.Need-same-length-5
-same-length-5 c = c .before .before .before .before .before .before .before .before .before .before .before .before .before .put-half .kept .0 ∙ c .before .before .before .before .before .before .before .before .before .before .before .before .before .before .before .before .before .before .before .before .unlink .kept .0
+same-length-5 c = search needs
 
 same-length-6 : tie.Need-same-length-6
-same-length-6 c = c .before .before .before .before .before .before .before .before .before .before .before .before .before .before .before .before .before .before .before .before .before .before .before .before .before .before .before .put-frame .kept .0
+same-length-6 c = search needs
 
 returns-2 : tie.Need-returns-2
 unfolding endOf
 returns-2 c =
-    let p = rw (c .before .before .before .before .before .before .before .before .before .before .before .before .before .before .before .before .before .before .before .before .before .before .before .n .given .1) at (data-put (c .before .before .before .before .before .before .before .before .before .before .before .before .before .before .before .before .before .before .before .before .before .before .before .before .before .before .before)) in
-    let l = c .before .before .before .before .before .before .before .before .before .before .before .before .before .before .before .before .before .before .before .before .before .before .before .before .before .before .before .before .before .before .before .before .before .before .before .before .before .before .before .before in
+    let h = c .before .before .before .before .before .before .before .before .before .before in
+    let u = h .before .before .before .before .before .before .before in
+    let f = u .before .before .before .before .before .before .before in
+    let l = f .before .before .before .before .before .before .before .before .before .before .before .before .before in
     let e = l .before .before .before .entry-of .ensures in
-    (p .0, (rw (c .before .before .heed .ensures, c .before .before .before .before .before .before .save .ensures, c .before .before .before .before .before .before .before .handed-run .ensures, c .before .before .before .before .before .before .before .before .load-state .ensures, c .before .before .before .before .before .before .before .before .before .before .before .before .before .before .before .before .before .before .before .before .before .before .before .before .before .before .before .before .before .before .before .before .before .before .before .before .before .before .run-of .ensures, l .load-entry .ensures, e), (rw (c .before .before .before .before .before .before .before .before .before .before .before .before .before .put-half .ensures, c .before .before .before .before .before .before .before .before .before .before .before .before .before .before .later .ensures, c .before .before .before .before .before .before .before .before .before .before .before .before .before .before .before .clock .ensures, c .before .before .before .before .before .before .before .before .before .before .before .before .before .before .before .before .before .before .before .before .unlink .ensures, l .load-entry .ensures, l .before .before .less .ensures, e), p .1)))
+    let p = rw (u .before .before .before .n .given .1) at (data-put f) in (
+      p .0,
+      (
+        rw (
+          c .before .before .heed .ensures,
+          c .before .before .before .before .before .before .put-handed .ensures,
+          f .before .before .before .before .before .before .before .before .before .before .before .run-of .ensures,
+          l .load-entry .ensures,
+          e,
+        ),
+        (
+          rw (
+            h .put-half .ensures,
+            h .before .later .ensures,
+            h .before .before .clock .ensures,
+            u .unlink .ensures,
+            l .load-entry .ensures,
+            l .before .before .less .ensures,
+            e,
+          ),
+          p .1,
+        ),
+      ),
+    )
 
 pub put-data-spec : {M : Type 1} → statement M
 put-data-spec =
@@ -156,9 +202,7 @@ put-data-spec =
     clock-requires
     later-requires
     put-half-requires
-    load-state-requires
-    handed-run-requires
-    save-requires
+    put-handed-requires
     heed-requires
     same-length
     same-length-2
