@@ -88,7 +88,8 @@ stopped b g = set (pick (eqb (timerIn b g) 0) (unlinked b (cellId g)) b) (timerA
 abbrev pub fewer : ℕ → ℕ → ℕ
 fewer t n = pick (eqb t 0) n (n - 1)
 
--- a number counts at Open: of an end point's words six alter, and the run that is loaded then is r [A4]
+-- a number counts at Open: of an end point's words six alter. The run that is loaded then is r, of which the count of
+-- those accepted and the Urgent are as they were [A4]
 abbrev pub countedNode : List ℕ → ℕ → Run → List ℕ
 countedNode ws i r =
     let ws₁ = set ws (entryAt i + startWord) (r .window .start .0) in

@@ -10,7 +10,7 @@ use Rattle.units.specs.declared.refusals.Refusal.{Refusal}
 use Rattle.units.specs.declared.refusals.Refusal.the-variants as refusal
 use Rattle.units.specs.declared.refusals.Verdict.{Verdict}
 use Rattle.units.specs.declared.refusals.Verdict.the-variants.{Passed, Refused}
-use Rattle.memory.specs.Layout.{entryAt, datas, urgents, urgentId, cellId, lengthAt, retriesAt}
+use Rattle.memory.specs.Layout.{entryAt, takenWord, acceptedWord, datas, urgents, urgentId, cellId, lengthAt, retriesAt}
 use Rattle.waiting.specs.Queues.{appended}
 use Rattle.end_points.specs.Ends.{endOf, saved}
 use Rattle.end_points.specs.Heads.{countIn, needIn}
@@ -73,7 +73,8 @@ sentBook b g n = appended (set (set b (lengthAt g) n) (retriesAt g) 0) datas (ce
 -- of the node only how many are taken and accepted alters: the run that is loaded then is `sentRun` of the one before
 -- [W2]
 abbrev pub sentNode : List ℕ → ℕ → Run → List ℕ
-sentNode ws i r = set (set ws (entryAt i + 14) (r .taken + 1)) (entryAt i + 16) (r .accepted .0 + 1)
+sentNode ws i r =
+    set (set ws (entryAt i + takenWord) (r .taken + 1)) (entryAt i + acceptedWord) (r .accepted .0 + 1)
 
 -- the payload lies in its slot; its number waits [S3, S5, W2]
 abbrev pub sent : Lent → ℕ → EndPoint → List ℕ → Lent
