@@ -7,15 +7,14 @@ use end_points::State;
 use end_points::answers::Arrived;
 use end_points::save;
 use end_points::states::is_new;
-use memory::half_at;
 use memory::layout;
-use memory::put_half;
 use memory::put_word;
 use slots::cell_of;
+use slots::cells;
 use timing::rouse;
 use units::Seq;
 use units::Unfolded;
-use waiting::queues::unlink;
+use waiting::queues;
 use window::Passed;
 use window::distance;
 ghost use mathlib.Core.Path.{_≡_};
@@ -95,7 +94,7 @@ fn drop_reset(book: &mut [u16], i: u8, t: u16)
     ensures { λ _. ⌜ now (book .exit) ≡ resetGone (now (book .entry)) i t ⌝ }
 {
     if t == 0 {
-        unlink(book, layout::RESET_ID + i as u16);
+        queues::unlink(book, layout::RESET_ID + i as u16);
     }
 }
 
@@ -131,13 +130,12 @@ fn stop(book: &mut [u16], g: u16)
     requires { ⌜ g < 33024 ⌝ }
     ensures { λ _. ⌜ now (book .exit) ≡ stopped (now (book .entry)) g ⌝ }
 {
-    let at = layout::TIMER_AT + g as usize;
-    if half_at(book, at) == 0 {
-        unlink(book, layout::CELL_ID + g);
-        put_half(book, at, 0);
+    if cells::timer(book, g) == 0 {
+        queues::unlink(book, layout::CELL_ID + g);
+        cells::put_timer(book, g, 0);
         return;
     }
-    put_half(book, at, 0)
+    cells::put_timer(book, g, 0)
 }
 
 // A number counts: of the run's words six alter, and no other is written.
@@ -195,9 +193,9 @@ fn at_failing(node: &mut [u64], book: &mut [u16], i: u8, e: EndPoint, n: u16, s:
     match tally_of(run, s) {
         Tally::Ignored => Arrived::Ignored,
         Tally::Counts(next, passed) => {
-            let at = layout::TIMER_AT + cell_of(i, e.run.window, s) as usize;
-            let running = fewer_of(half_at(book, at), n);
-            put_half(book, at, 0);
+            let g = cell_of(i, e.run.window, s);
+            let running = fewer_of(cells::timer(book, g), n);
+            cells::put_timer(book, g, 0);
             save(node, i as usize, State::Failing(running), next);
             rouse(node);
             Arrived::Acknowledged(passed)

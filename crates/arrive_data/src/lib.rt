@@ -11,15 +11,14 @@ use end_points::save;
 use end_points::states::anew_run;
 use end_points::states::is_new;
 use memory::layout;
-use memory::put_half;
 use memory::put_word;
 use slots::cell_of;
+use slots::cells;
 use slots::slot_for;
 use slots::spot_of;
 use units::Seq;
 use units::bytes::put_all;
-use waiting::acks::drop;
-use waiting::acks::push;
+use waiting::acks;
 use window::Window;
 ghost use mathlib.Core.Path.{_≡_};
 ghost use mathlib.Core.List.{[], _∷_};
@@ -37,8 +36,8 @@ pub fn take_reset(node: &mut [u64], i: u8, e: EndPoint) -> Arrived
     ensures after { λ _. ⌜ now (node .exit) ≡ resetNode (now (node .entry)) i e ⌝ }
 {
     let run = e.run;
-    drop(node, i);
-    push(node, i, Seq(0));
+    acks::drop(node, i);
+    acks::push(node, i, Seq(0));
     save(node, i as usize, State::Open, anew_run(run));
     Arrived::Reset(run.window.held_count())
 }
@@ -65,7 +64,7 @@ pub fn take_data(
         ≡ dataAfter x i e (s .0) (now (payload .entry)) ⌝ }
 {
     let window = e.run.window;
-    push(node, i, s);
+    acks::push(node, i, s);
     let accepted = window.accept(s);
     let found = accepted.found;
     if is_new(found) {
@@ -94,11 +93,7 @@ fn keep(book: &mut [u16], store: &mut [u8], i: u8, e: EndPoint, s: Seq, payload:
     ensures bytes { λ _. ⌜ now (store .exit) ≡ putStore (now (store .entry)) e (s .0) (now (payload .entry)) ⌝ }
 {
     let window = e.run.window;
-    put_half(
-        book,
-        layout::LENGTH_AT + cell_of(i, window, s) as usize,
-        payload.len() as u16,
-    );
+    cells::put_length(book, cell_of(i, window, s), payload.len() as u16);
     put_all(
         store,
         spot_of(e.place, e.entry.largest, slot_for(window, s)),

@@ -2,9 +2,8 @@
 // Proved: what is written is `blockOf` of specs/Blocks.antt, from the first byte on, and the answer is its length;
 // beyond its end nothing alters. proofs/Reading.antt: the payloads can be read out of the block again.
 // `put_one` asks a payload of at most 65,535 bytes, which is more than any frame carries.
-use memory::half_at;
-use memory::layout;
 use slots::cell_of;
+use slots::cells;
 use slots::part;
 use slots::slot_for;
 use slots::spot_of;
@@ -36,7 +35,7 @@ fn payload<'a>(
     ensures short { λ r. ⌜ length (now r) < 65536 ⌝ }
 {
     let s = advance(w.start, k);
-    let n = half_at(book, layout::LENGTH_AT + cell_of(i, w, s) as usize);
+    let n = cells::length(book, cell_of(i, w, s));
     part(store, spot_of(place, largest, slot_for(w, s)), n as usize)
 }
 

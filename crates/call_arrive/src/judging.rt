@@ -1,6 +1,5 @@
 // The tests of an arrival at an entry: 13, 5, 14, 6, in this order.
-use end_points::heads::count;
-use end_points::heads::need;
+use end_points::heads;
 use end_points::load_entry;
 use end_points::load_state;
 use end_points::states::is_closed;
@@ -8,7 +7,7 @@ use end_points::states::is_open;
 use frame::FrameType;
 use units::refusals::Refusal;
 use units::refusals::Verdict;
-use waiting::acks::waiting;
+use waiting::acks;
 ghost use mathlib.Core.Path.{_≡_};
 ghost use mathlib.Core.Bool.{not, _&&_};
 ghost use mathlib.Core.List.{[], _∷_};
@@ -82,10 +81,10 @@ fn judge_payload(node: &[u64], i: u8, t: FrameType, n: u16, store: usize, block:
     if entry.largest < n {
         return Verdict::Refused(Refusal::PayloadLength);
     }
-    if acks_full(t, waiting(node)) {
+    if acks_full(t, acks::waiting(node)) {
         return Verdict::Refused(Refusal::AcksFull);
     }
-    if store < need(node) {
+    if store < heads::need(node) {
         return Verdict::Refused(Refusal::TooShort);
     }
     if block < block_room(node, i) {
@@ -99,10 +98,10 @@ fn judge_bare(node: &[u64], t: FrameType, store: usize) -> Verdict
     ensures { λ r. ⌜ r ≡ verdict ((answered t && leb 32 (waitingOf (now (node .entry))), refusal.AcksFull)
         ∷ (ltb store (needIn (now (node .entry))), refusal.TooShort) ∷ []) ⌝ }
 {
-    if acks_full(t, waiting(node)) {
+    if acks_full(t, acks::waiting(node)) {
         return Verdict::Refused(Refusal::AcksFull);
     }
-    if store < need(node) {
+    if store < heads::need(node) {
         return Verdict::Refused(Refusal::TooShort);
     }
     Verdict::Passed
@@ -115,7 +114,7 @@ pub fn judge(node: &[u64], i: u8, t: FrameType, n: u16, store: usize, block: usi
         let ws = now (node .entry) in
         ⌜ r ≡ verdict (entryTests ws i (endOf ws i) t n store block) ⌝ }
 {
-    if count(node) <= i {
+    if heads::count(node) <= i {
         return Verdict::Refused(Refusal::NoEndPoint);
     }
     let state = load_state(node, i as usize);

@@ -10,8 +10,7 @@ use arrive_data::take_urgent;
 use arrive_lookup::entry_for;
 use end_points::EndPoint;
 use end_points::answers::Arrived;
-use end_points::heads::own;
-use end_points::heads::protocol;
+use end_points::heads;
 use end_points::load_entry;
 use end_points::load_place;
 use end_points::load_run;
@@ -42,8 +41,8 @@ fn is_ours(node: &[u64], frame: &[u8]) -> bool
     ensures { λ r. ⌜ r ≡ ours (now (node .entry)) (now (frame .entry)) ⌝ }
 {
     let destination = Address(byte_at(frame, layout::DESTINATION));
-    if destination.is(own(node)) {
-        return byte_at(frame, layout::PROTOCOL) == protocol(node);
+    if destination.is(heads::own(node)) {
+        return byte_at(frame, layout::PROTOCOL) == heads::protocol(node);
     }
     false
 }

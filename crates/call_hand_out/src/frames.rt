@@ -1,9 +1,10 @@
 // A frame's fields, and its bytes where the buffer has room for them.
 use end_points::answers::HandedOut;
-use end_points::heads::own;
-use end_points::heads::protocol;
+use end_points::heads;
 use frame::Fields;
 use frame::FrameType;
+use frame::layout;
+use frame::type_number;
 use frame::writing::emit;
 use table::Entry;
 use units::Seq;
@@ -11,20 +12,7 @@ use units::refusals::Refusal;
 ghost use mathlib.Core.Path.{_≡_};
 ghost use lib.Seq.{sets};
 ghost use Rattle.frame.specs.Layout.{frameBytes};
-ghost use Rattle.frame.specs.Types.{typeNumber};
 ghost use Rattle.call_hand_out.specs.Handing.{fieldsTo, fitted, once};
-
-// The number of a type.
-fn type_number(t: FrameType) -> u8
-    ensures { λ r. ⌜ r ≡ typeNumber t ⌝ }
-{
-    match t {
-        FrameType::Data => 0,
-        FrameType::Acknowledge => 1,
-        FrameType::Reset => 2,
-        FrameType::Urgent => 3,
-    }
-}
 
 // The fields of a frame of type t, with number s, to the end that an entry names.
 pub fn fields_to(node: &[u64], e: Entry, t: FrameType, s: Seq) -> Fields
@@ -34,8 +22,8 @@ pub fn fields_to(node: &[u64], e: Entry, t: FrameType, s: Seq) -> Fields
     let channel = e.channel;
     Fields {
         destination,
-        protocol: protocol(node),
-        source: own(node),
+        protocol: heads::protocol(node),
+        source: heads::own(node),
         kind: type_number(t),
         user: 0,
         channel,
@@ -49,7 +37,7 @@ pub fn put_frame(frame: &mut [u8], fields: Fields, payload: &[u8]) -> HandedOut
     ensures frame { λ r. ⌜ now (frame .exit) ≡ once r (now (frame .entry))
         (sets (now (frame .entry)) 0 (frameBytes fields (now (payload .entry)))) ⌝ }
 {
-    let n = payload.len() + 9;
+    let n = payload.len() + layout::OVERHEAD;
     if frame.len() < n {
         return HandedOut::Refused(Refusal::TooShort);
     }

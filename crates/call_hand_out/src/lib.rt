@@ -3,13 +3,12 @@
 // Proved: the answer, and what node, book and frame buffer hold afterwards, are those of specs/Handing.antt, for every
 // memory; a call that is refused alters nothing, and bytes after the frame stay.
 use end_points::answers::HandedOut;
-use end_points::heads::need;
+use end_points::heads;
 use memory::layout;
 use units::refusals::Refusal;
+use waiting::acks;
 use waiting::acks::Ack;
-use waiting::acks::oldest;
-use waiting::acks::waiting;
-use waiting::queues::first;
+use waiting::queues;
 ghost use mathlib.Core.Path.{_≡_};
 ghost use Rattle.end_points.specs.Lent.{whole};
 ghost use Rattle.call_hand_out.specs.Handing.{nextOut, handOutAnswer, handOutAfter};
@@ -31,22 +30,22 @@ pub enum Next {
 fn next_out(node: &[u64], book: &[u16]) -> Next
     ensures { λ r. ⌜ r ≡ nextOut (now (node .entry)) (now (book .entry)) ⌝ }
 {
-    if 0 < waiting(node) {
-        return Next::Ack(oldest(node));
+    if 0 < acks::waiting(node) {
+        return Next::Ack(acks::oldest(node));
     }
-    let reset = first(book, layout::RESETS);
+    let reset = queues::first(book, layout::RESETS);
     if layout::QUEUES <= reset {
         return Next::Reset(reset);
     }
-    let urgent = first(book, layout::URGENTS);
+    let urgent = queues::first(book, layout::URGENTS);
     if layout::QUEUES <= urgent {
         return Next::Urgent(urgent);
     }
-    let again = first(book, layout::RESENDS);
+    let again = queues::first(book, layout::RESENDS);
     if layout::QUEUES <= again {
         return Next::Resend(again);
     }
-    let data = first(book, layout::DATAS);
+    let data = queues::first(book, layout::DATAS);
     if layout::QUEUES <= data {
         return Next::Data(data);
     }
@@ -62,7 +61,7 @@ pub fn hand_out(node: &mut [u64], book: &mut [u16], store: &[u8], frame: &mut [u
         let x = whole (now (node .entry)) (now (book .entry)) (now (store .entry)) (now (frame .entry)) in
         ⌜ whole (now (node .exit)) (now (book .exit)) (now (store .entry)) (now (frame .exit)) ≡ handOutAfter x r ⌝ }
 {
-    if store.len() < need(node) {
+    if store.len() < heads::need(node) {
         return HandedOut::Refused(Refusal::TooShort);
     }
     match next_out(node, book) {

@@ -11,10 +11,9 @@ use end_points::load_run;
 use end_points::save;
 use end_points::states::without_urgent;
 use frame::FrameType;
-use memory::half_at;
 use memory::layout;
-use memory::put_half;
 use memory::put_word;
+use slots::cells;
 use slots::number_in;
 use slots::part;
 use slots::spot_of;
@@ -22,9 +21,9 @@ use timing::clock;
 use timing::heed;
 use timing::later;
 use units::Seq;
+use waiting::acks;
 use waiting::acks::Ack;
-use waiting::acks::pop;
-use waiting::queues::unlink;
+use waiting::queues;
 ghost use mathlib.Core.Path.{_≡_};
 ghost use Prim.Native.Nat.{_-_, _<_};
 ghost use lib.Seq.{sets};
@@ -59,7 +58,7 @@ pub fn put_ack(node: &mut [u64], frame: &mut [u8], a: Ack) -> HandedOut
     match put_frame(frame, fields, b"") {
         HandedOut::Refused(w) => HandedOut::Refused(w),
         HandedOut::Length(n) => {
-            pop(node);
+            acks::pop(node);
             HandedOut::Length(n)
         }
     }
@@ -80,7 +79,7 @@ pub fn put_reset(node: &mut [u64], book: &mut [u16], frame: &mut [u8], x: u16) -
     match put_frame(frame, fields, b"") {
         HandedOut::Refused(w) => HandedOut::Refused(w),
         HandedOut::Length(n) => {
-            unlink(book, x);
+            queues::unlink(book, x);
             let over = later(clock(node), e.entry.timeout);
             save(node, i, State::Enabled(over, true), e.run);
             heed(node, e.entry.timeout);
@@ -113,7 +112,7 @@ pub fn put_urgent(
     match put_frame(frame, fields, part(store, spot, run.urgent as usize)) {
         HandedOut::Refused(w) => HandedOut::Refused(w),
         HandedOut::Length(n) => {
-            unlink(book, x);
+            queues::unlink(book, x);
             save(node, i, state, without_urgent(run));
             HandedOut::Length(n)
         }
@@ -158,17 +157,13 @@ pub fn put_again(
     let entry = load_entry(node, i);
     let number = number_in(run_of(node, i).window, slot);
     let fields = fields_to(node, entry, FrameType::Data, number);
-    let length = half_at(book, layout::LENGTH_AT + g as usize);
+    let length = cells::length(book, g);
     let spot = spot_of(load_place(node, i), entry.largest, slot);
     match put_frame(frame, fields, part(store, spot, length as usize)) {
         HandedOut::Refused(w) => HandedOut::Refused(w),
         HandedOut::Length(n) => {
-            unlink(book, x);
-            put_half(
-                book,
-                layout::TIMER_AT + g as usize,
-                later(clock(node), entry.timeout),
-            );
+            queues::unlink(book, x);
+            cells::put_timer(book, g, later(clock(node), entry.timeout));
             heed(node, entry.timeout);
             HandedOut::Length(n)
         }
@@ -213,17 +208,13 @@ pub fn put_data(
     let run = run_of(node, i);
     let number = number_in(run.window, slot);
     let fields = fields_to(node, entry, FrameType::Data, number);
-    let length = half_at(book, layout::LENGTH_AT + g as usize);
+    let length = cells::length(book, g);
     let spot = spot_of(load_place(node, i), entry.largest, slot);
     match put_frame(frame, fields, part(store, spot, length as usize)) {
         HandedOut::Refused(w) => HandedOut::Refused(w),
         HandedOut::Length(n) => {
-            unlink(book, x);
-            put_half(
-                book,
-                layout::TIMER_AT + g as usize,
-                later(clock(node), entry.timeout),
-            );
+            queues::unlink(book, x);
+            cells::put_timer(book, g, later(clock(node), entry.timeout));
             put_handed(node, i, run);
             heed(node, entry.timeout);
             HandedOut::Length(n)

@@ -6,7 +6,7 @@ mod setting; // setting.rt: setup from a channel table
 use end_points::Run;
 use end_points::State;
 use end_points::answers::Counted;
-use end_points::heads::count;
+use end_points::heads;
 use end_points::load;
 use end_points::save;
 use end_points::states::anew_run;
@@ -17,9 +17,8 @@ pub use setting::setup;
 use slots::idle;
 use units::refusals::Refusal;
 use units::refusals::Verdict;
-use waiting::acks::drop;
-use waiting::queues::append;
-use waiting::queues::unlink;
+use waiting::acks;
+use waiting::queues;
 ghost use mathlib.Core.Path.{_≡_};
 ghost use Rattle.end_points.specs.Lent.{bare};
 ghost use Rattle.call_open.specs.Opening.{openAnswer, openAfter, closeAnswer, closeAfter, silenced, countsAnswer};
@@ -31,7 +30,7 @@ pub fn open(node: &mut [u64], book: &mut [u16], index: usize) -> Verdict
         let x = bare (now (node .entry)) (now (book .entry)) in
         ⌜ bare (now (node .exit)) (now (book .exit)) ≡ openAfter x index r ⌝ }
 {
-    if count(node) as usize <= index {
+    if heads::count(node) as usize <= index {
         return Verdict::Refused(Refusal::NoEntry);
     }
     let e = load(node, index);
@@ -44,7 +43,7 @@ pub fn open(node: &mut [u64], book: &mut [u16], index: usize) -> Verdict
     }
     save(node, index, State::Enabled(0, false), anew_run(run));
     if is_sends(kind) {
-        append(book, layout::RESETS, layout::RESET_ID + index as u16);
+        queues::append(book, layout::RESETS, layout::RESET_ID + index as u16);
         return Verdict::Passed;
     }
     Verdict::Passed
@@ -57,7 +56,7 @@ pub fn close(node: &mut [u64], book: &mut [u16], index: usize) -> Verdict
         let x = bare (now (node .entry)) (now (book .entry)) in
         ⌜ bare (now (node .exit)) (now (book .exit)) ≡ closeAfter x index r ⌝ }
 {
-    if count(node) as usize <= index {
+    if heads::count(node) as usize <= index {
         return Verdict::Refused(Refusal::NoEntry);
     }
     let e = load(node, index);
@@ -73,7 +72,7 @@ pub fn close(node: &mut [u64], book: &mut [u16], index: usize) -> Verdict
         save(node, index, State::Closed, anew_run(run));
         return Verdict::Passed;
     }
-    drop(node, index as u8);
+    acks::drop(node, index as u8);
     save(node, index, State::Closed, anew_run(run));
     Verdict::Passed
 }
@@ -86,7 +85,7 @@ fn silence(book: &mut [u16], i: u8, s: State, r: Run)
         State::Closed => {}
         State::Enabled(timer, _) => {
             if timer == 0 {
-                unlink(book, layout::RESET_ID + i as u16);
+                queues::unlink(book, layout::RESET_ID + i as u16);
             }
         }
         State::Open => idle(book, i, r.window, r.taken, r.handed, r.urgent),
@@ -98,7 +97,7 @@ fn silence(book: &mut [u16], i: u8, s: State, r: Run)
 pub fn counts(node: &[u64], index: usize) -> Counted
     ensures { λ r. ⌜ r ≡ countsAnswer (now (node .entry)) index ⌝ }
 {
-    if count(node) as usize <= index {
+    if heads::count(node) as usize <= index {
         return Counted::Refused(Refusal::NoEntry);
     }
     let e = load(node, index);

@@ -7,8 +7,7 @@ mod judging; // judging.rt: which of the two calls are refused
 use end_points::EndPoint;
 use end_points::Run;
 use end_points::State;
-use end_points::heads::count;
-use end_points::heads::need;
+use end_points::heads;
 use end_points::load;
 use end_points::load_entry;
 use end_points::load_place;
@@ -18,16 +17,16 @@ use end_points::save;
 use judging::judge_send;
 use judging::judge_urgent;
 use memory::layout;
-use memory::put_half;
 use memory::put_word;
 use slots::cell_of;
+use slots::cells;
 use slots::slot_for;
 use slots::spot_of;
 use units::Seq;
 use units::bytes::put_all;
 use units::refusals::Refusal;
 use units::refusals::Verdict;
-use waiting::queues::append;
+use waiting::queues;
 use window::Window;
 use window::advance;
 ghost use mathlib.Core.Path.{_≡_};
@@ -72,11 +71,11 @@ pub fn send(
         ⌜ stored (now (node .exit)) (now (book .exit)) (now (store .exit))
         ≡ sendAfter x index (now (payload .entry)) r ⌝ }
 {
-    if count(node) as usize <= index {
+    if heads::count(node) as usize <= index {
         return Verdict::Refused(Refusal::NoEntry);
     }
     let e = read_end(node, index);
-    let v = judge_send(e, payload.len(), store.len(), need(node));
+    let v = judge_send(e, payload.len(), store.len(), heads::need(node));
     let Verdict::Refused(why) = v else {
         let run = e.run;
         let window = run.window;
@@ -106,14 +105,14 @@ pub fn urgent(
         ⌜ stored (now (node .exit)) (now (book .exit)) (now (store .exit))
         ≡ urgentAfter x index (now (payload .entry)) r ⌝ }
 {
-    if count(node) as usize <= index {
+    if heads::count(node) as usize <= index {
         return Verdict::Refused(Refusal::NoEntry);
     }
     let e = load(node, index);
-    let v = judge_urgent(e, payload.len(), store.len(), need(node));
+    let v = judge_urgent(e, payload.len(), store.len(), heads::need(node));
     let Verdict::Refused(why) = v else {
         let run = e.run;
-        append(book, layout::URGENTS, layout::URGENT_ID + index as u16);
+        queues::append(book, layout::URGENTS, layout::URGENT_ID + index as u16);
         let at = spot_of(e.place, e.entry.largest, run.window.size);
         put_all(store, at, payload);
         save(
@@ -150,7 +149,7 @@ fn wait_as_data(book: &mut [u16], i: u8, w: Window, s: Seq, n: u16)
     ensures { λ _. ⌜ now (book .exit) ≡ sentBook (now (book .entry)) (cell i w (s .0)) n ⌝ }
 {
     let g = cell_of(i, w, s);
-    put_half(book, layout::LENGTH_AT + g as usize, n);
-    put_half(book, layout::RETRIES_AT + g as usize, 0);
-    append(book, layout::DATAS, layout::CELL_ID + g)
+    cells::put_length(book, g, n);
+    cells::put_retries(book, g, 0);
+    queues::append(book, layout::DATAS, layout::CELL_ID + g)
 }

@@ -7,7 +7,7 @@ mod timers; // timers.rt: an entry's timers
 
 use end_points::EndPoint;
 use end_points::State;
-use end_points::heads::count;
+use end_points::heads;
 use end_points::load;
 use end_points::load_entry;
 use end_points::load_place;
@@ -25,7 +25,7 @@ use timing::one_less;
 use timing::pass;
 use timing::quiet;
 use timing::soonest;
-use waiting::queues::append;
+use waiting::queues;
 ghost use mathlib.Core.Path.{_≡_};
 ghost use mathlib.Core.List.{[]};
 ghost use Prim.Native.Nat.{_<_, _≤_, _^_};
@@ -60,7 +60,7 @@ fn tick_enabled(
     }
     let run = load(node, i as usize).run;
     save(node, i as usize, State::Enabled(0, sent), run);
-    append(book, layout::RESETS, layout::RESET_ID + i as u16);
+    queues::append(book, layout::RESETS, layout::RESET_ID + i as u16);
     least
 }
 
@@ -158,7 +158,7 @@ fn recover(node: &mut [u64], book: &mut [u16], i: u8, bits: u16) -> u16
     if is_over(load_state(node, i as usize)) {
         let run = anew_run(load(node, i as usize).run);
         save(node, i as usize, State::Enabled(0, false), run);
-        append(book, layout::RESETS, layout::RESET_ID + i as u16);
+        queues::append(book, layout::RESETS, layout::RESET_ID + i as u16);
         return bits + (1 << i);
     }
     bits
@@ -183,7 +183,7 @@ fn recover_all(node: &mut [u64], book: &mut [u16], n: u8) -> u16
 fn entries(node: &[u64]) -> u8
     ensures { λ r. ⌜ r ≡ entriesOf (bare (now (node .entry)) []) ⌝ }
 {
-    let n = count(node);
+    let n = heads::count(node);
     if n < 16 {
         return n;
     }

@@ -43,6 +43,12 @@ use Rattle.end_points.proofs.states.is_open.Reads as end-points-is-open
 use Rattle.end_points.proofs.states.is_new.Reads as end-points-is-new
 use Rattle.end_points.proofs.states.anew_run.Reads as end-points-anew-run
 use Rattle.end_points.proofs.states.without_urgent.Reads as end-points-without-urgent
+use Rattle.slots.proofs.cells.length.Reads as slots-length
+use Rattle.slots.proofs.cells.put_length.Reads as slots-put-length
+use Rattle.slots.proofs.cells.timer.Reads as slots-timer
+use Rattle.slots.proofs.cells.put_timer.Reads as slots-put-timer
+use Rattle.slots.proofs.cells.retries.Reads as slots-retries
+use Rattle.slots.proofs.cells.put_retries.Reads as slots-put-retries
 use Rattle.slots.proofs.slot_for.Reads as slots-slot-for
 use Rattle.slots.proofs.cell_of.Reads as slots-cell-of
 use Rattle.slots.proofs.spot_of.Reads as slots-spot-of
@@ -179,6 +185,24 @@ pub end-points-without-urgent-one : OneAnswer end-points-without-urgent.Post (λ
 end-points-without-urgent-one u v a r₁ r₂ e₁ e₂ p q = cc
 
 -- ---- slots
+
+pub slots-length-one : OneAnswer slots-length.Post (λ r. r)
+slots-length-one u v a r₁ r₂ e₁ e₂ p q = cc
+
+pub slots-put-length-one : OneAfter slots-put-length.Post (λ e. now (e .0))
+slots-put-length-one u v a r₁ r₂ e₁ e₂ p q = cc
+
+pub slots-timer-one : OneAnswer slots-timer.Post (λ r. r)
+slots-timer-one u v a r₁ r₂ e₁ e₂ p q = cc
+
+pub slots-put-timer-one : OneAfter slots-put-timer.Post (λ e. now (e .0))
+slots-put-timer-one u v a r₁ r₂ e₁ e₂ p q = cc
+
+pub slots-retries-one : OneAnswer slots-retries.Post (λ r. r)
+slots-retries-one u v a r₁ r₂ e₁ e₂ p q = cc
+
+pub slots-put-retries-one : OneAfter slots-put-retries.Post (λ e. now (e .0))
+slots-put-retries-one u v a r₁ r₂ e₁ e₂ p q = cc
 
 pub slots-slot-for-one : OneAnswer slots-slot-for.Post (λ r. r)
 slots-slot-for-one u v a r₁ r₂ e₁ e₂ p q = cc

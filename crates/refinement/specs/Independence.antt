@@ -1,5 +1,5 @@
--- Laws of the machine, carried to nodes: a call is one entry's business, and every other end point, its numbers, timers,
--- counts, payloads and share of what waits are as they were. Assumes nothing.
+-- A law of the machine, carried to nodes: a call is one entry's business, and every other end point, its numbers,
+-- timers, counts, payloads and share of what waits are as they were. Assumes nothing.
 use Prim.Native.Nat.{ℕ}
 use mathlib.Core.List.{List}
 use Rattle.good.specs.Calls.{Memory, after}

@@ -1,9 +1,10 @@
 // The slots: where a numbered payload lies in the store and in the book, and what of an entry waits there.
 // Proved: each function is the definition of specs/Slots.antt that it cites, for every memory.
-use memory::half_at;
+pub mod cells; // cells.rt: what the book says of a cell
+
 use memory::layout;
 use units::Seq;
-use waiting::queues::unlink;
+use waiting::queues;
 use window::Window;
 use window::advance;
 use window::distance;
@@ -83,7 +84,7 @@ pub fn waits(book: &[u16], i: u8, w: Window, handed: u8, k: u8) -> bool
         return false;
     }
     let g = cell_of(i, w, advance(w.start, k));
-    half_at(book, layout::TIMER_AT + g as usize) == 0
+    cells::timer(book, g) == 0
 }
 
 // The number k past the start waits no more.
@@ -92,7 +93,7 @@ fn drop_slot(book: &mut [u16], i: u8, w: Window, handed: u8, k: u8)
 {
     if waits(book, i, w, handed, k) {
         let g = cell_of(i, w, advance(w.start, k));
-        unlink(book, layout::CELL_ID + g);
+        queues::unlink(book, layout::CELL_ID + g);
     }
 }
 
@@ -115,6 +116,6 @@ pub fn idle(book: &mut [u16], i: u8, w: Window, taken: u8, handed: u8, urgent: u
         drop_slots(book, i, w, taken, handed);
         return;
     }
-    unlink(book, layout::URGENT_ID + i as u16);
+    queues::unlink(book, layout::URGENT_ID + i as u16);
     drop_slots(book, i, w, taken, handed)
 }

@@ -18,20 +18,14 @@ enum-known-next c = search needs
 cell-of-requires : tie.Need-cell-of-requires
 cell-of-requires c κs = search needs
 
-cast-at : tie.Need-cast-at
-cast-at c = search needs
-
-add-at : tie.Need-add-at
-add-at c = search needs
-
-half-at-requires : tie.Need-half-at-requires
-half-at-requires c κs = search needs
+timer-requires : tie.Need-timer-requires
+timer-requires c κs = search needs
 
 fewer-of-requires : tie.Need-fewer-of-requires
 fewer-of-requires c κs = search needs
 
-put-half-requires : tie.Need-put-half-requires
-put-half-requires c κs = search needs
+put-timer-requires : tie.Need-put-timer-requires
+put-timer-requires c κs = search needs
 
 save-requires : tie.Need-save-requires
 save-requires c κs = search needs
@@ -53,7 +47,7 @@ returns-2 : tie.Need-returns-2
 unfolding ackAnswer ackNode ackBook
 returns-2 c =
     let h = counted _ _ _ _ (sym (c .before .before .before .before .before .before .before .before .before .before .before .before .before .before .before .before .before .before .before .tally-of .ensures) ∙ c .before .before .before .before .before .before .before .before .before .before .before .before .before .before .before .before .before .next .given .1) in
-    rw (h .0) (rw (h .1 .1), (rw (c .before .before .rouse .ensures, c .before .before .before .before .before .before .save .ensures, c .before .before .before .before .before .before .before .before .before .before .before .before .fewer-of .ensures, c .before .before .before .before .before .before .before .before .before .before .before .before .before .half-at .ensures, c .before .before .before .before .before .before .before .before .before .before .before .before .before .before .before .cell-of .ensures, h .1 .0), rw (c .before .before .before .before .before .before .before .before .before .before .put-half .ensures, c .before .before .before .before .before .before .before .before .before .before .before .before .before .before .before .cell-of .ensures)))
+    rw (h .0) (rw (h .1 .1), (rw (c .before .before .rouse .ensures, c .before .before .before .before .before .before .save .ensures, c .before .before .before .before .before .before .before .before .before .before .before .before .fewer-of .ensures, c .before .before .before .before .before .before .before .before .before .before .before .before .before .timer .ensures, c .before .before .before .before .before .before .before .before .before .before .before .before .before .before .before .cell-of .ensures, h .1 .0), rw (c .before .before .before .before .before .before .before .before .before .before .put-timer .ensures, c .before .before .before .before .before .before .before .before .before .before .before .before .before .before .before .cell-of .ensures)))
 
 pub at-failing-spec : {M : Type 1} → statement M
 at-failing-spec =
@@ -63,11 +57,9 @@ at-failing-spec =
     enum-told
     enum-known-next
     cell-of-requires
-    cast-at
-    add-at
-    half-at-requires
+    timer-requires
     fewer-of-requires
-    put-half-requires
+    put-timer-requires
     save-requires
     rouse-requires
     returns

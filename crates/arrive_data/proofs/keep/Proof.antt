@@ -7,17 +7,11 @@ use Rattle.arrive_data.proofs.keep.Tie as tie
 cell-of-requires : tie.Need-cell-of-requires
 cell-of-requires c κs = search needs
 
-cast-put-half : tie.Need-cast-put-half
-cast-put-half c = search needs
+cast-put-length : tie.Need-cast-put-length
+cast-put-length c = search needs
 
-add-put-half : tie.Need-add-put-half
-add-put-half c = search needs
-
-cast-put-half-2 : tie.Need-cast-put-half-2
-cast-put-half-2 c = search needs
-
-put-half-requires : tie.Need-put-half-requires
-put-half-requires c κs = search needs
+put-length-requires : tie.Need-put-length-requires
+put-length-requires c κs = search needs
 
 slot-for-requires : tie.Need-slot-for-requires
 slot-for-requires c κs = search needs
@@ -35,17 +29,15 @@ same-length-2 : tie.Need-same-length-2
 same-length-2 c = search needs
 
 returns : tie.Need-returns
-returns c = rw (c .before .before .put-all .ensures, c .before .before .before .spot-of .ensures, c .before .before .before .before .slot-for .ensures, c .before .before .before .before .before .before .before .before .put-half .ensures, c .before .before .before .before .before .before .before .before .before .cell-of .ensures) (refl, refl)
+returns c = rw (c .before .before .put-all .ensures, c .before .before .before .spot-of .ensures, c .before .before .before .before .slot-for .ensures, c .before .before .before .before .before .before .before .before .put-length .ensures, c .before .before .before .before .before .before .before .before .before .cell-of .ensures) (refl, refl)
 
 pub keep-spec : {M : Type 1} → statement M
 keep-spec =
     tie.close
     (tie.spec
     cell-of-requires
-    cast-put-half
-    add-put-half
-    cast-put-half-2
-    put-half-requires
+    cast-put-length
+    put-length-requires
     slot-for-requires
     spot-of-requires
     put-all-requires

@@ -13,14 +13,8 @@ advance-requires c κs = search needs
 cell-of-requires : tie.Need-cell-of-requires
 cell-of-requires c κs = search needs
 
-cast-half-at : tie.Need-cast-half-at
-cast-half-at c = search needs
-
-add-half-at : tie.Need-add-half-at
-add-half-at c = search needs
-
-half-at-requires : tie.Need-half-at-requires
-half-at-requires c κs = search needs
+length-requires : tie.Need-length-requires
+length-requires c κs = search needs
 
 slot-for-requires : tie.Need-slot-for-requires
 slot-for-requires c κs = search needs
@@ -36,9 +30,9 @@ part-requires c κs = search needs
 
 returns : tie.Need-returns
 returns c =
-    let h : length (now (c .part .result)) ≤ c .before .before .before .half-at .result =
+    let h : length (now (c .part .result)) ≤ c .before .before .before .length .result =
     rw (c .part .ensures, length-take) (omega arith) in
-    (rw (c .part .ensures, c .before .spot-of .ensures, c .before .before .slot-for .ensures, c .before .before .before .half-at .ensures, c .before .before .before .before .cell-of .ensures, c .before .before .before .before .before .advance .ensures), omega (arith, h, c .before .before .before .half-at .ok))
+    (rw (c .part .ensures, c .before .spot-of .ensures, c .before .before .slot-for .ensures, c .before .before .before .length .ensures, c .before .before .before .before .cell-of .ensures, c .before .before .before .before .before .advance .ensures), omega (arith, h, c .before .before .before .length .ok))
 
 pub payload-spec : {M : Type 1} → statement M
 payload-spec =
@@ -46,9 +40,7 @@ payload-spec =
     (tie.spec
     advance-requires
     cell-of-requires
-    cast-half-at
-    add-half-at
-    half-at-requires
+    length-requires
     slot-for-requires
     spot-of-requires
     cast-part

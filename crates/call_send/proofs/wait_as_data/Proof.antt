@@ -9,23 +9,11 @@ use Rattle.call_send.proofs.wait_as_data.Tie as tie
 cell-of-requires : tie.Need-cell-of-requires
 cell-of-requires c κs = search needs
 
-cast-put-half : tie.Need-cast-put-half
-cast-put-half c = search needs
+put-length-requires : tie.Need-put-length-requires
+put-length-requires c κs = search needs
 
-add-put-half : tie.Need-add-put-half
-add-put-half c = search needs
-
-put-half-requires : tie.Need-put-half-requires
-put-half-requires c κs = search needs
-
-cast-put-half-2 : tie.Need-cast-put-half-2
-cast-put-half-2 c = search needs
-
-add-put-half-2 : tie.Need-add-put-half-2
-add-put-half-2 c = search needs
-
-put-half-requires-2 : tie.Need-put-half-requires-2
-put-half-requires-2 c κs = search needs
+put-retries-requires : tie.Need-put-retries-requires
+put-retries-requires c κs = search needs
 
 add-append : tie.Need-add-append
 add-append c =
@@ -40,19 +28,15 @@ same-length c = search needs
 
 returns : tie.Need-returns
 unfolding sentBook
-returns c = rw (c .before .before .append .ensures, c .before .before .before .before .before .before .put-half2 .ensures, c .before .before .before .before .before .before .before .before .before .before .put-half .ensures, c .before .before .before .before .before .before .before .before .before .before .before .before .cell-of .ensures)
+returns c = rw (c .before .before .append .ensures, c .before .before .before .before .before .before .put-retries .ensures, c .before .before .before .before .before .before .before .before .before .before .put-length .ensures, c .before .before .before .before .before .before .before .before .before .before .before .before .cell-of .ensures)
 
 pub wait-as-data-spec : {M : Type 1} → statement M
 wait-as-data-spec =
     tie.close
     (tie.spec
     cell-of-requires
-    cast-put-half
-    add-put-half
-    put-half-requires
-    cast-put-half-2
-    add-put-half-2
-    put-half-requires-2
+    put-length-requires
+    put-retries-requires
     add-append
     append-requires
     same-length

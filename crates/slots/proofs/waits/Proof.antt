@@ -23,20 +23,14 @@ advance-requires c κs = search needs
 cell-of-requires : tie.Need-cell-of-requires
 cell-of-requires c κs = search needs
 
-cast-half-at : tie.Need-cast-half-at
-cast-half-at c = search needs
-
-add-half-at : tie.Need-add-half-at
-add-half-at c = search needs
-
-half-at-requires : tie.Need-half-at-requires
-half-at-requires c κs = search needs
+timer-requires : tie.Need-timer-requires
+timer-requires c κs = search needs
 
 returns-3 : tie.Need-returns-3
 unfolding waitsIn
 returns-3 c =
     simp (lt-leb _ _ (c .before .before .before .before .before .if1 .left), sym (c .before .before .before .before .holds .ensures) ∙ c .before .before .before .if2 .left)
-    (rw (c .half-at .ensures, c .before .cell-of .ensures, c .before .before .advance .ensures))
+    (rw (c .timer .ensures, c .before .cell-of .ensures, c .before .before .advance .ensures))
 
 pub waits-spec : {M : Type 1} → statement M
 waits-spec =
@@ -47,7 +41,5 @@ waits-spec =
     returns-2
     advance-requires
     cell-of-requires
-    cast-half-at
-    add-half-at
-    half-at-requires
+    timer-requires
     returns-3)

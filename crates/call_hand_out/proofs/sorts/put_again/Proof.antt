@@ -15,7 +15,7 @@ data-put :
     (c .put-frame .result ≡ fitted (now (c .before .before .before .before .before .before .before .before .before .before .before .before .before .before .before .before .before .before .before .before .before .args .frame)) (dataFrame (now (c .before .before .before .before .before .before .before .before .before .before .before .before .before .before .before .before .before .before .before .before .before .args .node)) (now (c .before .before .before .before .before .before .before .before .before .before .before .before .before .before .before .before .before .before .before .before .before .args .book)) (now (c .before .before .before .before .before .before .before .before .before .before .before .before .before .before .before .before .before .before .before .before .before .args .store)) (c .before .before .before .before .before .before .before .before .before .before .before .before .before .before .before .before .before .before .before .before .before .args .x))) × (c .put-frame .last .0 ≡ once (c .put-frame .result) (now (c .before .before .before .before .before .before .before .before .before .before .before .before .before .before .before .before .before .before .before .before .before .args .frame)) (sets (now (c .before .before .before .before .before .before .before .before .before .before .before .before .before .before .before .before .before .before .before .before .before .args .frame)) 0 (dataFrame (now (c .before .before .before .before .before .before .before .before .before .before .before .before .before .before .before .before .before .before .before .before .before .args .node)) (now (c .before .before .before .before .before .before .before .before .before .before .before .before .before .before .before .before .before .before .before .before .before .args .book)) (now (c .before .before .before .before .before .before .before .before .before .before .before .before .before .before .before .before .before .before .before .before .before .args .store)) (c .before .before .before .before .before .before .before .before .before .before .before .before .before .before .before .before .before .before .before .before .before .args .x))))
 unfolding dataFrame endOf
 data-put c =
-    rw (c .before .part .ensures, c .before .before .before .spot-of .ensures, c .before .before .before .before .load-place .ensures, c .before .before .before .before .before .before .half-at .ensures, c .before .before .before .before .before .before .before .before .fields-to .ensures, c .before .before .before .before .before .before .before .before .before .before .number-in .ensures, c .before .before .before .before .before .before .before .before .before .before .before .run-of .ensures, c .before .before .before .before .before .before .before .before .before .before .before .before .before .load-entry .ensures, c .before .before .before .before .before .before .before .before .before .before .before .before .before .before .before .less .ensures, c .before .before .before .before .before .before .before .before .before .before .before .before .before .before .before .before .entry-of .ensures) at (c .put-frame .ensures)
+    rw (c .before .part .ensures, c .before .before .before .spot-of .ensures, c .before .before .before .before .load-place .ensures, c .before .before .before .before .before .before .length .ensures, c .before .before .before .before .before .before .before .before .fields-to .ensures, c .before .before .before .before .before .before .before .before .before .before .number-in .ensures, c .before .before .before .before .before .before .before .before .before .before .before .run-of .ensures, c .before .before .before .before .before .before .before .before .before .before .before .before .before .load-entry .ensures, c .before .before .before .before .before .before .before .before .before .before .before .before .before .before .before .less .ensures, c .before .before .before .before .before .before .before .before .before .before .before .before .before .before .before .before .entry-of .ensures) at (c .put-frame .ensures)
 
 entry-of-requires : tie.Need-entry-of-requires
 entry-of-requires c κs = search needs
@@ -38,14 +38,8 @@ number-in-requires c κs = search needs
 fields-to-requires : tie.Need-fields-to-requires
 fields-to-requires c κs = search needs
 
-cast-half-at : tie.Need-cast-half-at
-cast-half-at c = search needs
-
-add-half-at : tie.Need-add-half-at
-add-half-at c = search needs
-
-half-at-requires : tie.Need-half-at-requires
-half-at-requires c κs = search needs
+length-requires : tie.Need-length-requires
+length-requires c κs = search needs
 
 load-place-requires : tie.Need-load-place-requires
 load-place-requires c κs = search needs
@@ -71,20 +65,14 @@ enum-known-n c = search needs
 unlink-requires : tie.Need-unlink-requires
 unlink-requires c κs = search needs
 
-cast-put-half : tie.Need-cast-put-half
-cast-put-half c = omega (arith, c .before .before .before .before .before .before .before .before .before .before .before .before .before .before .before .before .before .before .before .before .before .before .before .before .before .less .ok)
-
-add-put-half : tie.Need-add-put-half
-add-put-half c = omega (arith, c .before .before .before .before .before .before .before .before .before .before .before .before .before .before .before .before .before .before .before .before .before .before .before .before .before .less .ok)
-
 clock-requires : tie.Need-clock-requires
 clock-requires c κs = search needs
 
 later-requires : tie.Need-later-requires
 later-requires c κs = search needs
 
-put-half-requires : tie.Need-put-half-requires
-put-half-requires c κs = search needs
+put-timer-requires : tie.Need-put-timer-requires
+put-timer-requires c κs = search needs
 
 heed-requires : tie.Need-heed-requires
 heed-requires c κs = search needs
@@ -118,7 +106,7 @@ returns-2 c =
     let p = rw (c .before .before .before .before .before .before .before .before .before .before .before .before .before .before .before .before .n .given .1) at (data-put (c .before .before .before .before .before .before .before .before .before .before .before .before .before .before .before .before .before .before .before .before)) in
     let l = c .before .before .before .before .before .before .before .before .before .before .before .before .before .before .before .before .before .before .before .before .before .before .before .before .before .before .before .before .before .before .before .before .before in
     let e = l .before .before .before .entry-of .ensures in
-    (p .0, (rw (c .before .before .heed .ensures, l .load-entry .ensures, e), (rw (c .before .before .before .before .before .before .put-half .ensures, c .before .before .before .before .before .before .before .later .ensures, c .before .before .before .before .before .before .before .before .clock .ensures, c .before .before .before .before .before .before .before .before .before .before .before .before .before .unlink .ensures, l .load-entry .ensures, l .before .before .less .ensures, e), p .1)))
+    (p .0, (rw (c .before .before .heed .ensures, l .load-entry .ensures, e), (rw (c .before .before .before .before .before .before .put-timer .ensures, c .before .before .before .before .before .before .before .later .ensures, c .before .before .before .before .before .before .before .before .clock .ensures, c .before .before .before .before .before .before .before .before .before .before .before .before .before .unlink .ensures, l .load-entry .ensures, l .before .before .less .ensures, e), p .1)))
 
 pub put-again-spec : {M : Type 1} → statement M
 put-again-spec =
@@ -131,9 +119,7 @@ put-again-spec =
     run-of-requires
     number-in-requires
     fields-to-requires
-    cast-half-at
-    add-half-at
-    half-at-requires
+    length-requires
     load-place-requires
     spot-of-requires
     cast-part
@@ -142,11 +128,9 @@ put-again-spec =
     enum-known-w
     enum-known-n
     unlink-requires
-    cast-put-half
-    add-put-half
     clock-requires
     later-requires
-    put-half-requires
+    put-timer-requires
     heed-requires
     same-length
     same-length-2

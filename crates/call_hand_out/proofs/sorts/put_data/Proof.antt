@@ -26,7 +26,7 @@ data-put c =
       c .before .part .ensures,
       c .before .before .before .spot-of .ensures,
       p .load-place .ensures,
-      p .before .before .half-at .ensures,
+      p .before .before .length .ensures,
       p .before .before .before .before .fields-to .ensures,
       n .number-in .ensures,
       n .before .run-of .ensures,
@@ -56,14 +56,8 @@ number-in-requires c κs = search needs
 fields-to-requires : tie.Need-fields-to-requires
 fields-to-requires c κs = search needs
 
-cast-half-at : tie.Need-cast-half-at
-cast-half-at c = search needs
-
-add-half-at : tie.Need-add-half-at
-add-half-at c = search needs
-
-half-at-requires : tie.Need-half-at-requires
-half-at-requires c κs = search needs
+length-requires : tie.Need-length-requires
+length-requires c κs = search needs
 
 load-place-requires : tie.Need-load-place-requires
 load-place-requires c κs = search needs
@@ -89,26 +83,14 @@ enum-known-n c = search needs
 unlink-requires : tie.Need-unlink-requires
 unlink-requires c κs = search needs
 
-cast-put-half : tie.Need-cast-put-half
-cast-put-half c =
-    let f = c .before .before .before .before .before .before .before in
-    let l = f .before .before .before .before .before .before .before .before .before in
-    omega (arith, l .before .before .before .before .before .before .before .before .before .less .ok)
-
-add-put-half : tie.Need-add-put-half
-add-put-half c =
-    let f = c .before .before .before .before .before .before .before in
-    let l = f .before .before .before .before .before .before .before .before .before in
-    omega (arith, l .before .before .before .before .before .before .before .before .before .less .ok)
-
 clock-requires : tie.Need-clock-requires
 clock-requires c κs = search needs
 
 later-requires : tie.Need-later-requires
 later-requires c κs = search needs
 
-put-half-requires : tie.Need-put-half-requires
-put-half-requires c κs = search needs
+put-timer-requires : tie.Need-put-timer-requires
+put-timer-requires c κs = search needs
 
 put-handed-requires : tie.Need-put-handed-requires
 put-handed-requires c κs =
@@ -162,7 +144,7 @@ returns-2 c =
         ),
         (
           rw (
-            h .put-half .ensures,
+            h .put-timer .ensures,
             h .before .later .ensures,
             h .before .before .clock .ensures,
             u .unlink .ensures,
@@ -186,9 +168,7 @@ put-data-spec =
     run-of-requires
     number-in-requires
     fields-to-requires
-    cast-half-at
-    add-half-at
-    half-at-requires
+    length-requires
     load-place-requires
     spot-of-requires
     cast-part
@@ -197,11 +177,9 @@ put-data-spec =
     enum-known-w
     enum-known-n
     unlink-requires
-    cast-put-half
-    add-put-half
     clock-requires
     later-requires
-    put-half-requires
+    put-timer-requires
     put-handed-requires
     heed-requires
     same-length
