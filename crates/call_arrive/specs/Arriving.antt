@@ -63,11 +63,11 @@ entryVerdict x i h = verdict (entryTests (x .node) i (endOf (x .node) i) (h .kin
 -- ---- what it was
 
 -- taken in by entry i, which is e: a frame of type t, number s, payload p [F16]
-unfoldable pub takenAnswer : Lent → ℕ → EndPoint → FrameType → ℕ → List ℕ → Arrived
-takenAnswer x i e type.Data s p = dataAnswer x i e s p
-takenAnswer x i e type.Acknowledge s p = ackAnswer e (e .state) s
-takenAnswer x i e type.Reset s p = resetAnswer e
-takenAnswer x i e type.Urgent s p = urgentAnswer p
+unfoldable pub takenInAnswer : Lent → ℕ → EndPoint → FrameType → ℕ → List ℕ → Arrived
+takenInAnswer x i e type.Data s p = dataAnswer x i e s p
+takenInAnswer x i e type.Acknowledge s p = ackAnswer e (e .state) s
+takenInAnswer x i e type.Reset s p = resetAnswer e
+takenInAnswer x i e type.Urgent s p = urgentAnswer p
 
 abbrev pub answerAs : Verdict → Arrived → Arrived
 answerAs verdicts.Passed a = a
@@ -75,7 +75,7 @@ answerAs (verdicts.Refused w) a = arrived.Refused w
 
 -- 13, 5, 14, 6 at entry i [R37]
 unfoldable pub entryAnswer : Lent → ℕ → Header → List ℕ → Arrived
-entryAnswer x i h p = answerAs (entryVerdict x i h) (takenAnswer x i (endOf (x .node) i) (h .kind) (h .seq .0) p)
+entryAnswer x i h p = answerAs (entryVerdict x i h) (takenInAnswer x i (endOf (x .node) i) (h .kind) (h .seq .0) p)
 
 -- 12, or the header [R12, R37]
 unfoldable pub readAnswer : Lent → Read → List ℕ → Arrived
@@ -92,11 +92,11 @@ arrivalAnswer x f = answerAs (verdict (frameTests (x .node) f)) (readAnswer x (h
 
 -- ---- what it leaves
 
-unfoldable pub takenAfter : Lent → ℕ → EndPoint → FrameType → ℕ → List ℕ → Lent
-takenAfter x i e type.Data s p = dataAfter x i e s p
-takenAfter x i e type.Acknowledge s p = ackAfter x i e (e .state) s
-takenAfter x i e type.Reset s p = resetAfter x i e
-takenAfter x i e type.Urgent s p = urgentAfter x p
+unfoldable pub takenInAfter : Lent → ℕ → EndPoint → FrameType → ℕ → List ℕ → Lent
+takenInAfter x i e type.Data s p = dataAfter x i e s p
+takenInAfter x i e type.Acknowledge s p = ackAfter x i e (e .state) s
+takenInAfter x i e type.Reset s p = resetAfter x i e
+takenInAfter x i e type.Urgent s p = urgentAfter x p
 
 -- a refused one leaves all as it was [R44]
 abbrev pub afterAs : Verdict → Lent → Lent → Lent
@@ -104,7 +104,7 @@ afterAs verdicts.Passed x y = y
 afterAs (verdicts.Refused w) x y = x
 
 unfoldable pub entryAfter : Lent → ℕ → Header → List ℕ → Lent
-entryAfter x i h p = afterAs (entryVerdict x i h) x (takenAfter x i (endOf (x .node) i) (h .kind) (h .seq .0) p)
+entryAfter x i h p = afterAs (entryVerdict x i h) x (takenInAfter x i (endOf (x .node) i) (h .kind) (h .seq .0) p)
 
 unfoldable pub readAfter : Lent → Read → List ℕ → Lent
 readAfter x (read.Refused w) p = x

@@ -33,7 +33,7 @@ ghost use lib.ListN.{length};
 ghost use Rattle.units.specs.Refusals.{verdict};
 ghost use Rattle.end_points.specs.Ends.{endOf};
 ghost use Rattle.end_points.specs.Lent.{whole};
-ghost use Rattle.call_arrive.specs.Arriving.{ours, entryTests, takenAnswer, takenAfter, answerAs, afterAs};
+ghost use Rattle.call_arrive.specs.Arriving.{ours, entryTests, takenInAnswer, takenInAfter, answerAs, afterAs};
 ghost use Rattle.call_arrive.specs.Arriving.{arrivalAnswer, arrivalAfter};
 
 // Whether destination and protocol ID are ours.
@@ -62,11 +62,11 @@ fn take(
     requires { ⌜ length (now payload) < 65536 ⌝ }
     ensures answer { λ r.
         let x = whole (now (node .entry)) (now (book .entry)) (now (store .entry)) (now (out .entry)) in
-        ⌜ r ≡ takenAnswer x i e t (s .0) (now (payload .entry)) ⌝ }
+        ⌜ r ≡ takenInAnswer x i e t (s .0) (now (payload .entry)) ⌝ }
     ensures after { λ _.
         let x = whole (now (node .entry)) (now (book .entry)) (now (store .entry)) (now (out .entry)) in
         ⌜ whole (now (node .exit)) (now (book .exit)) (now (store .exit)) (now (out .exit))
-        ≡ takenAfter x i e t (s .0) (now (payload .entry)) ⌝ }
+        ≡ takenInAfter x i e t (s .0) (now (payload .entry)) ⌝ }
 {
     match t {
         FrameType::Data => take_data(node, book, store, out, i, e, s, payload),
@@ -112,13 +112,13 @@ fn come(
         let x = whole (now (node .entry)) (now (book .entry)) (now (store .entry)) (now (out .entry)) in
         let e = endOf (x .node) i in
         let v = verdict (entryTests (x .node) i e t n (length (x .store)) (length (x .out))) in
-        ⌜ r ≡ answerAs v (takenAnswer x i e t (s .0) (now (payload .entry))) ⌝ }
+        ⌜ r ≡ answerAs v (takenInAnswer x i e t (s .0) (now (payload .entry))) ⌝ }
     ensures after { λ _.
         let x = whole (now (node .entry)) (now (book .entry)) (now (store .entry)) (now (out .entry)) in
         let e = endOf (x .node) i in
         let v = verdict (entryTests (x .node) i e t n (length (x .store)) (length (x .out))) in
         ⌜ whole (now (node .exit)) (now (book .exit)) (now (store .exit)) (now (out .exit))
-        ≡ afterAs v x (takenAfter x i e t (s .0) (now (payload .entry))) ⌝ }
+        ≡ afterAs v x (takenInAfter x i e t (s .0) (now (payload .entry))) ⌝ }
 {
     match judge(node, i, t, n, store.len(), out.len()) {
         Verdict::Refused(w) => Arrived::Refused(w),

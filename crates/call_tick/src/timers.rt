@@ -1,7 +1,10 @@
-// An entry's timers in the book, and what comes of one that runs out.
+// An entry's timers in the book, and what comes of one that runs out. A cell's number is a `usize` here, and what the
+// book says of it is read at its place: by way of `slots::cells`, which takes 16 bits, a timer costs four instructions
+// more (./bench, a tick through all).
 use end_points::EndPoint;
+use memory::half_at;
 use memory::layout;
-use slots::cells;
+use memory::put_half;
 use slots::idle;
 use slots::slot_for;
 use timing::soonest;
@@ -22,15 +25,15 @@ pub struct Timers {
 }
 
 // The timer of cell g runs no more.
-fn stop(book: &mut [u16], g: u16)
+fn stop(book: &mut [u16], g: usize)
     requires { ⌜ g < 33024 ⌝ }
     ensures { λ _. ⌜ now (book .exit) ≡ set (now (book .entry)) (timerAt g) 0 ⌝ }
 {
-    cells::put_timer(book, g, 0)
+    put_half(book, layout::TIMER_AT + g, 0)
 }
 
 // The timer of cell g comes to zero.
-fn expire(book: &mut [u16], i: u8, e: EndPoint, g: u16, t: Timers) -> Timers
+fn expire(book: &mut [u16], i: u8, e: EndPoint, g: usize, t: Timers) -> Timers
     requires { ⌜ g < 33024 ⌝ }
     ensures { λ r. ⌜ record { book = now (book .exit); failing = r .failing; running = r .running; least = r .least }
         ≡ expired i e g
@@ -46,11 +49,11 @@ fn expire(book: &mut [u16], i: u8, e: EndPoint, g: u16, t: Timers) -> Timers
             least,
         };
     }
-    let retries = cells::retries(book, g);
+    let retries = half_at(book, layout::RETRIES_AT + g);
     if retries < e.entry.retries as u16 {
         stop(book, g);
-        cells::put_retries(book, g, retries + 1);
-        queues::append(book, layout::RESENDS, layout::CELL_ID + g);
+        put_half(book, layout::RETRIES_AT + g, retries + 1);
+        queues::append(book, layout::RESENDS, layout::CELL_ID + g as u16);
         return Timers {
             failing: false,
             running,
@@ -69,7 +72,7 @@ fn expire(book: &mut [u16], i: u8, e: EndPoint, g: u16, t: Timers) -> Timers
 
 // In tick c the timer of cell g, which runs out at tick d. That it runs on is tested before that it is due, since most
 // do.
-fn tick_cell(book: &mut [u16], i: u8, e: EndPoint, c: u16, g: u16, d: u16, t: Timers) -> Timers
+fn tick_cell(book: &mut [u16], i: u8, e: EndPoint, c: u16, g: usize, d: u16, t: Timers) -> Timers
     requires { ⌜ (g < 33024) × (t .running < 256) ⌝ }
     ensures { λ r. ⌜ record { book = now (book .exit); failing = r .failing; running = r .running; least = r .least }
         ≡ tickCell c i e g d
@@ -97,8 +100,8 @@ fn tick_slot(book: &mut [u16], i: u8, e: EndPoint, c: u16, k: u8, t: Timers) -> 
 {
     let window = e.run.window;
     let s = advance(window.start, k);
-    let g = layout::CELLS * i as u16 + slot_for(window, s) as u16;
-    let d = cells::timer(book, g);
+    let g = (layout::CELLS * i as u16) as usize + slot_for(window, s) as usize;
+    let d = half_at(book, layout::TIMER_AT + g);
     tick_cell(book, i, e, c, g, d, t)
 }
 

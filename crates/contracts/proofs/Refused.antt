@@ -39,7 +39,7 @@ use Rattle.call_open.specs.Setup.{setupAnswer, setupAfter}
 use Rattle.call_send.specs.Sending.{sendAnswer, sendAfter, urgentAnswer, urgentAfter}
 use Rattle.arrive_ack.specs.Acking.{counts, passing, ackAnswer}
 use Rattle.arrive_data.specs.Receiving.{resetAnswer, dataAnswer, urgentAnswer as urgentTaken}
-use Rattle.call_arrive.specs.Arriving.{frameTests, entryOf, entryVerdict, takenAnswer, answerAs, afterAs, entryAnswer}
+use Rattle.call_arrive.specs.Arriving.{frameTests, entryOf, entryVerdict, takenInAnswer, answerAs, afterAs, entryAnswer}
 use Rattle.call_arrive.specs.Arriving.{entryAfter, readAnswer, readAfter, arrivalAnswer, arrivalAfter}
 use Rattle.call_hand_out.specs.Handing.{handOutAnswer, handOutAfter}
 use Rattle.firmware.specs.Firmware.{readNumber, readFields, fieldsIn, writeNumber}
@@ -113,9 +113,9 @@ module _ (w : Refusal) where
   ack-taken e Open n q = acked (counts (e .run) n) (passing (e .run) n .run) q
   ack-taken e (Failing k) n q = acked (counts (e .run) n) (passing (e .run) n .run) q
 
-  taken : (x : Lent) (i : ℕ) (e : EndPoint) (t : FrameType) (s : ℕ) (p : List ℕ) → takenAnswer x i e t s p
+  taken : (x : Lent) (i : ℕ) (e : EndPoint) (t : FrameType) (s : ℕ) (p : List ℕ) → takenInAnswer x i e t s p
       ≡ arrived.Refused w → ⊥
-  unfolding takenAnswer dataAnswer resetAnswer urgentTaken
+  unfolding takenInAnswer dataAnswer resetAnswer urgentTaken
   taken x i e type.Data s p q = let z : _≡_ {A = ℕ} 0 1 = cc in omega arith
   taken x i e type.Acknowledge s p q = ack-taken e (e .state) s q
   taken x i e type.Reset s p q = let z : _≡_ {A = ℕ} 0 1 = cc in omega arith

@@ -15,7 +15,7 @@ use Rattle.end_points.specs.Lent.{Lent}
 use Rattle.end_points.specs.declared.State.the-variants.{Open}
 use Rattle.arrive_data.specs.Receiving.{urgentAfter}
 use Rattle.frame.specs.Types.{forSender, carries, answered}
-use Rattle.call_arrive.specs.Arriving.{takenAfter, arrivalAfter}
+use Rattle.call_arrive.specs.Arriving.{takenInAfter, arrivalAfter}
 use Rattle.good.specs.Good.{Lists, Good}
 use Rattle.good.proofs.Framing.{apart-same, within-same}
 use Rattle.good.proofs.Turns.{Kept}
@@ -27,8 +27,8 @@ module _ (t : List ℕ) (x : Lent) (l : Lists) (g : Good t (x .node) (x .book) l
   -- a frame of each type
   taken-keeps : (q : FrameType) → isSends (endOf (x .node) i .entry .kind) ≡ forSender q
       → (carries q ≡ true → endOf (x .node) i .state ≡ Open) → (carries q ≡ true → length p ≤ endOf (x .node) i .entry .largest) → (carries q ≡ true → 1 ≤ length p)
-      → (answered q ≡ true → waitingOf (x .node) < 32) → Kept t x (takenAfter x i (endOf (x .node) i) q s p) l i
-  unfolding takenAfter urgentAfter
+      → (answered q ≡ true → waitingOf (x .node) < 32) → Kept t x (takenInAfter x i (endOf (x .node) i) q s p) l i
+  unfolding takenInAfter urgentAfter
   taken-keeps type.Data k o m n w = data-keeps t x l g i li k (o refl) s byte p (n refl) (m refl) (w refl)
   taken-keeps type.Acknowledge k o m n w = ack-keeps t x l i s g li k byte
   taken-keeps type.Reset k o m n w = reset-keeps t x l g i li k (w refl)

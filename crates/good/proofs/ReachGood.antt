@@ -27,7 +27,7 @@ use Rattle.end_points.specs.Runs.{isNew}
 use Rattle.end_points.specs.declared.EndPoint.{EndPoint}
 use Rattle.arrive_data.specs.Receiving.{resetAfter, taken, repeated, dataAfter, urgentAfter as receivedUrgent}
 use Rattle.units.specs.Refusals.{pick}
-use Rattle.call_arrive.specs.Arriving.{takenAfter}
+use Rattle.call_arrive.specs.Arriving.{takenInAfter}
 use Rattle.good.specs.Good.{Lists, Good}
 use Rattle.good.specs.Calls.{Memory, lent, bare, after, SetUp, at-setup, by-call, by-store}
 use Rattle.machine.specs.Calls.{Call, opens, closes, counts, sends, urges, arrives, hands-out, ticks, Fed}
@@ -83,8 +83,8 @@ data-long x i e s p = sides (isNew (acceptOf (e .run .window) s .found))
     sides true = length-sets (x .store) _ p
     sides false = refl
 
-taken-long : (x : Lent) (i : ℕ) (e : EndPoint) (q : FrameType) (s : ℕ) (p : List ℕ) → length (takenAfter x i e q s p .store) ≡ length (x .store)
-unfolding takenAfter resetAfter receivedUrgent
+taken-long : (x : Lent) (i : ℕ) (e : EndPoint) (q : FrameType) (s : ℕ) (p : List ℕ) → length (takenInAfter x i e q s p .store) ≡ length (x .store)
+unfolding takenInAfter resetAfter receivedUrgent
 taken-long x i e type.Data s p = data-long x i e s p
 taken-long x i e type.Acknowledge s p = refl
 taken-long x i e type.Reset s p = refl

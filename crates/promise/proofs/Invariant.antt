@@ -9,7 +9,7 @@ use lib.ListN.{length, take, getD}
 use native.Mathlib.Omega.{arith}
 use Rattle.window.specs.Numbers.{byteOf}
 use Rattle.promise.specs.History.{Pay, SState, s-enabled, s-open, Live, Sent, reset, data!, Tag, new, Back, ack}
-use Rattle.promise.specs.Promise.{Kept}
+use Rattle.promise.specs.Promise.{AsPromised}
 use Rattle.promise.proofs.Windows.{Marks, none}
 use Rattle.promise.proofs.Channel.{Send, Recv, r-open, Channel, tag-byte}
 
@@ -136,7 +136,7 @@ got-accepted j h (inl l) = omega (arith, h .ahead)
 got-accepted j h (inr (i, e, q)) = let z = h .holding .held-in i q in omega arith
 
 -- the promise
-pub kept : (W : ℕ) (g : Channel) → Inv W g → Live (g .sender .state) → Kept (g .sender .accepted) (g .sender .confirmed) (g .hist)
+pub kept : (W : ℕ) (g : Channel) → Inv W g → Live (g .sender .state) → AsPromised (g .sender .accepted) (g .sender .confirmed) (g .hist)
 kept W g (fresh f) l = absurd (subst Live (f .enabled) l)
 kept W g (resetting f) l = absurd (subst Live (f .enabled) l)
 kept W g (running v f) l = record {

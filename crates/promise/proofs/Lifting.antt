@@ -9,7 +9,7 @@ use Rattle.units.specs.Sizes.{isSize}
 use Rattle.window.specs.Numbers.{distanceOf, byteOf}
 use Rattle.window.proofs.Sizes.{size-le}
 use Rattle.promise.specs.History.{Pay, s-enabled, Live, Sent, data!, Tag, old, new, Hist, SSeen, s-hears, RSeen, r-acks, r-resets, r-takes, SOwn, ROwn, s-note, popped, answered, r-note}
-use Rattle.promise.specs.Promise.{SSide, RSide, Kept, Sys, begin, Move, at-sender, at-receiver, ack-comes, reset-comes, data-comes, old-ack-comes, old-reset-comes, old-data-comes, Moves, no-move, and-then, Demand3}
+use Rattle.promise.specs.Promise.{SSide, RSide, AsPromised, Sys, begin, Move, at-sender, at-receiver, ack-comes, reset-comes, data-comes, old-ack-comes, old-reset-comes, old-data-comes, Moves, no-move, and-then, Demand3}
 use Rattle.promise.proofs.Channel.{Send, s-hand, s-ack, Recv, r-open, Up, r-wait, r-reset, r-data, Channel, tag-byte, g-hand, send, reset-out, data-out, fail, close-receiver, open-receiver, ack-out, reset-in, data-in, ack-in, old-reset-in, old-data-in, old-ack-in}
 use Rattle.promise.proofs.Invariant.{Inv, fresh, resetting, running, at-open, kept}
 use Rattle.promise.proofs.OneChannel.{step-keeps, starts}
@@ -167,7 +167,7 @@ module _ (W : ℕ) (w : isSize W ≡ true) where
       });
     }
 
-    promised : (t : Sys A B) → Holds t → Live (A .state (t .sender)) → Kept (A .accepted (t .sender)) (A .confirmed (t .sender)) (t .hist)
+    promised : (t : Sys A B) → Holds t → Live (A .state (t .sender)) → AsPromised (A .accepted (t .sender)) (A .confirmed (t .sender)) (t .hist)
     promised t k l =
         let q = LA .agrees (t .sender) (k .vs) (k .views-a) in
         rw (q .1, q .2) at (kept W _ (k .inv) (rw (q .0) l))

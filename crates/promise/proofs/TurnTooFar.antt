@@ -13,7 +13,7 @@ use native.Mathlib.Omega.{arith}
 use Rattle.units.specs.Refusals.{pick}
 use Rattle.window.specs.Numbers.{distanceOf, byteOf}
 use Rattle.promise.specs.History.{Pay, s-enabled, s-open, Live, Sent, reset, data!, new, blank}
-use Rattle.promise.specs.Promise.{Kept}
+use Rattle.promise.specs.Promise.{AsPromised}
 use Rattle.promise.proofs.Windows.{Marks, none, mark, shift, run, put, put-other}
 use Rattle.promise.proofs.Channel.{Send, s-state, s-hand, s-data, s-pass, s-ack, Recv, r-open, outs, Taken, r-pass, r-data, Channel, with-sender, g-send, g-hand, g-answer, g-reset, g-data, Step, send, reset-out, data-out, ack-out, reset-in, data-in, ack-in, Steps, done, then, Start}
 use Rattle.promise.proofs.KeepingData.{data-wait}
@@ -360,7 +360,7 @@ module _ (g : Channel) (x : AtTurn g) where
 
   -- numbers 246 to 259 are delivered, then 260 and the stray after it: 261 payloads, of 260 accepted
   broken : (h : Channel) × Further 14 245 (mark 15 none) (strays g (x .old-payload)) h
-      → (h : Channel) × Laters 16 g0 h × Live (h .sender .state) × (Kept (h .sender .accepted) (h .sender .confirmed) (h .hist) → ⊥)
+      → (h : Channel) × Laters 16 g0 h × Live (h .sender .state) × (AsPromised (h .sender .accepted) (h .sender .confirmed) (h .hist) → ⊥)
   broken (h, y) = (
     comes h,
     all-in-time to-strays (joined (y .steps) (to-comes 259 _ h (y .even))),
@@ -371,12 +371,12 @@ module _ (g : Channel) (x : AtTurn g) where
   )
 
 from-turn : (g : Channel) × AtTurn g
-    → (h : Channel) × Laters 16 g0 h × Live (h .sender .state) × (Kept (h .sender .accepted) (h .sender .confirmed) (h .hist) → ⊥)
+    → (h : Channel) × Laters 16 g0 h × Live (h .sender .state) × (AsPromised (h .sender .accepted) (h .sender .confirmed) (h .hist) → ⊥)
 from-turn (g, x) =
     let free : (i : ℕ) → i < 15 → mark 15 none i ≡ false = λ i l. put-other 15 true none i (λ q. omega arith) in
     broken g x (rounds 14 245 (mark 15 none) (strays g (x .old-payload)) free (stray-held g x))
 
 -- THE TURN TOO FAR: by steps of which one is a number late, from a run's beginning to a moment at which the sender is open and the promise is broken
 pub turn-too-far : (g : Channel) × Start g
-    × ((h : Channel) × Laters 16 g h × Live (h .sender .state) × (Kept (h .sender .accepted) (h .sender .confirmed) (h .hist) → ⊥))
+    × ((h : Channel) × Laters 16 g h × Live (h .sender .state) × (AsPromised (h .sender .accepted) (h .sender .confirmed) (h .hist) → ⊥))
 turn-too-far = (g0, begins, from-turn at-turn)

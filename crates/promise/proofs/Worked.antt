@@ -6,7 +6,7 @@ use mathlib.Core.Bool.{true, false}
 use mathlib.Core.List.{[], _∷_, List·Memᴰ, List·Memᴰ·head, List·Memᴰ·tail}
 use native.Mathlib.Omega.{arith}
 use Rattle.promise.specs.History.{s-enabled, Live, reset, old, new, blank}
-use Rattle.promise.specs.Promise.{Kept}
+use Rattle.promise.specs.Promise.{AsPromised}
 use Rattle.promise.proofs.Windows.{none, run}
 use Rattle.promise.proofs.Channel.{s-state, s-hand, s-data, s-ack, r-open, Up, outs, r-data, Channel, with-sender, g-send, g-hand, g-answer, g-reset, g-data, send, reset-out, data-out, ack-out, reset-in, data-in, ack-in, Steps, done, then, Start}
 
@@ -128,7 +128,7 @@ worked = (begins, runs, delivers, confirms .1)
 
 -- the premise that no Reset comes after Data is needed: it is the only one missing here
 pub reset-after-data : List·Memᴰ reset (g17 .hist .sent) × Up (g17 .receiver .state) × Live (g17 .sender .state)
-    × (Kept (g17 .sender .accepted) (g17 .sender .confirmed) (g-reset (new 0) g17 .hist) → ⊥)
+    × (AsPromised (g17 .sender .accepted) (g17 .sender .confirmed) (g-reset (new 0) g17 .hist) → ⊥)
 unfolding run
 reset-after-data = (
   List·Memᴰ·tail (List·Memᴰ·tail (List·Memᴰ·tail (List·Memᴰ·head refl))),

@@ -27,7 +27,7 @@ use Rattle.machine.specs.Calls.{Call, opens, sends, arrives, hands-out, ticks, 
 use Rattle.machine.specs.Machine as machine
 use Rattle.machine.specs.Machine.{Machine, begun, step, SetUp}
 use Rattle.promise.specs.History.{Pay, SState, s-enabled, s-open, s-first, reset, data!, Tag, old, new, ack, SSeen, s-quiet, s-accepts, s-resets, s-sends, s-hears, RSeen, r-acks, r-resets, r-takes, SOwn, ROwn, s-note, r-note}
-use Rattle.promise.specs.Promise.{SSide, RSide, Sys, begin, Move, at-sender, at-receiver, ack-comes, reset-comes, data-comes, Moves, no-move, and-then, Reach, at-setup, by-call, Kept, Demand3}
+use Rattle.promise.specs.Promise.{SSide, RSide, Sys, begin, Move, at-sender, at-receiver, ack-comes, reset-comes, data-comes, Moves, no-move, and-then, Reach, at-setup, by-call, AsPromised, Demand3}
 use Rattle.promise.specs.Seen.{Event, s-seen, r-seen}
 use Rattle.promise.specs.Link.{Did, sender, receiver, Paired, Promise}
 
@@ -471,7 +471,7 @@ pub worked-machines : (end : Sys A B) × Worked end
 worked-machines = (g28, worked)
 
 -- the promise speaks of this run
-pub applies : Promise → Kept (A .accepted (g28 .sender)) (A .confirmed (g28 .sender)) (g28 .hist)
+pub applies : Promise → AsPromised (A .accepted (g28 .sender)) (A .confirmed (g28 .sender)) (g28 .hist)
 unfolding Promise Demand3
 applies promise =
     promise sends-table 0 receives-table 0 paired a b [] reached reached′ enabled g28 runs (rw (worked .opened) tt)

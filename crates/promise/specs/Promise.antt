@@ -46,7 +46,7 @@ pub data Reach (Node Call : Type 0) (SetUp : Node → Type 0) (Did : Node → Ca
 -- ---- what is promised
 
 -- of a moment: the sender's two counts and the history of the run [P12, P13, O5]
-pub record Kept (accepted confirmed : ℕ) (h : Hist) : Type 0 where
+pub record AsPromised (accepted confirmed : ℕ) (h : Hist) : Type 0 where
   -- the count of accepted payloads is right
   pub counted : accepted ≡ length (h .accepted)
   -- what is delivered is the first of what was accepted, in order, none twice, none left out
@@ -148,4 +148,4 @@ module _ (W : ℕ) (A : SSide) (B : RSide) where
       → Reach (B .Node) (B .Call) (B .SetUp) (B .Did) (B .Lends) b
       → A .state a ≡ s-enabled false
       → (t : Sys A B) → Moves (begin A B a b delivered) t
-      → Live (A .state (t .sender)) → Kept (A .accepted (t .sender)) (A .confirmed (t .sender)) (t .hist)
+      → Live (A .state (t .sender)) → AsPromised (A .accepted (t .sender)) (A .confirmed (t .sender)) (t .hist)

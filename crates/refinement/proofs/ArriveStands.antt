@@ -41,7 +41,7 @@ use Rattle.arrive_lookup.specs.Fitting.{fits}
 use Rattle.arrive_lookup.proofs.First.{first-is}
 use Rattle.arrive_lookup.proofs.Found.{found-fits}
 use Rattle.call_arrive.specs.Arriving as memory
-use Rattle.call_arrive.specs.Arriving.{entryVerdict, takenAnswer, takenAfter, answerAs, afterAs, entryAnswer, entryAfter}
+use Rattle.call_arrive.specs.Arriving.{entryVerdict, takenInAnswer, takenInAfter, answerAs, afterAs, entryAnswer, entryAfter}
 use Rattle.call_arrive.specs.Arriving.{readAnswer, readAfter, frameTests, arrivalAnswer, arrivalAfter}
 use Rattle.good.specs.Good.{Lists, Good}
 use Rattle.good.specs.Calls.{Memory, lent, answer, after}
@@ -162,12 +162,12 @@ module _ (t : List ℕ) (n : Memory) (l : Lists) (g : Good t (n .node) (n .book)
     e = endOf (n .node) i
 
     abbrev TakesAs : FrameType → Type 0
-    TakesAs q = Takes t (taken M block i (endAt n i) q (h .seq .0) p) (takenAnswer x i e q (h .seq .0) p) (takenAfter x i e q (h .seq .0) p)
+    TakesAs q = Takes t (taken M block i (endAt n i) q (h .seq .0) p) (takenInAnswer x i e q (h .seq .0) p) (takenInAfter x i e q (h .seq .0) p)
 
     took : (q : FrameType) → isSends (e .entry .kind) ≡ forSender q → (carries q ≡ true → e .state ≡ Open)
         → (carries q ≡ true → length p ≤ e .entry .largest) → (carries q ≡ true → 1 ≤ length p)
         → (answered q ≡ true → waitingOf (n .node) < 32) → TakesAs q
-    unfolding taken takenAnswer takenAfter
+    unfolding taken takenInAnswer takenInAfter
     took type.Data k o m s f = data-takes t n l g room i li k block (o refl) (h .seq .0) hs p (s refl) (m refl) (f refl)
     took type.Acknowledge k o m s f = ack-takes t n l g room i li k (h .seq .0) hs block
     took type.Reset k o m s f = reset-takes t n l g room i li k block (f refl) (h .seq .0) p

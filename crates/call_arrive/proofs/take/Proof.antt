@@ -1,4 +1,4 @@
-use Rattle.call_arrive.specs.Arriving.{takenAnswer, takenAfter}
+use Rattle.call_arrive.specs.Arriving.{takenInAnswer, takenInAfter}
 use Rattle.arrive_data.specs.Receiving.{resetAfter, urgentAfter}
 use borrow.Author.Needs.{needs}
 use Rattle.call_arrive.proofs.take.Statement.{statement}
@@ -60,7 +60,7 @@ same-length-4 c = search needs
 
 -- src/lib.rt:44:1
 returns : tie.Need-returns
-unfolding takenAnswer takenAfter
+unfolding takenInAnswer takenInAfter
 returns c =
     let q = c .before .before .before .before .before .before .before .before .before .before .before .before .before .enum-told .given .1 in
     let d = c .before .before .before .before .before .before .before .before .take-data .ensures in
@@ -76,7 +76,7 @@ same-length-6 c = search needs
 
 -- src/lib.rt:44:1
 returns-2 : tie.Need-returns-2
-unfolding takenAnswer takenAfter
+unfolding takenInAnswer takenInAfter
 returns-2 c =
     let q = c .before .before .before .before .before .before .before .enum-told2 .given .1 in
     let d = c .before .before .before .before .acknowledge .ensures in
@@ -88,7 +88,7 @@ same-length-7 c = search needs
 
 -- src/lib.rt:44:1
 returns-3 : tie.Need-returns-3
-unfolding takenAnswer takenAfter resetAfter
+unfolding takenInAnswer takenInAfter resetAfter
 returns-3 c =
     let q = c .before .before .before .before .enum-told3 .given .1 in
     let d = c .before .before .take-reset .ensures in
@@ -100,7 +100,7 @@ same-length-8 c = search needs
 
 -- src/lib.rt:44:1
 returns-4 : tie.Need-returns-4
-unfolding takenAnswer takenAfter urgentAfter
+unfolding takenInAnswer takenInAfter urgentAfter
 returns-4 c =
     let q = c .before .before .before .before .enum-told4 .given .1 in
     let d = c .before .before .take-urgent .ensures in

@@ -19,8 +19,11 @@ same-length c = search needs
 returns : tie.Need-returns
 returns c = rw (c .before .before .before .before .if1 .taken, c .before .before .stop .ensures)
 
-retries-requires : tie.Need-retries-requires
-retries-requires c κs = search needs
+add-half-at : tie.Need-add-half-at
+add-half-at c = search needs
+
+half-at-requires : tie.Need-half-at-requires
+half-at-requires c κs = search needs
 
 cast-if2 : tie.Need-cast-if2
 cast-if2 c = search needs
@@ -28,11 +31,17 @@ cast-if2 c = search needs
 stop-requires-2 : tie.Need-stop-requires-2
 stop-requires-2 c κs = search needs
 
-add-put-retries : tie.Need-add-put-retries
-add-put-retries c = search needs
+add-put-half : tie.Need-add-put-half
+add-put-half c = search needs
 
-put-retries-requires : tie.Need-put-retries-requires
-put-retries-requires c κs = search needs
+add-put-half-2 : tie.Need-add-put-half-2
+add-put-half-2 c = search needs
+
+put-half-requires : tie.Need-put-half-requires
+put-half-requires c κs = search needs
+
+cast-append : tie.Need-cast-append
+cast-append c = search needs
 
 add-append : tie.Need-add-append
 add-append c = search needs
@@ -46,9 +55,9 @@ same-length-2 c = search needs
 returns-2 : tie.Need-returns-2
 returns-2 c =
     let a = c .before .before .before .before .before .before .before .before .before .before .before .before .before .before .before .before .before .before .args in
-    let h = c .before .before .before .before .before .before .before .before .before .before .before .before .before .before .retries .ensures in
+    let h = c .before .before .before .before .before .before .before .before .before .before .before .before .before .before .half-at .ensures in
     let t : ltb (getD (now (a .book)) (8320 + a .g) 0) (a .e .entry .retries) ≡ true = rw h at (lt-ltb _ _ (c .before .before .before .before .before .before .before .before .before .before .before .before .if2 .taken)) in
-    rw (c .before .before .before .before .before .before .before .before .before .before .before .before .before .before .before .before .if1 .left, t, c .before .before .append .ensures, c .before .before .before .before .before .before .put-retries .ensures, c .before .before .before .before .before .before .before .before .before .before .stop2 .ensures, h)
+    rw (c .before .before .before .before .before .before .before .before .before .before .before .before .before .before .before .before .if1 .left, t, c .before .before .append .ensures, c .before .before .before .before .before .before .put-half .ensures, c .before .before .before .before .before .before .before .before .before .before .stop2 .ensures, h)
 
 idle-requires : tie.Need-idle-requires
 idle-requires c κs = search needs
@@ -62,7 +71,7 @@ same-length-3 c = search needs
 returns-3 : tie.Need-returns-3
 returns-3 c =
     let a = c .before .before .before .before .before .before .before .before .before .before .before .before .before .before .before .args in
-    let h = c .before .before .before .before .before .before .before .before .before .before .before .retries .ensures in
+    let h = c .before .before .before .before .before .before .before .before .before .before .before .half-at .ensures in
     let t : ltb (getD (now (a .book)) (8320 + a .g) 0) (a .e .entry .retries) ≡ false = rw h at (le-ltb _ _ (c .before .before .before .before .before .before .before .before .before .if2 .left)) in
     rw (c .before .before .before .before .before .before .before .before .before .before .before .before .before .if1 .left, t, c .before .before .stop3 .ensures, c .before .before .before .before .before .before .idle .ensures)
 
@@ -73,11 +82,14 @@ expire-spec =
     stop-requires
     same-length
     returns
-    retries-requires
+    add-half-at
+    half-at-requires
     cast-if2
     stop-requires-2
-    add-put-retries
-    put-retries-requires
+    add-put-half
+    add-put-half-2
+    put-half-requires
+    cast-append
     add-append
     append-requires
     same-length-2

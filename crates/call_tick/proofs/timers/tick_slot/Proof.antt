@@ -10,17 +10,23 @@ advance-requires c κs = search needs
 mul-g : tie.Need-mul-g
 mul-g c = search needs
 
+cast-g : tie.Need-cast-g
+cast-g c = search needs
+
 slot-for-requires : tie.Need-slot-for-requires
 slot-for-requires c κs = search needs
 
-cast-g : tie.Need-cast-g
-cast-g c = search needs
+cast-g-2 : tie.Need-cast-g-2
+cast-g-2 c = search needs
 
 add-g : tie.Need-add-g
 add-g c = search needs
 
-timer-requires : tie.Need-timer-requires
-timer-requires c κs = search needs
+add-half-at : tie.Need-add-half-at
+add-half-at c = search needs
+
+half-at-requires : tie.Need-half-at-requires
+half-at-requires c κs = search needs
 
 tick-cell-requires : tie.Need-tick-cell-requires
 tick-cell-requires c κs = search needs
@@ -30,7 +36,7 @@ same-length c = search needs
 
 returns : tie.Need-returns
 unfolding tickSlot
-returns c = rw (c .before .before .tick-cell .ensures, c .before .before .before .before .timer .ensures, c .before .before .before .before .before .before .slot-for .ensures, c .before .before .before .before .before .before .before .advance .ensures)
+returns c = rw (c .before .before .tick-cell .ensures, c .before .before .before .before .half-at .ensures, c .before .before .before .before .before .before .slot-for .ensures, c .before .before .before .before .before .before .before .advance .ensures)
 
 pub tick-slot-spec : {M : Type 1} → statement M
 tick-slot-spec =
@@ -38,10 +44,12 @@ tick-slot-spec =
     (tie.spec
     advance-requires
     mul-g
-    slot-for-requires
     cast-g
+    slot-for-requires
+    cast-g-2
     add-g
-    timer-requires
+    add-half-at
+    half-at-requires
     tick-cell-requires
     same-length
     returns)
