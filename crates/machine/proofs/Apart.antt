@@ -13,7 +13,7 @@ use Rattle.units.specs.declared.refusals.Refusal.{Refusal}
 use Rattle.frame.specs.Layout.{payloadOf}
 use Rattle.frame.specs.Reading.{headerOf}
 use Rattle.machine.specs.Calls.{opens, closes, counts, sends, urges, arrives, hands-out, ticks}
-use Rattle.machine.specs.Machine.{End, Item, Sort, acks, resets, urgents, resends, datas, Machine, Outcome, rank, answers, tooShort, sendTests, handed, entryFor, goingOut, inOrder, opening, closing, counting, sending, urgentSending, reading, arriving, handing, step, without}
+use Rattle.machine.specs.Machine.{End, Item, Sort, acks, resets, urgents, resends, datas, Machine, Outcome, rank, answers, tooShort, sendTests, handed, entryFor, goingOut, inOrder, opening, closing, counting, sending, urgentSending, reading, arriving, handingOut, step, without}
 use Rattle.machine.specs.Sound.{Sound}
 use Rattle.machine.specs.Laws.{answer, item, shareOf, Next, RefusedStays, Untouched, OthersStay}
 use Rattle.machine.specs.LawsHanding.{NextOrNone}
@@ -51,7 +51,7 @@ module _ (m : Machine) (out : List ℕ) where
   order-keeps (q ∷ qs) = going-keeps q (m .waiting q) (inOrder m out qs) (order-keeps qs)
 
 pub refused-stays : RefusedStays
-unfolding RefusedStays step opening closing counting sending urgentSending arriving handing
+unfolding RefusedStays step opening closing counting sending urgentSending arriving handingOut
 refused-stays m (opens i) d = by-done (Keeps m []) m i openTests (opened m i) (kept m []) (λ e h. passed)
 refused-stays m (closes i) d = by-done (Keeps m []) m i closeTests (closed m i) (kept m []) (λ e h. passed)
 refused-stays m (counts i) d = by-done (Keeps m []) m i countTests (counts-of m) (kept m []) (λ e h. passed)

@@ -25,7 +25,7 @@ use Rattle.frame.proofs.WriteLaws.{length-frame}
 use Rattle.end_points.specs.Answers.{handedOf}
 use Rattle.end_points.specs.declared.answers.HandedOut.the-variants.{Length}
 use Rattle.machine.specs.Calls.{hands-out}
-use Rattle.machine.specs.Machine.{End, Item, Sort, acks, resets, urgents, resends, datas, Machine, Outcome, number, numbered, turned, rank, only, waitingAs, answers, unless, offset, numberAt, timed, typeOf, carried, frameOf, handed, goingOut, inOrder, handing, step}
+use Rattle.machine.specs.Machine.{End, Item, Sort, acks, resets, urgents, resends, datas, Machine, Outcome, number, numbered, turned, rank, only, waitingAs, answers, unless, offset, numberAt, timed, typeOf, carried, frameOf, handed, goingOut, inOrder, handingOut, step}
 use Rattle.machine.specs.Sound.{Sound, Sized, Owned, Waits, WaitsData}
 use Rattle.machine.specs.Laws.{Is, answer, after, Next}
 use Rattle.machine.specs.LawsHanding.{NextOrNone, Timed, Sent, HandsOut, WaitingGoesOut, TooShortStays, NothingOut, ReadsBack, PairedTakes, HandedComes}
@@ -100,7 +100,7 @@ module _ (t : List ℕ) (m : Machine) (S : Sound t m) where
     owner = S .owned q x (subst (λ (l : List Item). List·Memᴰ x l) (sym (n .first)) (List·Memᴰ·head refl))
 
     pub goes-is : (e : End) → Is m (x .entry) e → (buffer : List ℕ) → step m (hands-out buffer) ≡ goes m buffer q x e
-    unfolding step handing inOrder goingOut
+    unfolding step handingOut inOrder goingOut
     goes-is e h buffer = rw (le-ltb (m .room) (m .need) (S .room)) (sides q n)
       where
         sides : (q : Sort) → Next m q x xs → inOrder m buffer (acks ∷ resets ∷ urgents ∷ resends ∷ datas ∷ []) ≡ goes m buffer q x e
@@ -112,7 +112,7 @@ module _ (t : List ℕ) (m : Machine) (S : Sound t m) where
             rw (n .before acks (omega arith), n .before resets (omega arith), n .before urgents (omega arith), n .before resends (omega arith), n .first, h)
 
   pub none-is : ((q : Sort) → m .waiting q ≡ []) → (buffer : List ℕ) → step m (hands-out buffer) ≡ answers (handedOf (Length 0)) buffer m
-  unfolding step handing inOrder goingOut
+  unfolding step handingOut inOrder goingOut
   none-is h buffer = rw (le-ltb (m .room) (m .need) (S .room), h acks, h resets, h urgents, h resends, h datas)
 
   pub nothing-out : ((q : Sort) → m .waiting q ≡ []) → (buffer : List ℕ)

@@ -17,7 +17,7 @@ use Rattle.end_points.specs.States.{isOver}
 use Rattle.end_points.specs.declared.State.{State}
 use Rattle.end_points.specs.declared.State.the-variants.{Closed, Enabled, Open, Failing}
 use Rattle.machine.specs.Calls.{Call, opens, closes, counts, sends, urges, arrives, hands-out, ticks}
-use Rattle.machine.specs.Machine.{End, Item, Sort, acks, resets, urgents, resends, datas, Machine, Outcome, node, turned, anew, unless, onEntry, listed, first, begun, tooShort, sendTests, entryFor, opening, closing, counting, sending, urgentSending, reading, arriving, handed, goingOut, inOrder, handing, anySpent, each, recovered, step}
+use Rattle.machine.specs.Machine.{End, Item, Sort, acks, resets, urgents, resends, datas, Machine, Outcome, node, turned, anew, unless, onEntry, listed, first, begun, tooShort, sendTests, entryFor, opening, closing, counting, sending, urgentSending, reading, arriving, handed, goingOut, inOrder, handingOut, anySpent, each, recovered, step}
 use Rattle.machine.specs.Laws.{Is, after, Free, AllFree, Standing, TableStays, StartStaysFree}
 use Rattle.machine.specs.LawsTick.{timers, fails, due}
 use Rattle.machine.proofs.Entries.{elem-there, elem-lt, elem-in, elem-set-same, elem-set-other}
@@ -205,8 +205,8 @@ module _ (m : Machine) where
       by-verdict (Leaves m) (arrivalTests m f) block m (reading m block (headerOf f) (payloadOf f)) (λ w. as-was-stands m)
       (λ v. by-read (Leaves m) m block (λ w. as-was-stands m) (headerOf f) (payloadOf f) (λ h z m′ t ns out′. touched-stands m (entryFor m h) t))
 
-  hand-stands : (buffer : List ℕ) → Leaves m (handing m buffer)
-  unfolding handing
+  hand-stands : (buffer : List ℕ) → Leaves m (handingOut m buffer)
+  unfolding handingOut
   hand-stands buffer =
       by-verdict (Leaves m) (tooShort m ∷ []) buffer m (inOrder m buffer (acks ∷ resets ∷ urgents ∷ resends ∷ datas ∷ [])) (λ w. as-was-stands m)
       (λ v. order-stands m buffer (acks ∷ resets ∷ urgents ∷ resends ∷ datas ∷ []))

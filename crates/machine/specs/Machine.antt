@@ -530,8 +530,8 @@ inOrder m out [] = answers (handedOf (Length 0)) out m
 inOrder m out (q ∷ qs) = goingOut m out q (m .waiting q) (inOrder m out qs)
 
 -- acknowledgements first, then Resets, Urgents, retransmissions, data [H2, R38, R42]
-unfoldable pub handing : Machine → List ℕ → Outcome
-handing m out = unless (tooShort m ∷ []) out m (inOrder m out (acks ∷ resets ∷ urgents ∷ resends ∷ datas ∷ []))
+unfoldable pub handingOut : Machine → List ℕ → Outcome
+handingOut m out = unless (tooShort m ∷ []) out m (inOrder m out (acks ∷ resets ∷ urgents ∷ resends ∷ datas ∷ []))
 
 -- ---- a tick
 
@@ -608,7 +608,7 @@ step m (counts i) = counting m i
 step m (sends i p) = sending m i p
 step m (urges i p) = urgentSending m i p
 step m (arrives block f) = arriving m block f
-step m (hands-out buffer) = handing m buffer
+step m (hands-out buffer) = handingOut m buffer
 step m ticks = ticking m
 
 -- what setup leaves of a table that it does not refuse [P11]

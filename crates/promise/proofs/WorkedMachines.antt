@@ -46,7 +46,7 @@ unfolding offsets joinedUp blockOf get32Of payloadIn payloadsIn readBlock
 blocks = tt
 
 calls : Unit {0}
-unfolding machine.without machine.enabled machine.listed machine.begun machine.opening machine.sending machine.handing machine.inOrder machine.goingOut machine.frameOf machine.ticking machine.each machine.ticked machine.tickedAll machine.anySpent machine.againFrom machine.running machine.bitsFrom machine.step
+unfolding machine.without machine.enabled machine.listed machine.begun machine.opening machine.sending machine.handingOut machine.inOrder machine.goingOut machine.frameOf machine.ticking machine.each machine.ticked machine.tickedAll machine.anySpent machine.againFrom machine.running machine.bitsFrom machine.step
 calls = tt
 
 coming : Unit {0}

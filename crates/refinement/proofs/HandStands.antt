@@ -63,7 +63,7 @@ use Rattle.good.proofs.Payloads.{unaltered}
 use Rattle.machine.specs.Machine as machine
 use Rattle.machine.specs.Machine.{Number, Item, Sort, acks, resets, urgents, resends, datas, Machine, Outcome, stated}
 use Rattle.machine.specs.Machine.{urging, numberAt, turned, rank, only, waitingAs, answers, unless, frameOf, goingOut}
-use Rattle.machine.specs.Machine.{inOrder, handing, step}
+use Rattle.machine.specs.Machine.{inOrder, handingOut, step}
 use Rattle.refinement.specs.Standing.{Reading, readAt, endFor, endAt, ackItem, slotItem, waitingFor, standsFor, Follows}
 use Rattle.machine.proofs.Listed.{elem-listed}
 use Rattle.refinement.proofs.Elsewhere.{cells-same, Leaves, still, turned-stands}
@@ -504,7 +504,7 @@ module _ (t : List ℕ) (n : Memory) (l : Lists) (g : Good t (n .node) (n .book)
         record { answers = rw (a, is, s); stands = rw (a, is, s) (still g room) }
 
     pub hand-follows : Follows t n M call
-    unfolding nextOut waitingFor step handing
+    unfolding nextOut waitingFor step handingOut
     hand-follows =
         either acks (resets ∷ urgents ∷ resends ∷ datas ∷ []) (ltb 0 (waitingOf (n .node))) (next.Ack _) _
         (λ is. hands-first (next.Ack _) is acks _ _ _ (ack-went _ is)) (λ z. ap (map ackItem) (no-acks (n .node) z))

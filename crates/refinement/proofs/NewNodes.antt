@@ -27,7 +27,7 @@ use Rattle.call_tick.specs.Ticking.{tickAnswer, tickBoth, scanAfter, scanBoth, 
 use Rattle.good.specs.Calls.{Memory, lent, bare, answer}
 use Rattle.good.specs.NewNode.{newAt}
 use Rattle.machine.specs.Calls.{Call, opens, closes, counts, sends, urges, arrives, hands-out, ticks, Answer}
-use Rattle.machine.specs.Machine.{Machine, Outcome, blank, opening, closing, counting, sending, urgentSending, reading, arriving, goingOut, inOrder, handing, each, bitsFrom, ticking, judged, step}
+use Rattle.machine.specs.Machine.{Machine, Outcome, blank, opening, closing, counting, sending, urgentSending, reading, arriving, goingOut, inOrder, handingOut, each, bitsFrom, ticking, judged, step}
 use Rattle.refinement.specs.Standing.{NewIsBlank}
 
 module _ (store : List ℕ) (c q : ℕ) where
@@ -65,7 +65,7 @@ module _ (store : List ℕ) (c q : ℕ) where
   urges-same i p = (rw (none i), refl)
 
   hands-same : (buffer : List ℕ) → same (hands-out buffer)
-  unfolding answer step handing inOrder goingOut handOutAnswer handOutAfter nextOut frameOut outNode outBook
+  unfolding answer step handingOut inOrder goingOut handOutAnswer handOutAfter nextOut frameOut outNode outBook
   hands-same buffer =
       let long = le-ltb (length store) 0 (omega arith) in
       (rw (long, le-ltb (length buffer) 0 (omega arith)), rw long)
