@@ -7,7 +7,7 @@ use lib.ListN.{length, getD, drop, length-append}
 use lib.Seq.{sets, sets-eq, getD-append-add, append-snoc, take-at, drop-at}
 use Rattle.units.specs.Bytes.{get16Of, be16, be32}
 use Rattle.blocks.specs.Blocks.{offsets, joinedUp, blockOf}
-use Rattle.blocks.specs.Reading.{get32Of, payloadIn, payloadsIn, readBlock}
+use Rattle.blocks.specs.Reading.{get32Of, payloadIn, payloadsIn, readBlock, ReadsBack}
 use Rattle.blocks.proofs.Appending.{length-be16, length-be32, length-offsets, joinedUp-more}
 
 -- ---- numbers in bytes
@@ -102,3 +102,7 @@ read-block ps t = rw (count ps t) (rest [] ps t)
 -- and so it is read out of memory that has room for it
 pub read-written : (l : List ℕ) (ps : List (List ℕ)) → length (blockOf ps) ≤ length l → readBlock (sets l 0 (blockOf ps)) ≡ ps
 read-written l ps h = rw (sets-eq (blockOf ps) l 0 (omega arith)) (read-block ps (drop (0 + length (blockOf ps)) l))
+
+pub reads-back : ReadsBack
+unfolding ReadsBack
+reads-back = read-written

@@ -1,9 +1,12 @@
 -- How a host reads a block: how many payloads, and each from its offset to the next. Cited by the law that nothing is
 -- lost in a block. Assumes nothing.
-use Prim.Native.Nat.{ℕ, zero, suc, _+_, _*_, _-_}
+use Prim.Native.Nat.{ℕ, zero, suc, _+_, _*_, _-_, _≤_}
+use mathlib.Core.Path.{_≡_}
 use mathlib.Core.List.{List, [], _∷_}
-use lib.ListN.{take, drop}
+use lib.ListN.{length, take, drop}
+use lib.Seq.{sets}
 use Rattle.units.specs.Bytes.{get16Of}
+use Rattle.blocks.specs.Blocks.{blockOf}
 
 -- the four bytes from i on, as a number
 unfoldable pub get32Of : List ℕ → ℕ → ℕ
@@ -23,3 +26,7 @@ payloadsIn s j (suc n) = payloadIn s j ∷ payloadsIn s (j + 1) n
 -- the payloads of a block [B1]
 unfoldable pub readBlock : List ℕ → List (List ℕ)
 readBlock s = payloadsIn s 0 (get16Of s 0)
+
+-- the law, proved in proofs/Reading.antt: what was written into a buffer with room for it is read out again [B1]
+unfoldable pub ReadsBack : Type 0
+ReadsBack = (l : List ℕ) (ps : List (List ℕ)) → length (blockOf ps) ≤ length l → readBlock (sets l 0 (blockOf ps)) ≡ ps

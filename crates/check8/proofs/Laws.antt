@@ -12,6 +12,7 @@ use lib.Seq.{drop-cons}
 use lib.Pow.{areBytes}
 use lib.Bits.{bitXor, xor-self, xor-lt, xor-add-and, and-le-l, and-le-r}
 use Rattle.check8.specs.Polynomial.{timesX, timesXs, stepByte, checkFrom, checkOf}
+use Rattle.check8.specs.Laws.{OwnCheck, OnlyCheck}
 use Rattle.check8.proofs.Bytes.{at, T-left, T-right}
 
 -- ---- a list of bytes, taken byte by byte and end to end
@@ -87,3 +88,13 @@ unfolding checkFrom stepByte
 only-check bs x t h e =
     let c = check-lt 255 bs (omega arith) t in
     sym (xor-zero (checkOf bs) x (timesXs-zero 8 _ (xor-lt 8 (checkOf bs) x c h) (sym (check-append 255 bs (x ∷ [])) ∙ e)))
+
+-- ---- as specs/Laws.antt states them
+
+pub the-own-check : OwnCheck
+unfolding OwnCheck
+the-own-check = own-check
+
+pub the-only-check : OnlyCheck
+unfolding OnlyCheck
+the-only-check = only-check

@@ -1,2 +1,3 @@
 pub mod Polynomial
 pub mod Table
+pub mod Laws

@@ -19,6 +19,7 @@ use Rattle.table.specs.declared.Entry.{Entry}
 use Rattle.table.specs.Layout.{headSize, startOf, countOf, firstOf, ownOf, protocolOf, headZerosOf, byteOf, kindByteFrom, windowFrom, zerosFrom, entryFrom, entryOf}
 use Rattle.table.specs.Areas.{storeOf}
 use Rattle.table.specs.Rules.{everyBelow, isAddress, headGood, timed, numbersGood, formGood, agree, apart, entryGood, fits, goodTable}
+use Rattle.table.specs.Laws.{OneEntry, StoreFits}
 use Rattle.table.proofs.Every.{both, every-at}
 
 -- The rules taken apart
@@ -174,3 +175,13 @@ one-entry t g i j li lj k r c = sides (decLt i j) (decLt j i)
     sides (yes p) q = absurd (clash _ (agree-true (entryOf t j) (entryOf t i) (sym k) (sym r) (sym c)) (earlier t g i j p lj))
     sides (no p) (yes q) = absurd (clash _ (agree-true (entryOf t i) (entryOf t j) k r c) (earlier t g j i q li))
     sides (no p) (no q) = omega arith
+
+-- as specs/Laws.antt states them
+
+pub the-one-entry : OneEntry
+unfolding OneEntry
+the-one-entry = one-entry
+
+pub the-store-fits : StoreFits
+unfolding StoreFits
+the-store-fits = good-store

@@ -10,7 +10,8 @@ use Rattle.table.specs.declared.Kind.{Kind}
 use Rattle.table.specs.declared.Kind.the-variants.{Sends, Receives}
 use Rattle.table.specs.declared.Entry.{Entry}
 use Rattle.table.specs.Layout.{countOf, entryOf}
-use Rattle.table.specs.Areas.{slotsOf, areaOf, placeOf, storeOf, PartsApart, PartsInside}
+use Rattle.table.specs.Areas.{slotsOf, areaOf, placeOf, storeOf}
+use Rattle.table.specs.Laws.{PartsApart, PartsInside}
 
 -- Slots in an area
 
@@ -71,6 +72,8 @@ area-in-store t i l = areas-apart t i (countOf t) l
 pub slot-in-store : (t : List ℕ) (i k : ℕ) → i < countOf t → k < slotsOf (entryOf t i .kind) (entryOf t i .window)
     → placeOf t i + k * entryOf t i .largest + entryOf t i .largest ≤ storeOf t
 slot-in-store t i k l m = omega (arith, area-in-store t i l, slot-inside (entryOf t i) k m)
+
+-- ---- as specs/Laws.antt states them
 
 pub parts-apart : PartsApart
 unfolding PartsApart

@@ -1,6 +1,6 @@
 -- The entries' areas of the lent store: their sizes, their places, and the whole. Cited by whatever lays out or
 -- checks a store. Assumes nothing.
-use Prim.Native.Nat.{ℕ, zero, suc, _+_, _*_, _≤_, _<_}
+use Prim.Native.Nat.{ℕ, zero, suc, _+_, _*_}
 use mathlib.Core.List.{List}
 use Rattle.table.specs.declared.Kind.{Kind}
 use Rattle.table.specs.declared.Kind.the-variants.{Sends, Receives}
@@ -24,13 +24,3 @@ placeOf t (suc k) = placeOf t k + areaOf (entryOf t k)
 -- the store that a table takes [S1, V8]
 unfoldable pub storeOf : List ℕ → ℕ
 storeOf t = placeOf t (countOf t)
-
--- ---- laws, proved in proofs/Places.antt
-
--- the entries' parts lie apart, the lower entry's before [S2]
-unfoldable pub PartsApart : Type 0
-PartsApart = (t : List ℕ) (i j : ℕ) → i < j → placeOf t i + areaOf (entryOf t i) ≤ placeOf t j
-
--- and inside the store that the table takes [S1]
-unfoldable pub PartsInside : Type 0
-PartsInside = (t : List ℕ) (i : ℕ) → i < countOf t → placeOf t i + areaOf (entryOf t i) ≤ storeOf t

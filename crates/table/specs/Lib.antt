@@ -1,3 +1,4 @@
 pub mod Layout
 pub mod Areas
 pub mod Rules
+pub mod Laws

@@ -10,6 +10,7 @@ use native.Mathlib.Omega.{arith}
 use lib.Pow.{mod-mod-pow}
 use Rattle.units.specs.Sizes.{isSize}
 use Rattle.window.specs.Numbers.{distanceOf, byteOf, slotOf}
+use Rattle.window.specs.Law.{WindowLaw, SlotsDiffer}
 use Rattle.window.proofs.Sizes.{size-power, size-pos}
 
 -- ---- in or out
@@ -71,3 +72,13 @@ slots-differ W start a b v hs ha hb ia ib e =
     by-cases (decLt (distanceOf start b) (distanceOf start a))
     (λ q. absurd (slots-apart W (start + distanceOf start b) (start + distanceOf start a) (omega arith) (omega arith) (sym same)))
     (λ q. omega arith))
+
+-- ---- as specs/Law.antt states them
+
+pub the-window-law : WindowLaw
+unfolding WindowLaw
+the-window-law = window-law
+
+pub the-slots-differ : SlotsDiffer
+unfolding SlotsDiffer
+the-slots-differ = slots-differ
