@@ -4,7 +4,8 @@
 Goes through crates/*/src, programs left out, and looks in crates/contracts/proofs for `pub NAME-one`, where NAME is the
 crate and the function (`node-send`; a function for C by its own name), and for the reading of the contract that the
 theorem is over (`use Rattle.node.proofs.send.Reads as node-send`). What is lent as a struct has no such reading: there
-the theorem names the contract's own record. The exceptions stand below with their reasons, and in docs/CONTRACTS.md.
+the theorem names the contract's own record. The exceptions stand below with their reasons, and in docs/CONTRACTS.md,
+which must also name every function of the crates that a host, a drive box or another program calls.
 """
 import pathlib
 import re
@@ -12,6 +13,7 @@ import sys
 
 ROOT = pathlib.Path(__file__).resolve().parent.parent
 PROGRAMS = {"label", "table_rules", "desk", "frames"}
+PUBLIC = {"node", "firmware", "frame", "check8", "window", "lent_window", "table", "units", "lines"}
 RECORDS = {"lent_window"}  # lent as a struct: crates/lent_window/specs/Lending.antt
 EXCEPT = {"lines-flush": "answers nothing and alters no lent memory"}
 
@@ -31,6 +33,7 @@ def exported(crate: pathlib.Path) -> list[str]:
 
 def main() -> int:
     """The verdict on all exported functions."""
+    listed = (ROOT / "docs/CONTRACTS.md").read_text()
     proofs = "\n".join(p.read_text() for p in sorted((ROOT / "crates/contracts/proofs").glob("*.antt")))
     count, missing = 0, []
     for crate in sorted((ROOT / "crates").iterdir()):
@@ -39,6 +42,9 @@ def main() -> int:
         for function in exported(crate):
             plain = function if crate.name == "firmware" else f"{crate.name}_{function}"
             name = plain.replace("_", "-")
+            short = function.removeprefix("shelugvar_")
+            if crate.name in PUBLIC and not re.search(rf"`(?:[\w:]*::)?(?:{function}|{short})`", listed):
+                missing.append(f"crates/{crate.name}: {function} has no line in docs/CONTRACTS.md")
             if name in EXCEPT:
                 continue
             count += 1

@@ -20,7 +20,7 @@ use Rattle.call_send.specs.Sending.{sendAfter, urgentAfter}
 use Rattle.call_hand_out.specs.Handing.{handOutAfter}
 use Rattle.good.specs.Calls.{kept, keptBare, answer, after}
 use Rattle.machine.specs.Calls.{opens, closes, counts, sends, urges, arrives, hands-out, ticks}
-use Rattle.contracts.specs.Gives.{memory, bare, Gives, SetsUp}
+use Rattle.contracts.specs.Gives.{memory, plain, Gives, SetsUp}
 
 -- a setup that passed; node and book have the lengths of their types, and a table's bytes are bytes
 pub setup-gives : SetsUp node-setup.Post (λ a. lent.stored (now (a .0)) (now (a .1 .0)) (now (a .1 .1 .0)))
@@ -37,7 +37,7 @@ setup-gives u a r e p q node book bytes =
     }
 
 -- a host keeps a store that is not lent
-pub open-gives : (s : List ℕ) → Gives node-open.Post (λ a. opens (a .1 .1 .0)) (λ r e. bare (answerOf r))
+pub open-gives : (s : List ℕ) → Gives node-open.Post (λ a. opens (a .1 .1 .0)) (λ r e. plain (answerOf r))
     (λ a. memory (a .0) (a .1 .0) s) (λ a e. memory (e .0) (e .1 .0) s)
 unfolding answer after
 open-gives s u a r e p f =
@@ -48,7 +48,7 @@ open-gives s u a r e p f =
       left = ap (keptBare (memory (a .0) (a .1 .0) s)) (p .1 ∙ ap (openAfter x (a .1 .1 .0)) (p .0));
     }
 
-pub close-gives : (s : List ℕ) → Gives node-close.Post (λ a. closes (a .1 .1 .0)) (λ r e. bare (answerOf r))
+pub close-gives : (s : List ℕ) → Gives node-close.Post (λ a. closes (a .1 .1 .0)) (λ r e. plain (answerOf r))
     (λ a. memory (a .0) (a .1 .0) s) (λ a e. memory (e .0) (e .1 .0) s)
 unfolding answer after
 close-gives s u a r e p f =
@@ -60,12 +60,12 @@ close-gives s u a r e p f =
     }
 
 -- and to counts the node alone is lent
-pub counts-gives : (b s : List ℕ) → Gives node-counts.Post (λ a. counts (a .1 .0)) (λ r e. bare (countedOf r))
+pub counts-gives : (b s : List ℕ) → Gives node-counts.Post (λ a. counts (a .1 .0)) (λ r e. plain (countedOf r))
     (λ a. record { node = now (a .0); book = b; store = s }) (λ a e. record { node = now (a .0); book = b; store = s })
 unfolding answer after
 counts-gives b s u a r e p f = record { fed = f; answered = cc (p); left = refl }
 
-pub send-gives : Gives node-send.Post (λ a. sends (a .1 .1 .1 .0) (now (a .1 .1 .1 .1 .0))) (λ r e. bare (answerOf r))
+pub send-gives : Gives node-send.Post (λ a. sends (a .1 .1 .1 .0) (now (a .1 .1 .1 .1 .0))) (λ r e. plain (answerOf r))
     (λ a. memory (a .0) (a .1 .0) (now (a .1 .1 .0))) (λ a e. memory (e .0) (e .1 .0) (now (e .1 .1 .0)))
 unfolding answer after
 send-gives u a r e p f =
@@ -77,7 +77,7 @@ send-gives u a r e p f =
     }
 
 pub urgent-gives :
-    Gives node-urgent.Post (λ a. urges (a .1 .1 .1 .0) (now (a .1 .1 .1 .1 .0))) (λ r e. bare (answerOf r))
+    Gives node-urgent.Post (λ a. urges (a .1 .1 .1 .0) (now (a .1 .1 .1 .1 .0))) (λ r e. plain (answerOf r))
     (λ a. memory (a .0) (a .1 .0) (now (a .1 .1 .0))) (λ a e. memory (e .0) (e .1 .0) (now (e .1 .1 .0)))
 unfolding answer after
 urgent-gives u a r e p f =
@@ -110,7 +110,7 @@ hand-out-gives u a r e p f =
     let out = ap (λ (y : lent.Lent). y .out) left in
     record { fed = f; answered = cc (p .0, out); left = ap kept left }
 
-pub tick-gives : (s : List ℕ) → Gives node-tick.Post (λ a. ticks) (λ r e. bare (r ∷ []))
+pub tick-gives : (s : List ℕ) → Gives node-tick.Post (λ a. ticks) (λ r e. plain (r ∷ []))
     (λ a. memory (a .0) (a .1 .0) s) (λ a e. memory (e .0) (e .1 .0) s)
 unfolding answer after
 tick-gives s u a r e p f =

@@ -18,8 +18,8 @@ abbrev pub memory : RefT (List ℕ) → RefT (List ℕ) → List ℕ → Memory
 memory node book store = record { node = now node; book = now book; store = store }
 
 -- an answer in the paper's numbers, of a call that writes neither block nor frame
-abbrev pub bare : List ℕ → Answer
-bare numbers = record { numbers = numbers; out = [] }
+abbrev pub plain : List ℕ → Answer
+plain numbers = record { numbers = numbers; out = [] }
 
 -- what the contract says of arguments, answer and arguments at exit is what `Did` says of the memory before, the call
 -- with its answer, and the memory after [O1]
