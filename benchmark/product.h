@@ -22,7 +22,7 @@ static inline int node_sends(node_t *n, uint8_t *store, size_t room, unsigned in
 static inline int node_takes(node_t *n, uint8_t *store, size_t room, uint8_t *block, size_t block_room,
                              const uint8_t *frame, size_t length)
 {
-    struct shelugvar_arrival arrival;
+    struct shelugvar_arrived arrival;
 
     return shelugvar_node_arrival(n, store, room, block, block_room, frame, length, &arrival);
 }
@@ -41,7 +41,7 @@ static inline unsigned node_ticks(node_t *n)
 
 static inline uint32_t node_confirmed(const node_t *n, unsigned index)
 {
-    struct shelugvar_counts counts = {0, 0};
+    struct shelugvar_sender_counts counts = {0, 0};
 
     return shelugvar_node_counts(n, index, &counts) == 0 ? counts.confirmed : 0;
 }

@@ -436,6 +436,11 @@ class Node:
 
     def arrival(self, data: bytes) -> list[int]:
         index = self.admit(data)
+        what, *value = self.take_in(index, data)
+        return [what, index] + value
+
+    def take_in(self, index: int, data: bytes) -> list[int]:
+        """What the frame was to its entry, and the value of that."""
         end, control, sequence, payload = self.ends[index], data[3], data[7], data[8:-1]
         if isinstance(end, Sender):  # of an acknowledgement alone
             return self.acknowledged(index, end, sequence)

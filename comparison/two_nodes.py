@@ -249,11 +249,11 @@ class Pair:
         if what == model.OPENED:
             channel.opened()
         elif what == model.ACKNOWLEDGED:
-            channel.confirm(answer.fields[1])
+            channel.confirm(answer.fields[2])
         elif what == model.TOOK_RESET:
             channel.take_reset(carried.run, carried.number)
         elif what == model.TOOK_DATA:
-            channel.take_data(carried.run, carried.number, model.payloads_of(bytes(answer.fields[2:])))
+            channel.take_data(carried.run, carried.number, model.payloads_of(bytes(answer.fields[3:])))
 
     # the play
 

@@ -7,11 +7,11 @@
 
 static int wrong;
 
-static void expect(const char *what, int got, int wanted)
+static void expect(const char *what, unsigned got, unsigned wanted)
 {
-    printf("%-40s %d\n", what, got);
+    printf("%-40s %u\n", what, got);
     if (got != wanted) {
-        printf("  wanted %d\n", wanted);
+        printf("  wanted %u\n", wanted);
         wrong = 1;
     }
 }
@@ -24,44 +24,44 @@ static void round_trip(const char *what, struct shelugvar_fields fields, const c
     size_t n = strlen(text);
 
     memset(buffer, 165, sizeof buffer);
-    expect(what, shelugvar_frame_write(buffer, sizeof buffer, &fields, (const uint8_t *)text, n), SHELUGVAR_DONE);
-    expect("  read back", shelugvar_frame_read(buffer, n + 9, &back), SHELUGVAR_DONE);
+    expect(what, shelugvar_write_frame(buffer, sizeof buffer, &fields, (const uint8_t *)text, n), SHELUGVAR_DONE);
+    expect("  read back", shelugvar_read_frame(buffer, SHELUGVAR_FRAME_ROOM(n), &back), SHELUGVAR_DONE);
     expect("  same fields", memcmp(&fields, &back, sizeof back) == 0, 1);
-    expect("  same payload", memcmp(buffer + 8, text, n) == 0, 1);
-    expect("  the byte after the frame stays", buffer[n + 9], 165);
+    expect("  same payload", memcmp(buffer + SHELUGVAR_PAYLOAD_OFFSET, text, n) == 0, 1);
+    expect("  the byte after the frame stays", buffer[SHELUGVAR_FRAME_ROOM(n)], 165);
 }
 
 static void refusals(void)
 {
-    struct shelugvar_fields f = {65, 238, 64, SHELUGVAR_DATA, 0, 7, 1}, kept = f, bad;
-    static uint8_t long_payload[65521], room[65540];
-    uint8_t buffer[16];
+    const size_t most = SHELUGVAR_PROTOCOL_PAYLOAD_MOST, whole = SHELUGVAR_PROTOCOL_FRAME_MOST;
+    struct shelugvar_fields f = {65, SHELUGVAR_PROTOCOL_ID, 64, SHELUGVAR_DATA, 0, 7, 1}, kept = f, bad;
+    static uint8_t payload[SHELUGVAR_PROTOCOL_PAYLOAD_MOST + 1], room[SHELUGVAR_PROTOCOL_FRAME_MOST + 1];
 
     bad = f, bad.type = 4;
-    expect("type 4", shelugvar_frame_write(room, sizeof room, &bad, long_payload, 1), SHELUGVAR_AGAINST_RULES);
+    expect("type 4", shelugvar_write_frame(room, sizeof room, &bad, payload, 1), SHELUGVAR_AGAINST_RULES);
     bad = f, bad.user = 1;
-    expect("user bits", shelugvar_frame_write(room, sizeof room, &bad, long_payload, 1), SHELUGVAR_AGAINST_RULES);
+    expect("user bits", shelugvar_write_frame(room, sizeof room, &bad, payload, 1), SHELUGVAR_AGAINST_RULES);
     bad = f, bad.type = SHELUGVAR_RESET;
-    expect("a Reset's sequence", shelugvar_frame_write(room, sizeof room, &bad, long_payload, 0),
-           SHELUGVAR_AGAINST_RULES);
-    expect("Data without payload", shelugvar_frame_write(room, sizeof room, &f, long_payload, 0),
-           SHELUGVAR_PAYLOAD_LENGTH);
-    expect("65,520 bytes", shelugvar_frame_write(room, sizeof room, &f, long_payload, 65520), SHELUGVAR_DONE);
-    expect("65,521 bytes", shelugvar_frame_write(room, sizeof room, &f, long_payload, 65521), SHELUGVAR_PAYLOAD_LENGTH);
-    expect("no room", shelugvar_frame_write(buffer, 9, &f, long_payload, 1), SHELUGVAR_TOO_SHORT);
+    expect("a Reset's sequence", shelugvar_write_frame(room, sizeof room, &bad, NULL, 0), SHELUGVAR_AGAINST_RULES);
+    expect("Data without payload", shelugvar_write_frame(room, sizeof room, &f, NULL, 0), SHELUGVAR_PAYLOAD_LENGTH);
+    expect("65,520 bytes", shelugvar_write_frame(room, sizeof room, &f, payload, most), SHELUGVAR_DONE);
+    expect("65,521 bytes", shelugvar_write_frame(room, sizeof room, &f, payload, most + 1), SHELUGVAR_PAYLOAD_LENGTH);
+    expect("no room", shelugvar_write_frame(room, 9, &f, payload, 1), SHELUGVAR_TOO_SHORT);
 
-    expect("eight bytes", shelugvar_frame_read(room, 8, &kept), SHELUGVAR_BAD_FRAME);
-    expect("a byte too many", shelugvar_frame_read(room, 65530, &kept), SHELUGVAR_BAD_FRAME);
-    expect("whole", shelugvar_frame_read(room, 65529, &kept), SHELUGVAR_DONE);
+    expect("eight bytes", shelugvar_read_frame(room, 8, &kept), SHELUGVAR_BAD_FRAME);
+    expect("a byte too many", shelugvar_read_frame(room, whole + 1, &kept), SHELUGVAR_BAD_FRAME);
+    expect("whole", shelugvar_read_frame(room, whole, &kept), SHELUGVAR_DONE);
+    expect("  Data", shelugvar_fields_type(&kept) == SHELUGVAR_DATA, 1);
     room[100] ^= 1;
     kept = f;
-    expect("a bit damaged", shelugvar_frame_read(room, 65529, &kept), SHELUGVAR_BAD_FRAME);
+    expect("a bit damaged", shelugvar_read_frame(room, whole, &kept), SHELUGVAR_BAD_FRAME);
     expect("  fields kept", memcmp(&f, &kept, sizeof f) == 0, 1);
 }
 
 int main(void)
 {
-    struct shelugvar_fields data = {65, 238, 64, SHELUGVAR_DATA, 0, 7, 5}, ack = data, reset = data, urgent = data;
+    struct shelugvar_fields data = {65, SHELUGVAR_PROTOCOL_ID, 64, SHELUGVAR_DATA, 0, 7, 5};
+    struct shelugvar_fields ack = data, reset = data, urgent = data;
 
     ack.type = SHELUGVAR_ACKNOWLEDGE;
     reset.type = SHELUGVAR_RESET, reset.sequence = 0;
@@ -71,10 +71,10 @@ int main(void)
     round_trip("Reset", reset, "");
     round_trip("Urgent", urgent, "stop");
     refusals();
-    expect("start 250, W 16: 9", shelugvar_window_test(250, 16, 9), SHELUGVAR_INSIDE);
-    expect("start 250, W 16: 10", shelugvar_window_test(250, 16, 10), SHELUGVAR_OUTSIDE);
-    expect("start 246, W 0: 5, the turn too far", shelugvar_window_test(246, 0, 5), SHELUGVAR_INSIDE);
-    expect("W 3", shelugvar_window_test(0, 3, 0), SHELUGVAR_NO_WINDOW);
-    expect("W 256", shelugvar_window_test(0, 256, 0), SHELUGVAR_NO_WINDOW);
+    expect("start 250, W 16: 9", shelugvar_test_window(250, 16, 9), SHELUGVAR_INSIDE);
+    expect("start 250, W 16: 10", shelugvar_test_window(250, 16, 10), SHELUGVAR_OUTSIDE);
+    expect("start 246, W 0: 5, the turn too far", shelugvar_test_window(246, 0, 5), SHELUGVAR_INSIDE);
+    expect("W 3", shelugvar_test_window(0, 3, 0), SHELUGVAR_NO_WINDOW);
+    expect("W 256", shelugvar_test_window(0, 256, 0), SHELUGVAR_NO_WINDOW);
     return wrong;
 }

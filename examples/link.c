@@ -12,6 +12,8 @@ enum {
 };
 
 enum {
+    WINDOW = 16,
+    PAYLOAD = 8,
     PLAN = 100,
     BROKEN_FROM = 12,
     BROKEN_TO = 50,
@@ -20,7 +22,7 @@ enum {
 
 struct side {
     struct shelugvar_node node;
-    uint8_t store[2 * 17 * 8];
+    uint8_t store[SHELUGVAR_SENDER_STORE(WINDOW, PAYLOAD) + SHELUGVAR_RECEIVER_STORE(WINDOW, PAYLOAD)];
     /* what it sends: how much of the plan runs before this one confirmed, what is sent next, and recoveries */
     unsigned settled, next_out, recoveries;
     /* what it is sent: how much of the plan it has, what comes next in this run, and whether the run is new */
@@ -39,13 +41,12 @@ static void must(int holds, const char *what)
     wrong = 1;
 }
 
-/* The channel table: entry 0 sends to the other side, 6 retries, timeout 3; entry 1 receives. W is 16, P is 8. */
+/* The channel table: entry 0 sends to the other side, with 6 retries and a timeout of 3 ticks; entry 1 receives. */
 static void start(struct side *s, uint8_t own, uint8_t other, uint8_t channel_out, uint8_t channel_in)
 {
-    const uint8_t table[] = {
-        0, 2, 0, 8, own, 238, 0, 0,
-        0, other, channel_out, 6, 0, 16, 0, 8, 0, 3, 0, 0,
-        1, other, channel_in, 0, 0, 16, 0, 8, 0, 0, 0, 0};
+    const uint8_t table[] = {SHELUGVAR_HEAD(2, own, SHELUGVAR_PROTOCOL_ID),
+                             SHELUGVAR_SENDER(other, channel_out, 6, WINDOW, PAYLOAD, 3),
+                             SHELUGVAR_RECEIVER(other, channel_in, WINDOW, PAYLOAD)};
 
     must(shelugvar_node_setup(&s->node, s->store, sizeof s->store, table, sizeof table) == SHELUGVAR_DONE, "setup");
     must(shelugvar_node_open(&s->node, SENDS) == SHELUGVAR_DONE, "open");
@@ -55,7 +56,7 @@ static void start(struct side *s, uint8_t own, uint8_t other, uint8_t channel_ou
 /* How much of its plan a side knows to have arrived. */
 static unsigned confirmed(const struct side *s)
 {
-    struct shelugvar_counts counts = {0, 0};
+    struct shelugvar_sender_counts counts = {0, 0};
 
     must(shelugvar_node_counts(&s->node, SENDS, &counts) == SHELUGVAR_DONE, "counts");
     return s->settled + counts.confirmed;
@@ -64,7 +65,7 @@ static unsigned confirmed(const struct side *s)
 /* Sends as much of the plan as the window lets through: a payload is its place in the plan. */
 static void send_on(struct side *s)
 {
-    uint8_t refused = SHELUGVAR_DONE;
+    enum shelugvar_refusal refused = SHELUGVAR_DONE;
 
     while (s->next_out < PLAN) {
         const uint8_t payload[2] = {(uint8_t)(s->next_out >> 8), (uint8_t)s->next_out};
@@ -95,29 +96,38 @@ static void take(struct side *s, const uint8_t *block)
     }
 }
 
-static void arrive(struct side *s, const uint8_t *frame, size_t length, uint8_t wanted)
+static void arrive(struct side *s, const uint8_t *frame, size_t length, enum shelugvar_refusal wanted)
 {
-    uint8_t block[6 + 16 * (4 + 8)];
-    struct shelugvar_arrival was = {0, 0};
-    uint8_t refused =
-        shelugvar_node_arrival(&s->node, s->store, sizeof s->store, block, sizeof block, frame, length, &was);
+    uint8_t block[SHELUGVAR_BLOCK_ROOM(WINDOW, PAYLOAD)];
+    struct shelugvar_arrived arrived;
+    const enum shelugvar_refusal refused =
+        shelugvar_node_arrival(&s->node, s->store, sizeof s->store, block, sizeof block, frame, length, &arrived);
 
     must(refused == wanted || refused == SHELUGVAR_NO_END_POINT, "arrival");
     if (refused != SHELUGVAR_DONE)
         return;
-    if (was.what == SHELUGVAR_WAS_OPENED)
-        s->settled = s->next_out; /* a new run: its counts begin at 0 */
-    if (was.what == SHELUGVAR_WAS_RESET)
+    switch (shelugvar_arrived_what(&arrived)) {
+    case SHELUGVAR_WAS_OPENED: /* a new run: its counts begin at 0 */
+        s->settled = s->next_out;
+        break;
+    case SHELUGVAR_WAS_RESET:
         s->fresh = 1;
-    if (was.what == SHELUGVAR_WAS_DATA)
+        break;
+    case SHELUGVAR_WAS_DATA:
         take(s, block);
+        break;
+    case SHELUGVAR_WAS_IGNORED:
+    case SHELUGVAR_WAS_ACKNOWLEDGED:
+    case SHELUGVAR_WAS_URGENT:
+        break;
+    }
 }
 
 /* The link: of 16 frames 2 are lost, 1 comes with a damaged bit and 2 come twice, by a fixed sequence of numbers. */
 static void carry(struct side *from, struct side *to)
 {
     static uint32_t draw = 1;
-    uint8_t frame[8 + 9];
+    uint8_t frame[SHELUGVAR_FRAME_ROOM(PAYLOAD)];
     size_t length;
 
     while (shelugvar_node_hand_out(&from->node, from->store, sizeof from->store, frame, sizeof frame,
@@ -130,8 +140,10 @@ static void carry(struct side *from, struct side *to)
             lost++;
             continue;
         }
-        damaged += fate == 2;
-        frame[4] ^= fate == 2;
+        if (fate == 2) {
+            damaged++;
+            frame[4] ^= 1;
+        }
         arrive(to, frame, length, fate == 2 ? SHELUGVAR_BAD_FRAME : SHELUGVAR_DONE);
         if (fate == 3 || fate == 4) {
             repeated++;

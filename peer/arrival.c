@@ -79,6 +79,7 @@ int node_arrival(struct node *node, uint8_t *store, size_t store_length,
 
     if (refusal == NOT_REFUSED) {
         *arrival = take(node, end, &frame, store, block);
+        arrival->index = end->index; /* set here, so no kind lacks it */
     }
     return refusal;
 }

@@ -72,6 +72,7 @@ static void run_counts(struct desk *desk, const struct record *record)
 static void print_arrival(struct desk *desk, const struct arrival *arrival)
 {
     lines_number(&desk->lines, arrival->what);
+    lines_number(&desk->lines, arrival->index);
     switch (arrival->what) {
     case ARRIVAL_ACKNOWLEDGED:
     case ARRIVAL_RESET:

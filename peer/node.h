@@ -44,6 +44,7 @@ enum arrival_kind {
 
 struct arrival {
     enum arrival_kind what;
+    uint8_t index;       /* of the entry that the frame was for */
     unsigned number;     /* ACKNOWLEDGED: passed by the start; RESET: held */
     size_t block_length; /* DATA and URGENT */
 };

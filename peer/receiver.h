@@ -15,6 +15,8 @@ void receiver_close(struct waiting *waiting, struct end_point *end);
 
 bool acks_are_full(const struct waiting *waiting);
 
+/* The next three leave the answer's index to node_arrival. */
+
 /* At Enabled or Open, with acknowledgements not full. */
 struct arrival receiver_reset(struct waiting *waiting, struct end_point *end);
 

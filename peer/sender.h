@@ -20,7 +20,7 @@ void sender_send(struct waiting *waiting, struct end_point *end,
 void sender_urgent(struct waiting *waiting, struct end_point *end,
                    uint8_t *store, const uint8_t *payload, uint16_t length);
 
-/* At any state but Closed. */
+/* At any state but Closed. Leaves the answer's index to node_arrival. */
 struct arrival sender_acknowledged(struct waiting *waiting,
                                    struct end_point *end, uint8_t sequence);
 

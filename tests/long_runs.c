@@ -125,7 +125,7 @@ static unsigned long send_urgent(struct side *s, unsigned i, const uint8_t *payl
 
 static void ask_counts(struct side *s, unsigned i)
 {
-    struct shelugvar_counts ours = {0, 0};
+    struct shelugvar_sender_counts ours = {0, 0};
     struct counts peers = {0, 0};
 
     same("counts", shelugvar_node_counts(&s->ours, i, &ours), (unsigned long)node_counts(&s->peers, i, &peers));
@@ -149,7 +149,7 @@ static size_t hand_out(struct side *s, uint8_t *frame)
 static void take_in(struct side *s, const uint8_t *frame, size_t length)
 {
     static uint8_t block[BLOCK], peers_block[BLOCK];
-    struct shelugvar_arrival ours = {0, 0};
+    struct shelugvar_arrived ours = {0};
     struct arrival peers = {0};
     unsigned long refused =
         same("arrival", shelugvar_node_arrival(&s->ours, s->our_store, STORE, block, BLOCK, frame, length, &ours),
@@ -157,6 +157,7 @@ static void take_in(struct side *s, const uint8_t *frame, size_t length)
     int writes_block = refused == 0 && (ours.what == SHELUGVAR_WAS_DATA || ours.what == SHELUGVAR_WAS_URGENT);
 
     same("what arrived", ours.what, peers.what);
+    same("an arrival's entry", ours.entry, peers.index);
     unsigned long value = same("an arrival's value", ours.value, writes_block ? peers.block_length : peers.number);
 
     if (writes_block && value == peers.block_length)

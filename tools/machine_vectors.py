@@ -402,9 +402,9 @@ vectors =
 
 -- ---- the desk's line on a call, from what the machine answers
 
--- the length of the block that an arrival wrote: of Data and Urgent, which are 4 and 5, the number after that
+-- the length of the block that an arrival wrote: of Data and Urgent, which are 4 and 5, the number after the index
 abbrev blockLength : List ℕ → ℕ
-blockLength numbers = pick (leb 4 (getD numbers 1 0)) (getD numbers 2 0) 0
+blockLength numbers = pick (leb 4 (getD numbers 1 0)) (getD numbers 3 0) 0
 
 -- the length of the frame that went out
 abbrev frameLength : List ℕ → ℕ

@@ -63,8 +63,8 @@ class Corner(trace.Trace):
 
     # arrivals at a sender
 
-    def ack(self, index: int, sequence: int, *fields: int) -> None:
-        self.ok(self.arrival, self.frame(index, ACKNOWLEDGE, sequence), gives=fields)
+    def ack(self, index: int, sequence: int, what: int, *value: int) -> None:
+        self.ok(self.arrival, self.frame(index, ACKNOWLEDGE, sequence), gives=[what, index, *value])
 
     def passes(self, index: int, sequence: int, count: int) -> None:
         self.ack(index, sequence, model.ACKNOWLEDGED, count)
@@ -79,17 +79,17 @@ class Corner(trace.Trace):
     # arrivals at a receiver
 
     def reset(self, index: int, held: int = 0) -> None:
-        self.ok(self.arrival, self.frame(index, RESET, 0), gives=[model.TOOK_RESET, held])
+        self.ok(self.arrival, self.frame(index, RESET, 0), gives=[model.TOOK_RESET, index, held])
 
     def data(self, index: int, sequence: int, payload: bytes, *delivered: bytes) -> None:
         block = model.block(delivered)
         self.ok(self.arrival, self.frame(index, DATA, sequence, payload),
-                gives=[model.TOOK_DATA, len(block)] + list(block))
+                gives=[model.TOOK_DATA, index, len(block)] + list(block))
 
     def urgently(self, index: int, payload: bytes, sequence: int = 0) -> None:
         block = model.block([payload])
         self.ok(self.arrival, self.frame(index, URGENT, sequence, payload),
-                gives=[model.TOOK_URGENT, len(block)] + list(block))
+                gives=[model.TOOK_URGENT, index, len(block)] + list(block))
 
     # longer ways
 

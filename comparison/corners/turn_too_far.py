@@ -16,7 +16,7 @@ def turn(name: str, last: int) -> tuple[list[Corner], history.Channel]:
         channel.accept(payload)
         sent.append(channel.hand_out_data(handed_out(a)))
         take_in(b, channel, sent[-1])
-        a.ok(a.arrival, channel.hand_out_ack(handed_out(b)).frame, gives=[model.ACKNOWLEDGED, 1])
+        a.ok(a.arrival, channel.hand_out_ack(handed_out(b)).frame, gives=[model.ACKNOWLEDGED, 0, 1])
         channel.confirm(1)
         if number == last:
             take_in(b, channel, sent[5 - 1])
@@ -32,9 +32,9 @@ def open_both(a: Corner, b: Corner, channel: history.Channel) -> None:
     a.ok(a.open, 0)
     channel.begin()
     reset = channel.hand_out_reset(handed_out(a))
-    b.ok(b.arrival, reset.frame, gives=[model.TOOK_RESET, 0])
+    b.ok(b.arrival, reset.frame, gives=[model.TOOK_RESET, 0, 0])
     channel.take_reset(reset.run, reset.number)
-    a.ok(a.arrival, channel.hand_out_ack(handed_out(b)).frame, gives=[model.OPENED])
+    a.ok(a.arrival, channel.hand_out_ack(handed_out(b)).frame, gives=[model.OPENED, 0])
     channel.opened()
 
 
@@ -47,7 +47,7 @@ def take_in(b: Corner, channel: history.Channel, carried: history.Carried) -> No
     if channel.premise(carried) == history.FAR_DATA:
         channel.break_premise()
     answer = b.arrival(carried.frame)
-    channel.take_data(carried.run, carried.number, model.payloads_of(bytes(answer.fields[2:])))
+    channel.take_data(carried.run, carried.number, model.payloads_of(bytes(answer.fields[3:])))
 
 
 @double

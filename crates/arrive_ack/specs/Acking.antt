@@ -19,8 +19,8 @@ use Rattle.end_points.specs.declared.EndPoint.{EndPoint}
 use Rattle.end_points.specs.declared.State.{State}
 use Rattle.end_points.specs.declared.State.the-variants.{Closed, Enabled, Open, Failing}
 use Rattle.end_points.specs.declared.Run.{Run}
-use Rattle.end_points.specs.declared.answers.Arrived.{Arrived}
-use Rattle.end_points.specs.declared.answers.Arrived.the-variants as arrived
+use Rattle.end_points.specs.declared.answers.Was.{Was}
+use Rattle.end_points.specs.declared.answers.Was.the-variants as was
 use Rattle.slots.specs.Slots.{cell, timerIn}
 use Rattle.arrive_ack.specs.declared.Tally.{Tally}
 use Rattle.arrive_ack.specs.declared.Tally.the-variants as tally
@@ -68,11 +68,11 @@ openedRun r =
 -- ---- what it was
 
 -- at Enabled it opens or is ignored; at Open and Failing it counts or is ignored [E9, A2, A5]
-unfoldable pub ackAnswer : EndPoint → State → ℕ → Arrived
-ackAnswer e Closed s = arrived.Ignored
-ackAnswer e (Enabled t sent) s = pick (sent && eqb s 0) arrived.Opened arrived.Ignored
-ackAnswer e Open s = pick (counts (e .run) s) (arrived.Acknowledged (passing (e .run) s .run)) arrived.Ignored
-ackAnswer e (Failing n) s = pick (counts (e .run) s) (arrived.Acknowledged (passing (e .run) s .run)) arrived.Ignored
+unfoldable pub ackAnswer : EndPoint → State → ℕ → Was
+ackAnswer e Closed s = was.Ignored
+ackAnswer e (Enabled t sent) s = pick (sent && eqb s 0) was.Opened was.Ignored
+ackAnswer e Open s = pick (counts (e .run) s) (was.Acknowledged (passing (e .run) s .run)) was.Ignored
+ackAnswer e (Failing n) s = pick (counts (e .run) s) (was.Acknowledged (passing (e .run) s .run)) was.Ignored
 
 -- ---- what it leaves
 

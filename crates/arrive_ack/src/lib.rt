@@ -4,7 +4,7 @@
 use end_points::EndPoint;
 use end_points::Run;
 use end_points::State;
-use end_points::answers::Arrived;
+use end_points::answers::Was;
 use end_points::save;
 use end_points::states::is_new;
 use memory::layout;
@@ -107,22 +107,22 @@ fn at_enabled(
     t: u16,
     sent: bool,
     s: Seq,
-) -> Arrived
+) -> Was
     ensures answer { λ r. ⌜ r ≡ ackAnswer e (state.Enabled t sent) (s .0) ⌝ }
     ensures node { λ _. ⌜ now (node .exit) ≡ ackNode (now (node .entry)) (now (book .entry)) i e (state.Enabled t sent)
         (s .0) ⌝ }
     ensures book { λ _. ⌜ now (book .exit) ≡ ackBook (now (book .entry)) i e (state.Enabled t sent) (s .0) ⌝ }
 {
     if !sent {
-        return Arrived::Ignored;
+        return Was::Ignored;
     }
     if s.0 != 0 {
-        return Arrived::Ignored;
+        return Was::Ignored;
     }
     let run = e.run;
     save(node, i as usize, State::Open, opened_run(run));
     drop_reset(book, i, t);
-    Arrived::Opened
+    Was::Opened
 }
 
 // The timer of cell g stops, and a waiting retransmission goes: at Open one waits where the timer does not run.
@@ -153,18 +153,18 @@ fn put_counted(node: &mut [u64], i: usize, r: Run)
 }
 
 // At Open.
-fn at_open(node: &mut [u64], book: &mut [u16], i: u8, e: EndPoint, s: Seq) -> Arrived
+fn at_open(node: &mut [u64], book: &mut [u16], i: u8, e: EndPoint, s: Seq) -> Was
     ensures answer { λ r. ⌜ r ≡ ackAnswer e state.Open (s .0) ⌝ }
     ensures node { λ _. ⌜ now (node .exit) ≡ ackNode (now (node .entry)) (now (book .entry)) i e state.Open (s .0) ⌝ }
     ensures book { λ _. ⌜ now (book .exit) ≡ ackBook (now (book .entry)) i e state.Open (s .0) ⌝ }
 {
     let run = e.run;
     match tally_of(run, s) {
-        Tally::Ignored => Arrived::Ignored,
+        Tally::Ignored => Was::Ignored,
         Tally::Counts(next, passed) => {
             stop(book, cell_of(i, e.run.window, s));
             put_counted(node, i as usize, next);
-            Arrived::Acknowledged(passed)
+            Was::Acknowledged(passed)
         }
     }
 }
@@ -183,7 +183,7 @@ fn fewer_of(t: u16, n: u16) -> u16
 }
 
 // At Failing, with the number of timers that still run.
-fn at_failing(node: &mut [u64], book: &mut [u16], i: u8, e: EndPoint, n: u16, s: Seq) -> Arrived
+fn at_failing(node: &mut [u64], book: &mut [u16], i: u8, e: EndPoint, n: u16, s: Seq) -> Was
     ensures answer { λ r. ⌜ r ≡ ackAnswer e (state.Failing n) (s .0) ⌝ }
     ensures node { λ _. ⌜ now (node .exit) ≡ ackNode (now (node .entry)) (now (book .entry)) i e (state.Failing n)
         (s .0) ⌝ }
@@ -191,27 +191,27 @@ fn at_failing(node: &mut [u64], book: &mut [u16], i: u8, e: EndPoint, n: u16, s:
 {
     let run = e.run;
     match tally_of(run, s) {
-        Tally::Ignored => Arrived::Ignored,
+        Tally::Ignored => Was::Ignored,
         Tally::Counts(next, passed) => {
             let g = cell_of(i, e.run.window, s);
             let running = fewer_of(cells::timer(book, g), n);
             cells::put_timer(book, g, 0);
             save(node, i as usize, State::Failing(running), next);
             rouse(node);
-            Arrived::Acknowledged(passed)
+            Was::Acknowledged(passed)
         }
     }
 }
 
 // Acknowledgement s reaches entry i, a sender whose end point is e.
-pub fn acknowledge(node: &mut [u64], book: &mut [u16], i: u8, e: EndPoint, s: Seq) -> Arrived
+pub fn acknowledge(node: &mut [u64], book: &mut [u16], i: u8, e: EndPoint, s: Seq) -> Was
     ensures answer { λ r. ⌜ r ≡ ackAnswer e (e .state) (s .0) ⌝ }
     ensures node { λ _. ⌜ now (node .exit) ≡ ackNode (now (node .entry)) (now (book .entry)) i e (e .state) (s .0) ⌝ }
     ensures book { λ _. ⌜ now (book .exit) ≡ ackBook (now (book .entry)) i e (e .state) (s .0) ⌝ }
 {
     let state = e.state;
     match state {
-        State::Closed => Arrived::Ignored,
+        State::Closed => Was::Ignored,
         State::Enabled(t, sent) => at_enabled(node, book, i, e, t, sent, s),
         State::Open => at_open(node, book, i, e, s),
         State::Failing(n) => at_failing(node, book, i, e, n, s),

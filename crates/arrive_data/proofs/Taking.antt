@@ -3,17 +3,16 @@ use mathlib.Core.Path.{_≡_}
 use mathlib.Core.Bool.{true, false}
 use mathlib.Core.List.{List, []}
 use Prim.Native.Nat.{ℕ}
-use lib.ListN.{length}
 use Rattle.window.specs.Windows.{acceptOf}
 use Rattle.end_points.specs.Lent.{Lent}
 use Rattle.end_points.specs.Runs.{isNew}
 use Rattle.end_points.specs.declared.EndPoint.{EndPoint}
-use Rattle.end_points.specs.declared.answers.Arrived.the-variants as arrived
-use Rattle.blocks.specs.Blocks.{blockOf}
+use Rattle.end_points.specs.declared.answers.Was.the-variants as was
+use Rattle.blocks.specs.Blocks.{takes}
 use Rattle.arrive_data.specs.Receiving.{delivered, given, taken, repeated, dataAnswer, dataAfter}
 
 module _ (x : Lent) (i : ℕ) (e : EndPoint) (s : ℕ) (p : List ℕ) where
-  pub dataAnswer-new : isNew (acceptOf (e .run .window) s .found) ≡ true → dataAnswer x i e s p ≡ arrived.Data (length (blockOf (delivered x i e s p)))
+  pub dataAnswer-new : isNew (acceptOf (e .run .window) s .found) ≡ true → dataAnswer x i e s p ≡ was.Data (takes (x .out) (delivered x i e s p))
   unfolding dataAnswer given
   dataAnswer-new h = rw h
 
@@ -21,7 +20,7 @@ module _ (x : Lent) (i : ℕ) (e : EndPoint) (s : ℕ) (p : List ℕ) where
   unfolding dataAfter
   dataAfter-new h = rw h
 
-  pub dataAnswer-other : isNew (acceptOf (e .run .window) s .found) ≡ false → dataAnswer x i e s p ≡ arrived.Data (length (blockOf []))
+  pub dataAnswer-other : isNew (acceptOf (e .run .window) s .found) ≡ false → dataAnswer x i e s p ≡ was.Data (takes (x .out) [])
   unfolding dataAnswer given
   dataAnswer-other h = rw h
 

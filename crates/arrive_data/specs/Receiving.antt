@@ -16,10 +16,10 @@ use Rattle.end_points.specs.Lent.{Lent}
 use Rattle.end_points.specs.declared.EndPoint.{EndPoint}
 use Rattle.end_points.specs.declared.State.the-variants.{Open}
 use Rattle.end_points.specs.declared.Run.{Run}
-use Rattle.end_points.specs.declared.answers.Arrived.{Arrived}
-use Rattle.end_points.specs.declared.answers.Arrived.the-variants as arrived
+use Rattle.end_points.specs.declared.answers.Was.{Was}
+use Rattle.end_points.specs.declared.answers.Was.the-variants as was
 use Rattle.slots.specs.Slots.{slotFor, cell, spot}
-use Rattle.blocks.specs.Blocks.{blockOf}
+use Rattle.blocks.specs.Blocks.{blockOf, takes}
 use Rattle.blocks.specs.Payloads.{payloads}
 
 -- an acknowledgement of s waits for entry i [A1, H3]
@@ -29,8 +29,8 @@ acknowledged ws i s = pushed ws (i * 256 + s)
 -- ---- a Reset, at Enabled or Open
 
 -- how many were held [E13]
-unfoldable pub resetAnswer : EndPoint → Arrived
-resetAnswer e = arrived.Reset (heldCount (e .run .window))
+unfoldable pub resetAnswer : EndPoint → Was
+resetAnswer e = was.Reset (heldCount (e .run .window))
 
 -- Open, start 1; held payloads and waiting acknowledgements dropped; acknowledgement 0 waits [E11, E12]
 unfoldable pub resetNode : List ℕ → ℕ → EndPoint → List ℕ
@@ -81,9 +81,9 @@ delivered x i e s p =
 unfoldable pub given : Lent → ℕ → EndPoint → ℕ → List ℕ → List (List ℕ)
 given x i e s p = pick (isNew (acceptOf (e .run .window) s .found)) (delivered x i e s p) []
 
--- the length of the block that is written [B3]
-unfoldable pub dataAnswer : Lent → ℕ → EndPoint → ℕ → List ℕ → Arrived
-dataAnswer x i e s p = arrived.Data (length (blockOf (given x i e s p)))
+-- how much of the block was written: all of it, where there is room [B3, O9]
+unfoldable pub dataAnswer : Lent → ℕ → EndPoint → ℕ → List ℕ → Was
+dataAnswer x i e s p = was.Data (takes (x .out) (given x i e s p))
 
 -- in the window and new: held, what is at the start delivered, and an acknowledgement waits [W4, W5, A1, B3, B4]
 abbrev pub taken : Lent → ℕ → EndPoint → ℕ → List ℕ → Lent
@@ -111,9 +111,9 @@ dataAfter x i e s p = pick (isNew (acceptOf (e .run .window) s .found)) (taken x
 
 -- ---- an Urgent, at Open: delivered, not acknowledged
 
--- the length of the block that is written [E16, B3]
-unfoldable pub urgentAnswer : List ℕ → Arrived
-urgentAnswer p = arrived.Urgent (length (blockOf (p ∷ [])))
+-- how much of the block was written [E16, B3, O9]
+unfoldable pub urgentAnswer : List ℕ → List ℕ → Was
+urgentAnswer out p = was.Urgent (takes out (p ∷ []))
 
 -- the block alone alters [E16, B3, B4]
 unfoldable pub urgentAfter : Lent → List ℕ → Lent

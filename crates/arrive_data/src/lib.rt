@@ -6,7 +6,7 @@ use blocks::put_none;
 use blocks::put_one;
 use end_points::EndPoint;
 use end_points::State;
-use end_points::answers::Arrived;
+use end_points::answers::Was;
 use end_points::save;
 use end_points::states::anew_run;
 use end_points::states::is_new;
@@ -31,7 +31,7 @@ ghost use Rattle.arrive_data.specs.Receiving.{resetAnswer, resetNode, wi
 ghost use Rattle.arrive_data.specs.Receiving.{dataAfter, urgentAnswer};
 
 // A Reset, at Enabled or Open: the receiver is Open at start 1, with acknowledgement 0 alone waiting for it.
-pub fn take_reset(node: &mut [u64], i: u8, e: EndPoint) -> Arrived
+pub fn take_reset(node: &mut [u64], i: u8, e: EndPoint) -> Was
     ensures answer { λ r. ⌜ r ≡ resetAnswer e ⌝ }
     ensures after { λ _. ⌜ now (node .exit) ≡ resetNode (now (node .entry)) i e ⌝ }
 {
@@ -39,7 +39,7 @@ pub fn take_reset(node: &mut [u64], i: u8, e: EndPoint) -> Arrived
     acks::drop(node, i);
     acks::push(node, i, Seq(0));
     save(node, i as usize, State::Open, anew_run(run));
-    Arrived::Reset(run.window.held_count())
+    Was::Reset(run.window.held_count())
 }
 
 // Data, at Open: a new payload in the window is kept, and what then follows the start without a gap is delivered;
@@ -53,7 +53,7 @@ pub fn take_data(
     e: EndPoint,
     s: Seq,
     payload: &[u8],
-) -> Arrived
+) -> Was
     requires { ⌜ length (now payload) < 65536 ⌝ }
     ensures answer { λ r.
         let x = whole (now (node .entry)) (now (book .entry)) (now (store .entry)) (now (out .entry)) in
@@ -81,9 +81,9 @@ pub fn take_data(
             passed.run,
         );
         put_window(node, i as usize, passed.window);
-        return Arrived::Data(n);
+        return Was::Data(n);
     }
-    Arrived::Data(put_none(out))
+    Was::Data(put_none(out))
 }
 
 // A payload lies in the slot of its number.
@@ -113,10 +113,10 @@ fn put_window(node: &mut [u64], i: usize, w: Window)
 }
 
 // An Urgent, at Open: it is delivered, and not acknowledged.
-pub fn take_urgent(out: &mut [u8], payload: &[u8]) -> Arrived
+pub fn take_urgent(out: &mut [u8], payload: &[u8]) -> Was
     requires { ⌜ length (now payload) < 65536 ⌝ }
-    ensures answer { λ r. ⌜ r ≡ urgentAnswer (now (payload .entry)) ⌝ }
+    ensures answer { λ r. ⌜ r ≡ urgentAnswer (now (out .entry)) (now (payload .entry)) ⌝ }
     ensures after { λ _. ⌜ now (out .exit) ≡ sets (now (out .entry)) 0 (blockOf (now (payload .entry) ∷ [])) ⌝ }
 {
-    Arrived::Urgent(put_one(out, payload))
+    Was::Urgent(put_one(out, payload))
 }

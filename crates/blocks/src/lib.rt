@@ -1,7 +1,10 @@
 // The host's block: how many payloads it has, where each begins and where the last ends, then the payloads.
-// Proved: what is written is `blockOf` of specs/Blocks.antt, from the first byte on, and the answer is its length;
-// beyond its end nothing alters. proofs/Reading.antt: the payloads can be read out of the block again.
+// Proved: what is written is `blockOf` of specs/Blocks.antt, from the first byte on, and the answer how many of its
+// bytes the lent block took: all of them, where it is long enough. Beyond its end nothing alters. proofs/Reading.antt:
+// the payloads can be read out of the block again.
 // `put_one` asks a payload of at most 65,535 bytes, which is more than any frame carries.
+pub mod layout; // layout.rt: its numbers
+
 use slots::cell_of;
 use slots::cells;
 use slots::part;
@@ -18,7 +21,7 @@ ghost use Prim.Native.Nat.{_+_, _*_, _<_};
 ghost use lib.ListN.{length};
 ghost use lib.Seq.{sets};
 ghost use Rattle.units.specs.Bytes.{be32};
-ghost use Rattle.blocks.specs.Blocks.{blockOf};
+ghost use Rattle.blocks.specs.Blocks.{blockOf, takes};
 ghost use Rattle.blocks.specs.Payloads.{payloadAt, payloads};
 
 // The payload of number k past the start.
@@ -44,8 +47,8 @@ fn put_offset(out: &mut [u8], j: u8, offset: usize)
     requires { ⌜ offset < 4294967296 ⌝ }
     ensures { λ _. ⌜ now (out .exit) ≡ sets (now (out .entry)) (2 + 4 * j) (be32 offset) ⌝ }
 {
-    let at = 2 + 4 * j as usize;
-    if out.len() < at + 4 {
+    let at = layout::OFFSETS + layout::OFFSET_BYTES * j as usize;
+    if out.len() < at + layout::OFFSET_BYTES {
         put32(out, at, offset as u32);
         return;
     }
@@ -56,7 +59,7 @@ fn put_offset(out: &mut [u8], j: u8, offset: usize)
 }
 
 // The block of the first k payloads of entry i from the start of its window on, as store and book have them;
-// answers its length.
+// answers how much of it the lent block took.
 pub fn put_block(
     out: &mut [u8],
     store: &[u8],
@@ -67,13 +70,13 @@ pub fn put_block(
     w: Window,
     k: u8,
 ) -> usize
-    ensures length { λ r. ⌜ r ≡ length (blockOf
-        (payloads (now (store .entry)) (now (book .entry)) i place largest w k)) ⌝ }
+    ensures length { λ r. ⌜ r ≡ takes (now (out .entry))
+        (payloads (now (store .entry)) (now (book .entry)) i place largest w k) ⌝ }
     ensures written { λ _. ⌜ now (out .exit) ≡ sets (now (out .entry)) 0
         (blockOf (payloads (now (store .entry)) (now (book .entry)) i place largest w k)) ⌝ }
 {
     put16(out, 0, k as u16);
-    let mut end = 6 + 4 * k as usize;
+    let mut end = layout::EMPTY + layout::OFFSET_BYTES * k as usize;
     let mut j: u8 = 0;
     while j < k {
         let p = payload(store, book, i, place, largest, w, j);
@@ -83,29 +86,38 @@ pub fn put_block(
         j += 1;
     }
     put_offset(out, k, end);
+    if out.len() < end {
+        return out.len();
+    }
     end
 }
 
-// The block of no payload; answers its length.
+// The block of no payload; answers how much of it the lent block took.
 pub fn put_none(out: &mut [u8]) -> usize
-    ensures length { λ r. ⌜ r ≡ length (blockOf []) ⌝ }
+    ensures length { λ r. ⌜ r ≡ takes (now (out .entry)) [] ⌝ }
     ensures written { λ _. ⌜ now (out .exit) ≡ sets (now (out .entry)) 0 (blockOf []) ⌝ }
 {
     put16(out, 0, 0);
-    put_offset(out, 0, 6);
-    6
+    put_offset(out, 0, layout::EMPTY);
+    if out.len() < layout::EMPTY {
+        return out.len();
+    }
+    layout::EMPTY
 }
 
-// The block of one payload; answers its length.
+// The block of one payload; answers how much of it the lent block took.
 pub fn put_one(out: &mut [u8], payload: &[u8]) -> usize
     requires { ⌜ length (now payload) < 65536 ⌝ }
-    ensures length { λ r. ⌜ r ≡ length (blockOf (now (payload .entry) ∷ [])) ⌝ }
+    ensures length { λ r. ⌜ r ≡ takes (now (out .entry)) (now (payload .entry) ∷ []) ⌝ }
     ensures written { λ _. ⌜ now (out .exit) ≡ sets (now (out .entry)) 0 (blockOf (now (payload .entry) ∷ [])) ⌝ }
 {
-    let end = 10 + payload.len();
+    let end = layout::ONLY + payload.len();
     put16(out, 0, 1);
-    put_offset(out, 0, 10);
+    put_offset(out, 0, layout::ONLY);
     put_offset(out, 1, end);
-    put_all(out, 10, payload);
+    put_all(out, layout::ONLY, payload);
+    if out.len() < end {
+        return out.len();
+    }
     end
 }

@@ -23,11 +23,13 @@ use Rattle.end_points.specs.Heads.{countIn, ownIn, protocolIn, needIn}
 use Rattle.end_points.specs.Lent.{Lent}
 use Rattle.end_points.specs.States.{isClosed, isOpen}
 use Rattle.end_points.specs.declared.EndPoint.{EndPoint}
+use Rattle.end_points.specs.declared.answers.Was.{Was}
 use Rattle.end_points.specs.declared.answers.Arrived.{Arrived}
 use Rattle.end_points.specs.declared.answers.Arrived.the-variants as arrived
 use Rattle.arrive_ack.specs.Acking.{ackAnswer, ackAfter}
 use Rattle.arrive_data.specs.Receiving.{resetAnswer, resetAfter, dataAnswer, dataAfter, urgentAnswer, urgentAfter}
 use Rattle.arrive_lookup.specs.Lookup.{entryFor}
+use Rattle.blocks.specs.Blocks.{empty, offsetBytes}
 
 -- destination and protocol ID are ours [F2, F3, R11]
 abbrev pub ours : List ℕ → List ℕ → Bool
@@ -35,7 +37,7 @@ ours ws f = eqb (getD f 0 0) (ownIn ws .0) && eqb (getD f 1 0) (protocolIn ws)
 
 -- the room that Data and Urgent need [B2]
 abbrev pub blockRoom : EndPoint → ℕ
-blockRoom e = 6 + e .run .window .size * (4 + e .entry .largest)
+blockRoom e = empty + e .run .window .size * (offsetBytes + e .entry .largest)
 
 -- ---- 13, 5, 14, 6
 
@@ -63,19 +65,20 @@ entryVerdict x i h = verdict (entryTests (x .node) i (endOf (x .node) i) (h .kin
 -- ---- what it was
 
 -- taken in by entry i, which is e: a frame of type t, number s, payload p [F16]
-unfoldable pub takenInAnswer : Lent → ℕ → EndPoint → FrameType → ℕ → List ℕ → Arrived
+unfoldable pub takenInAnswer : Lent → ℕ → EndPoint → FrameType → ℕ → List ℕ → Was
 takenInAnswer x i e type.Data s p = dataAnswer x i e s p
 takenInAnswer x i e type.Acknowledge s p = ackAnswer e (e .state) s
 takenInAnswer x i e type.Reset s p = resetAnswer e
-takenInAnswer x i e type.Urgent s p = urgentAnswer p
+takenInAnswer x i e type.Urgent s p = urgentAnswer (x .out) p
 
 abbrev pub answerAs : Verdict → Arrived → Arrived
 answerAs verdicts.Passed a = a
 answerAs (verdicts.Refused w) a = arrived.Refused w
 
--- 13, 5, 14, 6 at entry i [R37]
+-- 13, 5, 14, 6 at entry i; else which entry that is, and what the frame was there [R37, O8]
 unfoldable pub entryAnswer : Lent → ℕ → Header → List ℕ → Arrived
-entryAnswer x i h p = answerAs (entryVerdict x i h) (takenInAnswer x i (endOf (x .node) i) (h .kind) (h .seq .0) p)
+entryAnswer x i h p =
+    answerAs (entryVerdict x i h) (arrived.At i (takenInAnswer x i (endOf (x .node) i) (h .kind) (h .seq .0) p))
 
 -- 12, or the header [R12, R37]
 unfoldable pub readAnswer : Lent → Read → List ℕ → Arrived

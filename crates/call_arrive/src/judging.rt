@@ -1,4 +1,5 @@
 // The tests of an arrival at an entry: 13, 5, 14, 6, in this order.
+use blocks::layout;
 use end_points::heads;
 use end_points::load_entry;
 use end_points::load_state;
@@ -50,7 +51,7 @@ fn block_room(node: &[u64], i: u8) -> usize
     ensures { λ r. ⌜ r ≡ blockRoom (endOf (now (node .entry)) i) ⌝ }
 {
     let entry = load_entry(node, i as usize);
-    6 + (entry.window % 256) as usize * (4 + entry.largest as usize)
+    layout::EMPTY + (entry.window % 256) as usize * (layout::OFFSET_BYTES + entry.largest as usize)
 }
 
 // Data or a Reset, with so many acknowledgements waiting.

@@ -10,6 +10,7 @@ use arrive_data::take_urgent;
 use arrive_lookup::entry_for;
 use end_points::EndPoint;
 use end_points::answers::Arrived;
+use end_points::answers::Was;
 use end_points::heads;
 use end_points::load_entry;
 use end_points::load_place;
@@ -33,6 +34,7 @@ ghost use lib.ListN.{length};
 ghost use Rattle.units.specs.Refusals.{verdict};
 ghost use Rattle.end_points.specs.Ends.{endOf};
 ghost use Rattle.end_points.specs.Lent.{whole};
+ghost use Rattle.end_points.specs.declared.answers.Arrived.the-variants as arrived;
 ghost use Rattle.call_arrive.specs.Arriving.{ours, entryTests, takenInAnswer, takenInAfter, answerAs, afterAs};
 ghost use Rattle.call_arrive.specs.Arriving.{arrivalAnswer, arrivalAfter};
 
@@ -58,7 +60,7 @@ fn take(
     t: FrameType,
     s: Seq,
     payload: &[u8],
-) -> Arrived
+) -> Was
     requires { ⌜ length (now payload) < 65536 ⌝ }
     ensures answer { λ r.
         let x = whole (now (node .entry)) (now (book .entry)) (now (store .entry)) (now (out .entry)) in
@@ -112,7 +114,7 @@ fn come(
         let x = whole (now (node .entry)) (now (book .entry)) (now (store .entry)) (now (out .entry)) in
         let e = endOf (x .node) i in
         let v = verdict (entryTests (x .node) i e t n (length (x .store)) (length (x .out))) in
-        ⌜ r ≡ answerAs v (takenInAnswer x i e t (s .0) (now (payload .entry))) ⌝ }
+        ⌜ r ≡ answerAs v (arrived.At i (takenInAnswer x i e t (s .0) (now (payload .entry)))) ⌝ }
     ensures after { λ _.
         let x = whole (now (node .entry)) (now (book .entry)) (now (store .entry)) (now (out .entry)) in
         let e = endOf (x .node) i in
@@ -124,7 +126,8 @@ fn come(
         Verdict::Refused(w) => Arrived::Refused(w),
         Verdict::Passed => {
             let e = read_end(node, i as usize);
-            take(node, book, store, out, i, e, t, s, payload)
+            let was = take(node, book, store, out, i, e, t, s, payload);
+            Arrived::At(i, was)
         }
     }
 }

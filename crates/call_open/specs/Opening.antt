@@ -1,5 +1,5 @@
--- Open, close and counts: which answer, and what all that was lent holds afterwards. Cited by these calls. Assumes
--- nothing.
+-- Open, close, counts and state: which answer, and what all that was lent holds afterwards. Cited by these calls.
+-- Assumes nothing.
 use Prim.Native.Nat.{ℕ}
 use mathlib.Core.Bool.{false, not}
 use mathlib.Core.List.{List, [], _∷_}
@@ -22,6 +22,8 @@ use Rattle.end_points.specs.declared.State.the-variants as state
 use Rattle.end_points.specs.declared.Run.{Run}
 use Rattle.end_points.specs.declared.answers.Counted.{Counted}
 use Rattle.end_points.specs.declared.answers.Counted.the-variants as counted
+use Rattle.end_points.specs.declared.answers.Stated.{Stated}
+use Rattle.end_points.specs.declared.answers.Stated.the-variants as stated
 use Rattle.slots.specs.Slots.{idled}
 
 -- ---- open: 2, 4
@@ -97,3 +99,13 @@ countsAnswer ws i =
     ∷ (not (isSends (endOf ws i .entry .kind)), refusal.OtherKind)
     ∷ []))
     (endOf ws i .run)
+
+-- ---- state
+
+abbrev pub statedAs : Verdict → State → Stated
+statedAs Passed s = stated.Is s
+statedAs (Refused w) s = stated.Refused w
+
+-- 2 where there is no such entry; else its state [E1, R2, R45]
+unfoldable pub stateAnswer : List ℕ → ℕ → Stated
+stateAnswer ws i = statedAs (verdict ((leb (countIn ws) i, refusal.NoEntry) ∷ [])) (endOf ws i .state)

@@ -5,7 +5,7 @@ use mathlib.Core.List.{List, [], _∷_}
 use lib.ListN.{length, replicate}
 use lib.Seq.{sets}
 use lib.Dec.{ltb}
-use Rattle.units.specs.Refusals.{verdict}
+use Rattle.units.specs.Refusals.{pick, verdict}
 use Rattle.units.specs.declared.refusals.Refusal.the-variants as refusal
 use Rattle.units.specs.declared.refusals.Verdict.{Verdict}
 use Rattle.units.specs.declared.refusals.Verdict.the-variants.{Passed, Refused}
@@ -19,12 +19,18 @@ use Rattle.end_points.specs.Ends.{saved, savedEntry}
 use Rattle.end_points.specs.Lent.{Lent}
 use Rattle.end_points.specs.declared.State.the-variants.{Closed}
 use Rattle.end_points.specs.declared.Run.{Run}
+use Rattle.end_points.specs.declared.answers.Needed.{Needed}
+use Rattle.end_points.specs.declared.answers.Needed.the-variants as needed
 use Rattle.arrive_lookup.specs.Lookup.{indexed}
 
 -- 1, 6 [R1, R6, R31]
 unfoldable pub setupAnswer : Lent → List ℕ → Verdict
 setupAnswer x t =
     verdict ((not (goodTable t), refusal.BadTable) ∷ (ltb (length (x .store)) (storeOf t), refusal.TooShort) ∷ [])
+
+-- how many bytes of store it needs: 1, or the sum of its entries' parts [S1, R1, R46]
+unfoldable pub needAnswer : List ℕ → Needed
+needAnswer t = pick (goodTable t) (needed.Bytes (storeOf t)) (needed.Refused refusal.BadTable)
 
 -- start 1, nothing taken, counts 0 [E3]
 abbrev pub firstRun : Run

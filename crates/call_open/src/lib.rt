@@ -1,4 +1,4 @@
-// Setup, open, close and counts: an end point's life as the host rules it.
+// Setup, open, close, counts and state: an end point's life as the host rules it.
 // Proved: which answer each call gives, and what the node and the book hold afterwards, for every memory and every
 // table; a refused call alters nothing. specs/Setup.antt and specs/Opening.antt state the calls.
 mod setting; // setting.rt: setup from a channel table
@@ -6,14 +6,17 @@ mod setting; // setting.rt: setup from a channel table
 use end_points::Run;
 use end_points::State;
 use end_points::answers::Counted;
+use end_points::answers::Stated;
 use end_points::heads;
 use end_points::load;
+use end_points::load_state;
 use end_points::save;
 use end_points::states::anew_run;
 use end_points::states::is_closed;
 use end_points::states::is_sends;
 use memory::layout;
 pub use setting::setup;
+pub use setting::store_need;
 use slots::idle;
 use units::refusals::Refusal;
 use units::refusals::Verdict;
@@ -22,6 +25,7 @@ use waiting::queues;
 ghost use mathlib.Core.Path.{_≡_};
 ghost use Rattle.end_points.specs.Lent.{bare};
 ghost use Rattle.call_open.specs.Opening.{openAnswer, openAfter, closeAnswer, closeAfter, silenced, countsAnswer};
+ghost use Rattle.call_open.specs.Opening.{stateAnswer};
 
 // The host opens an end point: it becomes Enabled, and a sender's Reset waits.
 pub fn open(node: &mut [u64], book: &mut [u16], index: usize) -> Verdict
@@ -110,4 +114,14 @@ pub fn counts(node: &[u64], index: usize) -> Counted
     let accepted = run.accepted;
     let confirmed = run.confirmed;
     Counted::Counts(accepted, confirmed)
+}
+
+// An end point's state.
+pub fn state(node: &[u64], index: usize) -> Stated
+    ensures { λ r. ⌜ r ≡ stateAnswer (now (node .entry)) index ⌝ }
+{
+    if heads::count(node) as usize <= index {
+        return Stated::Refused(Refusal::NoEntry);
+    }
+    Stated::Is(load_state(node, index))
 }

@@ -2,6 +2,7 @@
 use arrive_lookup::put_in_index;
 use end_points::Run;
 use end_points::State;
+use end_points::answers::Needed;
 use end_points::save;
 use end_points::save_entry;
 use memory::layout;
@@ -24,7 +25,17 @@ ghost use Rattle.end_points.specs.Ends.{saved, savedEntry};
 ghost use Rattle.end_points.specs.declared.State.the-variants.{Closed};
 ghost use Rattle.arrive_lookup.specs.Lookup.{indexed};
 ghost use Rattle.end_points.specs.Lent.{stored};
-ghost use Rattle.call_open.specs.Setup.{setupAnswer, setupAfter, firstRun, headed, tabled, emptied};
+ghost use Rattle.call_open.specs.Setup.{needAnswer, setupAnswer, setupAfter, firstRun, headed, tabled, emptied};
+
+// How many bytes of store a table needs.
+pub fn store_need(table: &[u8]) -> Needed
+    ensures { λ r. ⌜ r ≡ needAnswer (now (table .entry)) ⌝ }
+{
+    if table::is_good(table) {
+        return Needed::Bytes(table::store_need(table));
+    }
+    Needed::Refused(Refusal::BadTable)
+}
 
 // The node is set up from a table.
 pub fn setup(node: &mut [u64], book: &mut [u16], store: &[u8], table: &[u8]) -> Verdict

@@ -1,11 +1,8 @@
 -- One outcome: the functions for C, and lines of text. A theorem a function, over its contract's own text. Assumes
 -- nothing.
-use Prim.Native.Nat.{ℕ, _-_, _^_, _≤_, _<_}
-use mathlib.Core.Path.{_≡_, ap}
+use Prim.Native.Nat.{ℕ}
+use mathlib.Core.Path.{_≡_}
 use mathlib.Core.List.{List, []}
-use native.Mathlib.Decide.{decLt}
-use native.Mathlib.Nat.{pow-le-pow-right}
-use native.Mathlib.Omega.{arith}
 use denote.Ref.{now}
 use Rattle.firmware.proofs.shelugvar_frame_read.Reads as shelugvar-frame-read
 use Rattle.firmware.proofs.shelugvar_frame_write.Reads as shelugvar-frame-write
@@ -19,9 +16,17 @@ use Rattle.firmware.proofs.nodes.shelugvar_urgent.Reads as shelugvar-urgent
 use Rattle.firmware.proofs.nodes.shelugvar_arrival.Reads as shelugvar-arrival
 use Rattle.firmware.proofs.nodes.shelugvar_hand_out.Reads as shelugvar-hand-out
 use Rattle.firmware.proofs.nodes.shelugvar_tick.Reads as shelugvar-tick
+use Rattle.firmware.proofs.nodes.shelugvar_entry_state.Reads as shelugvar-entry-state
+use Rattle.firmware.proofs.nodes.shelugvar_store_need.Reads as shelugvar-store-need
+use Rattle.firmware.proofs.nodes.shelugvar_version.Reads as shelugvar-version
 use Rattle.lines.proofs.text.Reads as lines-text
 use Rattle.lines.proofs.number.Reads as lines-number
-use Rattle.io.specs.Digits.{Fewest}
+use Rattle.lines.proofs.value.Reads as lines-value
+use Rattle.lines.proofs.numbers.Reads as lines-numbers
+use Rattle.lines.proofs.values.Reads as lines-values
+use Rattle.lines.proofs.refused.Reads as lines-refused
+use Rattle.lines.proofs.torn.Reads as lines-torn
+use Rattle.lines.proofs.unknown.Reads as lines-unknown
 use Rattle.end_points.specs.Lent.{Lent, bare, stored, whole}
 use Rattle.contracts.proofs.Stores.{but-store}
 use Rattle.contracts.specs.Outcome.{One, OneAnswer}
@@ -70,25 +75,37 @@ shelugvar-hand-out-one u v a r₁ r₂ e₁ e₂ p q =
 pub shelugvar-tick-one : One shelugvar-tick.Post (λ e. bare (now (e .0)) (now (e .1 .0)))
 shelugvar-tick-one u v a r₁ r₂ e₁ e₂ p q = (cc (p .0, q .0), cc (p .1, q .1))
 
+pub shelugvar-entry-state-one : One shelugvar-entry-state.Post (λ e. now (e .1 .1 .0))
+shelugvar-entry-state-one u v a r₁ r₂ e₁ e₂ p q = (cc (p .0, q .0), cc (p .1, q .1))
+
+pub shelugvar-store-need-one : One shelugvar-store-need.Post (λ e. now (e .1 .0))
+shelugvar-store-need-one u v a r₁ r₂ e₁ e₂ p q = (cc (p .0, q .0), cc (p .1, q .1))
+
+pub shelugvar-version-one : OneAnswer shelugvar-version.Post (λ r. r)
+shelugvar-version-one u v a r₁ r₂ e₁ e₂ p q = cc
+
 -- ---- lines
 
 pub lines-text-one : One lines-text.Post (λ e. now (e .0))
 lines-text-one u v a r₁ r₂ e₁ e₂ p q = (cc (p .0, q .0), cc (p .1, q .1))
 
--- `lines::number` speaks of the fewest digits that hold its number: two counts that are fewest are one
-no-more : (v k l : ℕ) → Fewest 10 1 v k → Fewest 10 1 v l → k ≤ l
-no-more v k l f g = sides (decLt l k)
-  where
-    sides : Dec (l < k) → k ≤ l
-    sides (no h) = omega arith
-    sides (yes h) =
-        let most : 10 ^ l ≤ 10 ^ (k - 1) = pow-le-pow-right (omega arith) (omega arith) in
-        let least : 10 ^ (k - 1) ≤ v = f .2 (omega (arith, g .0)) in
-        omega (arith, g .1)
-
 pub lines-number-one : One lines-number.Post (λ e. now (e .0))
-lines-number-one u v a r₁ r₂ e₁ e₂ p q =
-    let k = no-more (a .1 .1 .0) (p .places) (q .places) (p .fewest) (q .fewest) in
-    let l = no-more (a .1 .1 .0) (q .places) (p .places) (q .fewest) (p .fewest) in
-    let e : p .places ≡ q .places = omega arith in
-    (cc (p .answer, q .answer), cc (p .stored, q .stored))
+lines-number-one u v a r₁ r₂ e₁ e₂ p q = (cc (p .0, q .0), cc (p .1, q .1))
+
+pub lines-value-one : One lines-value.Post (λ e. now (e .0))
+lines-value-one u v a r₁ r₂ e₁ e₂ p q = (cc (p .0, q .0), cc (p .1, q .1))
+
+pub lines-numbers-one : One lines-numbers.Post (λ e. now (e .0))
+lines-numbers-one u v a r₁ r₂ e₁ e₂ p q = (cc (p .0, q .0), cc (p .1, q .1))
+
+pub lines-values-one : One lines-values.Post (λ e. now (e .0))
+lines-values-one u v a r₁ r₂ e₁ e₂ p q = (cc (p .0, q .0), cc (p .1, q .1))
+
+pub lines-refused-one : One lines-refused.Post (λ e. now (e .0))
+lines-refused-one u v a r₁ r₂ e₁ e₂ p q = (cc (p .0, q .0), cc (p .1, q .1))
+
+pub lines-torn-one : One lines-torn.Post (λ e. now (e .0))
+lines-torn-one u v a r₁ r₂ e₁ e₂ p q = (cc (p .0, q .0), cc (p .1, q .1))
+
+pub lines-unknown-one : One lines-unknown.Post (λ e. now (e .0))
+lines-unknown-one u v a r₁ r₂ e₁ e₂ p q = (cc (p .0, q .0), cc (p .1, q .1))

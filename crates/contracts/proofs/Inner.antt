@@ -9,6 +9,8 @@ use Rattle.arrive_lookup.proofs.put_in_index.Reads as arrive-lookup-put-in-inde
 use Rattle.call_open.proofs.open.Reads as call-open-open
 use Rattle.call_open.proofs.close.Reads as call-open-close
 use Rattle.call_open.proofs.counts.Reads as call-open-counts
+use Rattle.call_open.proofs.state.Reads as call-open-state
+use Rattle.call_open.proofs.store_need.Reads as call-open-store-need
 use Rattle.call_open.proofs.setup.Reads as call-open-setup
 use Rattle.call_send.proofs.send.Reads as call-send-send
 use Rattle.call_send.proofs.urgent.Reads as call-send-urgent
@@ -44,6 +46,12 @@ call-open-close-one u v a r₁ r₂ e₁ e₂ p q = (cc (p .0, q .0), cc (p .0, 
 
 pub call-open-counts-one : OneAnswer call-open-counts.Post (λ r. r)
 call-open-counts-one u v a r₁ r₂ e₁ e₂ p q = cc
+
+pub call-open-state-one : OneAnswer call-open-state.Post (λ r. r)
+call-open-state-one u v a r₁ r₂ e₁ e₂ p q = cc
+
+pub call-open-store-need-one : OneAnswer call-open-store-need.Post (λ r. r)
+call-open-store-need-one u v a r₁ r₂ e₁ e₂ p q = cc
 
 pub call-open-setup-one : One call-open-setup.Post (λ e. stored (now (e .0)) (now (e .1 .0)) (now (e .1 .1 .0)))
 call-open-setup-one u v a r₁ r₂ e₁ e₂ p q = (cc (p .0, q .0), cc (p .0, q .0, p .1, q .1))

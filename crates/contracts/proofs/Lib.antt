@@ -5,5 +5,6 @@ pub mod Inner
 pub mod Node
 pub mod Faces
 pub mod Refused
+pub mod Lengths
 pub mod LentWindow
 pub mod Calls

@@ -7,6 +7,8 @@ use Rattle.node.proofs.setup.Reads as node-setup
 use Rattle.node.proofs.open.Reads as node-open
 use Rattle.node.proofs.close.Reads as node-close
 use Rattle.node.proofs.counts.Reads as node-counts
+use Rattle.node.proofs.state.Reads as node-state
+use Rattle.node.proofs.store_need.Reads as node-store-need
 use Rattle.node.proofs.send.Reads as node-send
 use Rattle.node.proofs.urgent.Reads as node-urgent
 use Rattle.node.proofs.arrival.Reads as node-arrival
@@ -26,6 +28,12 @@ node-open-one u v a r₁ r₂ e₁ e₂ p q = (cc (p .0, q .0), cc (p .0, q .0, 
 
 pub node-close-one : One node-close.Post (λ e. bare (now (e .0)) (now (e .1 .0)))
 node-close-one u v a r₁ r₂ e₁ e₂ p q = (cc (p .0, q .0), cc (p .0, q .0, p .1, q .1))
+
+pub node-store-need-one : OneAnswer node-store-need.Post (λ r. r)
+node-store-need-one u v a r₁ r₂ e₁ e₂ p q = cc
+
+pub node-state-one : OneAnswer node-state.Post (λ r. r)
+node-state-one u v a r₁ r₂ e₁ e₂ p q = cc
 
 pub node-counts-one : OneAnswer node-counts.Post (λ r. r)
 node-counts-one u v a r₁ r₂ e₁ e₂ p q = cc

@@ -1,15 +1,14 @@
 -- A refused call leaves all that was lent as it was, by the contract's own text: a theorem for every function that
--- refuses and alters, bare or for C. Of the node's calls `counts` alters nothing and `tick` refuses nothing. Assumes
+-- refuses and alters, bare or for C. Of the node's calls `counts`, `state` and
+-- `store_need` alter nothing and `tick` refuses nothing. Assumes
 -- nothing.
 use Prim.Native.Nat.{ℕ}
 use mathlib.Core.Path.{_≡_, refl, sym, subst, _∙_}
-use mathlib.Core.Bool.{Bool, true, false, _&&_}
 use mathlib.Core.List.{List, []}
 use native.Mathlib.Omega.{arith}
 use denote.Ref.{now}
-use lib.Dec.{eqb}
 use lib.ListN.{length}
-use Rattle.units.specs.Refusals.{pick, verdict}
+use Rattle.units.specs.Refusals.{verdict}
 use Rattle.units.specs.declared.refusals.Refusal.{Refusal}
 use Rattle.units.specs.declared.refusals.Verdict.{Verdict}
 use Rattle.units.specs.declared.refusals.Verdict.the-variants as verdicts
@@ -17,33 +16,29 @@ use Rattle.frame.specs.Layout.{payloadOf}
 use Rattle.frame.specs.Reading.{headerOf, readOf}
 use Rattle.frame.specs.Writing.{writeTests, writeAnswer, writtenOf, writtenAs, bytesAs}
 use Rattle.frame.specs.declared.Fields.{Fields}
-use Rattle.frame.specs.declared.FrameType.{FrameType}
-use Rattle.frame.specs.declared.FrameType.the-variants as type
 use Rattle.frame.specs.declared.Read.{Read}
 use Rattle.frame.specs.declared.Read.the-variants as read
 use Rattle.frame.specs.declared.Written.the-variants as written
-use Rattle.end_points.specs.Answers.{answerOf, countedOf, arrivedOf, handedOf}
-use Rattle.end_points.specs.Ends.{endOf}
+use Rattle.end_points.specs.Answers.{answerOf, countedOf, arrivedOf, handedOf, statedOf, neededOf}
 use Rattle.end_points.specs.Lent.{Lent, bare, stored, whole}
-use Rattle.end_points.specs.declared.EndPoint.{EndPoint}
-use Rattle.end_points.specs.declared.State.{State}
-use Rattle.end_points.specs.declared.State.the-variants.{Closed, Enabled, Open, Failing}
 use Rattle.end_points.specs.declared.answers.Arrived.{Arrived}
 use Rattle.end_points.specs.declared.answers.Arrived.the-variants as arrived
 use Rattle.end_points.specs.declared.answers.Counted.{Counted}
 use Rattle.end_points.specs.declared.answers.Counted.the-variants as counted
+use Rattle.end_points.specs.declared.answers.Stated.{Stated}
+use Rattle.end_points.specs.declared.answers.Stated.the-variants as stated
+use Rattle.end_points.specs.declared.answers.Needed.{Needed}
+use Rattle.end_points.specs.declared.answers.Needed.the-variants as needed
 use Rattle.end_points.specs.declared.answers.HandedOut.{HandedOut}
 use Rattle.end_points.specs.declared.answers.HandedOut.the-variants as handed
-use Rattle.call_open.specs.Opening.{openAnswer, openAfter, closeAnswer, closeAfter, countsAnswer}
-use Rattle.call_open.specs.Setup.{setupAnswer, setupAfter}
+use Rattle.call_open.specs.Opening.{openAnswer, openAfter, closeAnswer, closeAfter, countsAnswer, stateAnswer}
+use Rattle.call_open.specs.Setup.{needAnswer, setupAnswer, setupAfter}
 use Rattle.call_send.specs.Sending.{sendAnswer, sendAfter, urgentAnswer, urgentAfter}
-use Rattle.arrive_ack.specs.Acking.{counts, passing, ackAnswer}
-use Rattle.arrive_data.specs.Receiving.{resetAnswer, dataAnswer, urgentAnswer as urgentTaken}
-use Rattle.call_arrive.specs.Arriving.{frameTests, entryOf, entryVerdict, takenInAnswer, answerAs, afterAs, entryAnswer}
+use Rattle.call_arrive.specs.Arriving.{frameTests, entryOf, entryVerdict, answerAs, afterAs, entryAnswer}
 use Rattle.call_arrive.specs.Arriving.{entryAfter, readAnswer, readAfter, arrivalAnswer, arrivalAfter}
 use Rattle.call_hand_out.specs.Handing.{handOutAnswer, handOutAfter}
 use Rattle.firmware.specs.Firmware.{readNumber, readFields, fieldsIn, writeNumber}
-use Rattle.firmware.specs.Nodes.{refusalIn, valueIn, valuesIn}
+use Rattle.firmware.specs.Nodes.{refusalIn, valueIn, countsIn, arrivedIn}
 use Rattle.node.proofs.setup.Reads as node-setup
 use Rattle.node.proofs.open.Reads as node-open
 use Rattle.node.proofs.close.Reads as node-close
@@ -58,6 +53,8 @@ use Rattle.firmware.proofs.nodes.shelugvar_setup.Reads as shelugvar-setup
 use Rattle.firmware.proofs.nodes.shelugvar_open.Reads as shelugvar-open
 use Rattle.firmware.proofs.nodes.shelugvar_close.Reads as shelugvar-close
 use Rattle.firmware.proofs.nodes.shelugvar_counts.Reads as shelugvar-counts
+use Rattle.firmware.proofs.nodes.shelugvar_entry_state.Reads as shelugvar-entry-state
+use Rattle.firmware.proofs.nodes.shelugvar_store_need.Reads as shelugvar-store-need
 use Rattle.firmware.proofs.nodes.shelugvar_send.Reads as shelugvar-send
 use Rattle.firmware.proofs.nodes.shelugvar_urgent.Reads as shelugvar-urgent
 use Rattle.firmware.proofs.nodes.shelugvar_arrival.Reads as shelugvar-arrival
@@ -97,30 +94,6 @@ node-hand-out-refused u a r e p w = but-store (now (a .1 .1 .0)) (cc (p .1, w .1
 -- ---- an arrival: refused by a test, it alters nothing; taken in, it is not refused
 
 module _ (w : Refusal) where
-  -- what is answered of a frame that is taken in
-  opened : (b : Bool) → pick b arrived.Opened arrived.Ignored ≡ arrived.Refused w → ⊥
-  opened true e = let z : _≡_ {A = ℕ} 0 1 = cc in omega arith
-  opened false e = let z : _≡_ {A = ℕ} 0 1 = cc in omega arith
-
-  acked : (b : Bool) (k : ℕ) → pick b (arrived.Acknowledged k) arrived.Ignored ≡ arrived.Refused w → ⊥
-  acked true k e = let z : _≡_ {A = ℕ} 0 1 = cc in omega arith
-  acked false k e = let z : _≡_ {A = ℕ} 0 1 = cc in omega arith
-
-  ack-taken : (e : EndPoint) (s : State) (n : ℕ) → ackAnswer e s n ≡ arrived.Refused w → ⊥
-  unfolding ackAnswer
-  ack-taken e Closed n q = let z : _≡_ {A = ℕ} 0 1 = cc in omega arith
-  ack-taken e (Enabled t sent) n q = opened (sent && eqb n 0) q
-  ack-taken e Open n q = acked (counts (e .run) n) (passing (e .run) n .run) q
-  ack-taken e (Failing k) n q = acked (counts (e .run) n) (passing (e .run) n .run) q
-
-  taken : (x : Lent) (i : ℕ) (e : EndPoint) (t : FrameType) (s : ℕ) (p : List ℕ) → takenInAnswer x i e t s p
-      ≡ arrived.Refused w → ⊥
-  unfolding takenInAnswer dataAnswer resetAnswer urgentTaken
-  taken x i e type.Data s p q = let z : _≡_ {A = ℕ} 0 1 = cc in omega arith
-  taken x i e type.Acknowledge s p q = ack-taken e (e .state) s q
-  taken x i e type.Reset s p q = let z : _≡_ {A = ℕ} 0 1 = cc in omega arith
-  taken x i e type.Urgent s p q = let z : _≡_ {A = ℕ} 0 1 = cc in omega arith
-
   -- each verdict gives answer and memory alike
   judged : (v : Verdict) (a : Arrived) (x y : Lent) → (a ≡ arrived.Refused w → y ≡ x) → answerAs v a
       ≡ arrived.Refused w → afterAs v x y ≡ x
@@ -131,8 +104,7 @@ module _ (w : Refusal) where
   unfolding readAnswer readAfter entryAnswer entryAfter
   read-on x (read.Refused v) p e = refl
   read-on x (read.Frame h) p e =
-      judged (entryVerdict x (entryOf x h) h) _ x _
-      (λ q. absurd (taken x (entryOf x h) (endOf (x .node) (entryOf x h)) (h .kind) (h .seq .0) p q)) e
+      judged (entryVerdict x (entryOf x h) h) _ x _ (λ q. let z : _≡_ {A = ℕ} 0 1 = cc in absurd (omega arith)) e
 
   arrival-spared : (x : Lent) (f : List ℕ) → arrivalAnswer x f ≡ arrived.Refused w → arrivalAfter x f ≡ x
   unfolding arrivalAnswer arrivalAfter
@@ -217,9 +189,9 @@ shelugvar-urgent-refused u a r e p z =
     let x = stored (now (a .0)) (now (a .1 .0)) (now (a .1 .1 .0)) in p .1 ∙ urgent-told x (a .1 .1 .1 .0)
     (now (a .1 .1 .1 .1 .0)) (subst NotZero (p .0) z)
 
-counted-in : (a : Counted) (values : List ℕ) → NotZero (refusalIn (countedOf a)) → valuesIn (countedOf a) values
+counted-in : (a : Counted) (values : List ℕ) → NotZero (refusalIn (countedOf a)) → countsIn (countedOf a) values
     ≡ values
-unfolding valuesIn
+unfolding countsIn
 counted-in (counted.Counts n m) values z = absurd (z refl)
 counted-in (counted.Refused w) values z = refl
 
@@ -227,15 +199,28 @@ pub shelugvar-counts-refused : Spares shelugvar-counts.Post NotZero (λ e. now (
 shelugvar-counts-refused u a r e p z =
     p .1 ∙ counted-in (countsAnswer (now (a .0)) (a .1 .0)) (now (a .1 .1 .0)) (subst NotZero (p .0) z)
 
+stated-in : (a : Stated) (state : ℕ) → NotZero (refusalIn (statedOf a)) → valueIn (statedOf a) state ≡ state
+unfolding valueIn
+stated-in (stated.Is s) state z = absurd (z refl)
+stated-in (stated.Refused w) state z = refl
+
+pub shelugvar-entry-state-refused : Spares shelugvar-entry-state.Post NotZero (λ e. now (e .1 .1 .0))
+shelugvar-entry-state-refused u a r e p z =
+    p .1 ∙ stated-in (stateAnswer (now (a .0)) (a .1 .0)) (now (a .1 .1 .0)) (subst NotZero (p .0) z)
+
+needed-in : (a : Needed) (need : ℕ) → NotZero (refusalIn (neededOf a)) → valueIn (neededOf a) need ≡ need
+unfolding valueIn
+needed-in (needed.Bytes n) need z = absurd (z refl)
+needed-in (needed.Refused w) need z = refl
+
+pub shelugvar-store-need-refused : Spares shelugvar-store-need.Post NotZero (λ e. now (e .1 .0))
+shelugvar-store-need-refused u a r e p z =
+    p .1 ∙ needed-in (needAnswer (now (a .0))) (now (a .1 .0)) (subst NotZero (p .0) z)
+
 arrived-in : (x : Lent) (f values : List ℕ) (a : Arrived) → arrivalAnswer x f
-    ≡ a → NotZero (refusalIn (arrivedOf a)) → (arrivalAfter x f ≡ x) × (valuesIn (arrivedOf a) values ≡ values)
-unfolding valuesIn
-arrived-in x f values arrived.Ignored e z = absurd (z refl)
-arrived-in x f values (arrived.Acknowledged k) e z = absurd (z refl)
-arrived-in x f values arrived.Opened e z = absurd (z refl)
-arrived-in x f values (arrived.Reset n) e z = absurd (z refl)
-arrived-in x f values (arrived.Data n) e z = absurd (z refl)
-arrived-in x f values (arrived.Urgent n) e z = absurd (z refl)
+    ≡ a → NotZero (refusalIn (arrivedOf a)) → (arrivalAfter x f ≡ x) × (arrivedIn (arrivedOf a) values ≡ values)
+unfolding arrivedIn
+arrived-in x f values (arrived.At i was) e z = absurd (z refl)
 arrived-in x f values (arrived.Refused w) e z = (arrival-spared w x f e, refl)
 
 pub shelugvar-arrival-refused : Spares {M = Lent × List ℕ} shelugvar-arrival.Post NotZero

@@ -26,6 +26,9 @@ use Rattle.timing.proofs.one_less.Reads as timing-one-less
 use Rattle.timing.proofs.pass.Reads as timing-pass
 use Rattle.timing.proofs.heed.Reads as timing-heed
 use Rattle.timing.proofs.rouse.Reads as timing-rouse
+use Rattle.end_points.proofs.answers.state_number.Reads as end-points-state-number
+use Rattle.end_points.proofs.answers.what.Reads as end-points-what
+use Rattle.end_points.proofs.answers.value.Reads as end-points-value
 use Rattle.end_points.proofs.heads.count.Reads as end-points-count
 use Rattle.end_points.proofs.heads.own.Reads as end-points-own
 use Rattle.end_points.proofs.heads.protocol.Reads as end-points-protocol
@@ -132,6 +135,15 @@ pub timing-rouse-one : OneAfter timing-rouse.Post (λ e. now (e .0))
 timing-rouse-one u v a r₁ r₂ e₁ e₂ p q = cc
 
 -- ---- end_points
+
+pub end-points-state-number-one : OneAnswer end-points-state-number.Post (λ r. r)
+end-points-state-number-one u v a r₁ r₂ e₁ e₂ p q = cc
+
+pub end-points-what-one : OneAnswer end-points-what.Post (λ r. r)
+end-points-what-one u v a r₁ r₂ e₁ e₂ p q = cc
+
+pub end-points-value-one : OneAnswer end-points-value.Post (λ r. r)
+end-points-value-one u v a r₁ r₂ e₁ e₂ p q = cc
 
 pub end-points-count-one : OneAnswer end-points-count.Post (λ r. r)
 end-points-count-one u v a r₁ r₂ e₁ e₂ p q = cc

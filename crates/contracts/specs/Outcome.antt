@@ -1,9 +1,19 @@
 -- Outcomes of a function, over its contract's own text. `Post` is what the contract says of a call: of the arguments at
 -- entry, the answer, and the arguments at exit. Cited by the laws of proofs/, for every public function. Assumes
 -- nothing.
-use Prim.Native.Nat.{ℕ}
+use Prim.Native.Nat.{ℕ, _≤_}
 use mathlib.Core.Path.{_≡_}
+use mathlib.Core.List.{List}
+use lib.ListN.{length, getD}
+use lib.Dec.{leb}
+use Rattle.units.specs.Refusals.{pick}
 use Rattle.units.specs.declared.refusals.Refusal.{Refusal}
+use Rattle.end_points.specs.declared.answers.Was.{Was}
+use Rattle.end_points.specs.declared.answers.Was.the-variants as was
+use Rattle.end_points.specs.declared.answers.Arrived.{Arrived}
+use Rattle.end_points.specs.declared.answers.Arrived.the-variants as arrived
+use Rattle.end_points.specs.declared.answers.HandedOut.{HandedOut}
+use Rattle.end_points.specs.declared.answers.HandedOut.the-variants as handed
 
 -- ---- one outcome: two that a contract allows for the same arguments are the same
 
@@ -35,3 +45,33 @@ IsRefused refused r = (w : Refusal) × (r ≡ refused w)
 
 abbrev pub NotZero : ℕ → Type 0
 NotZero n = n ≡ 0 → ⊥
+
+-- ---- lengths
+
+-- where it is done, the length that it answers is at most that of what was lent: whoever trusts it reads no further,
+-- whatever the memory holds [O9]
+abbrev pub Within : {L A R E : Type 0} → (L → A → R → E → Type 0) → (R → Type 0) → (R → E → ℕ) → (A → List ℕ) → Type 0
+Within {L} {A} {R} {E} Post Done answered lent =
+    (u : L) (a : A) (r : R) (e : E) → Post u a r e → Done r → answered r e ≤ length (lent a)
+
+-- the length of the block that an arrival answers [B3]
+abbrev pub blockOf : Was → ℕ
+blockOf was.Ignored = 0
+blockOf (was.Acknowledged k) = 0
+blockOf was.Opened = 0
+blockOf (was.Reset n) = 0
+blockOf (was.Data n) = n
+blockOf (was.Urgent n) = n
+
+abbrev pub blockIn : Arrived → ℕ
+blockIn (arrived.At i w) = blockOf w
+blockIn (arrived.Refused w) = 0
+
+-- in C's numbers: what it was, its entry, its value
+abbrev pub blockAt : List ℕ → ℕ
+blockAt values = pick (leb 4 (getD values 0 0)) (getD values 2 0) 0
+
+-- of the frame that is handed out [H4]
+abbrev pub frameIn : HandedOut → ℕ
+frameIn (handed.Length n) = n
+frameIn (handed.Refused w) = 0

@@ -1,48 +1,22 @@
 // What each call prints after the record's number and kind.
+use crate::kinds;
 use end_points::answers::Arrived;
 use end_points::answers::Counted;
 use end_points::answers::HandedOut;
+use end_points::answers::Was;
+use end_points::answers::what;
 use lines::number;
+use lines::refused;
 use lines::text;
+use lines::value;
+use lines::values;
 use node::Book;
 use node::Node;
-use units::bytes::byte_at;
-use units::refusals::Refusal;
 use units::refusals::Verdict;
-
-// A number of the line, with the space before it.
-fn value(out: &mut [u8], at: usize, v: u64) -> usize {
-    let next = text(out, at, b" ");
-    number(out, next, v)
-}
-
-// The first n bytes of a slice.
-fn values(out: &mut [u8], at: usize, bytes: &[u8], n: usize) -> usize {
-    let mut next = at;
-    let mut i = 0;
-    while i < n {
-        let b = byte_at(bytes, i);
-        next = value(out, next, b as u64);
-        i += 1;
-    }
-    next
-}
-
-// A refusal's number.
-fn refused(out: &mut [u8], at: usize, why: Refusal) -> usize {
-    let n = units::refusals::number(why);
-    value(out, at, n as u64)
-}
 
 // 0, and a number.
 fn done(out: &mut [u8], at: usize, v: u64) -> usize {
     let next = value(out, at, 0);
-    value(out, next, v)
-}
-
-// 0, what it was, and a number.
-fn found(out: &mut [u8], at: usize, what: u64, v: u64) -> usize {
-    let next = done(out, at, what);
     value(out, next, v)
 }
 
@@ -65,32 +39,48 @@ fn counted(out: &mut [u8], at: usize, c: Counted) -> usize {
     }
 }
 
+// The first n bytes of a slice. The node answers no length above its buffer's; the test spares us the proof.
+fn first(bytes: &[u8], n: usize) -> &[u8] {
+    if bytes.len() < n {
+        return bytes;
+    }
+    &bytes[0..n]
+}
+
 // Handing out: the length and the frame.
 fn handed(out: &mut [u8], at: usize, h: HandedOut, frame: &[u8]) -> usize {
     match h {
         HandedOut::Length(n) => {
             let next = done(out, at, n as u64);
-            values(out, next, frame, n)
+            values(out, next, first(frame, n))
         }
         HandedOut::Refused(why) => refused(out, at, why),
     }
 }
 
-// A block: what it came from, its length and its bytes.
-fn delivered(out: &mut [u8], at: usize, what: u64, n: usize, block: &[u8]) -> usize {
-    let next = found(out, at, what, n as u64);
-    values(out, next, block, n)
+// A block: its length and its bytes.
+fn delivered(out: &mut [u8], at: usize, n: usize, block: &[u8]) -> usize {
+    let next = value(out, at, n as u64);
+    values(out, next, first(block, n))
 }
 
-// An arrival: what it was, and what came with it.
+// What a frame was, the entry that it was for, and what came with it.
+fn taken_in(out: &mut [u8], at: usize, i: u8, was: Was, block: &[u8]) -> usize {
+    let mut next = done(out, at, what(was) as u64);
+    next = value(out, next, i as u64);
+    match was {
+        Was::Ignored => next,
+        Was::Acknowledged(passed) => value(out, next, passed as u64),
+        Was::Opened => next,
+        Was::Reset(held) => value(out, next, held as u64),
+        Was::Data(n) => delivered(out, next, n, block),
+        Was::Urgent(n) => delivered(out, next, n, block),
+    }
+}
+
 fn arrived(out: &mut [u8], at: usize, a: Arrived, block: &[u8]) -> usize {
     match a {
-        Arrived::Ignored => done(out, at, 0),
-        Arrived::Acknowledged(passed) => found(out, at, 1, passed as u64),
-        Arrived::Opened => done(out, at, 2),
-        Arrived::Reset(held) => found(out, at, 3, held as u64),
-        Arrived::Data(n) => delivered(out, at, 4, n, block),
-        Arrived::Urgent(n) => delivered(out, at, 5, n, block),
+        Arrived::At(i, was) => taken_in(out, at, i, was, block),
         Arrived::Refused(why) => refused(out, at, why),
     }
 }
@@ -109,19 +99,19 @@ fn answer(
     frame: &mut [u8],
 ) -> usize {
     match kind {
-        1 => verdict(out, at, node::setup(node, book, store, bytes)),
-        2 => verdict(out, at, node::open(node, book, index)),
-        3 => verdict(out, at, node::close(node, book, index)),
-        4 => verdict(out, at, node::send(node, book, store, index, bytes)),
-        5 => verdict(out, at, node::urgent(node, book, store, index, bytes)),
-        6 => arrived(
+        kinds::TABLE => verdict(out, at, node::setup(node, book, store, bytes)),
+        kinds::OPEN => verdict(out, at, node::open(node, book, index)),
+        kinds::CLOSE => verdict(out, at, node::close(node, book, index)),
+        kinds::SEND => verdict(out, at, node::send(node, book, store, index, bytes)),
+        kinds::URGENT => verdict(out, at, node::urgent(node, book, store, index, bytes)),
+        kinds::ARRIVAL => arrived(
             out,
             at,
             node::arrival(node, book, store, block, bytes),
             block,
         ),
-        7 => done(out, at, node::tick(node, book) as u64),
-        8 => handed(out, at, node::hand_out(node, book, store, frame), frame),
+        kinds::TICK => done(out, at, node::tick(node, book) as u64),
+        kinds::HAND_OUT => handed(out, at, node::hand_out(node, book, store, frame), frame),
         _ => counted(out, at, node::counts(node, index)),
     }
 }

@@ -4,9 +4,11 @@
 // refusal's number or 0, then what came back, in decimal. Store, block and frame buffer are always long enough.
 // The input is at most 65,536 bytes; a longer one gives only the line `too long`. A record that is cut short ends the
 // run with `torn N`, a whole one of another kind with `unknown N`.
-use lines::number;
 use lines::text;
+use lines::torn;
+use lines::unknown;
 
+mod kinds; // kinds.rt: the kinds' numbers
 mod records; // records.rt: where the records lie
 mod answers; // answers.rt: what each call prints
 
@@ -16,18 +18,19 @@ use node::Node;
 use records::Found;
 use records::record_at;
 
-// A last line: why the run ends, and at which record.
-fn torn(out: &mut [u8], at: usize, count: u64) -> usize {
-    let mut next = text(out, at, b"torn ");
-    next = number(out, next, count);
-    text(out, next, b"\n")
-}
+// The most bytes of input. One more is read, to see that it is longer.
+const INPUT: usize = 65536;
 
-fn unknown(out: &mut [u8], at: usize, count: u64) -> usize {
-    let mut next = text(out, at, b"unknown ");
-    next = number(out, next, count);
-    text(out, next, b"\n")
-}
+// How much text is put together before it is written out.
+const TEXT: usize = 65536;
+
+// What the node is lent, as much as any table asks for: the store, a block with the count, the offsets and the bytes of
+// 128 payloads that fill the store, and a frame with one payload that does.
+const STORE: usize = 32768;
+
+const BLOCK: usize = 6 + 128 * 4 + STORE;
+
+const FRAME: usize = STORE + frame::layout::OVERHEAD;
 
 // The lines of all records, or of those up to the first that is torn or unknown.
 fn run(
@@ -48,7 +51,7 @@ fn run(
             Found::Torn => return torn(out, at, count),
             Found::Unknown => return unknown(out, at, count),
             Found::Record(kind, index, end) => {
-                let start = i + 4;
+                let start = i + records::HEAD;
                 at = answers::line(
                     out,
                     at,
@@ -70,19 +73,19 @@ fn run(
 }
 
 fn main() {
-    let mut input = [0u8; 65537];
-    let mut out = [0u8; 65536];
+    let mut input = [0u8; INPUT + 1];
+    let mut out = [0u8; TEXT];
     let n = io::read_full(libc::STDIN_FILENO, &mut input);
-    if 65536 < n {
+    if INPUT < n {
         let at = text(&mut out, 0, b"too long\n");
         lines::flush(&out, at);
         return;
     }
     let mut node = [0u64; layout::NODE_WORDS];
     let mut book = [0u16; layout::BOOK_HALVES];
-    let mut store = [0u8; 32768];
-    let mut block = [0u8; 33286];
-    let mut frame = [0u8; 32777];
+    let mut store = [0u8; STORE];
+    let mut block = [0u8; BLOCK];
+    let mut frame = [0u8; FRAME];
     let at = run(
         &input[..n],
         &mut out,

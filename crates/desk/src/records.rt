@@ -1,10 +1,14 @@
 // Where the records lie: kind, index, length (2 bytes, high byte first), bytes.
+use crate::kinds;
 use units::bytes::byte_at;
 use units::bytes::get16;
 ghost use lib.ListN.{length};
 ghost use Rattle.desk.specs.Records.{Lies};
 
-// A record's kind, its index byte, and the end of its bytes, which begin 4 bytes after the record does.
+// How many bytes stand before a record's own.
+pub const HEAD: usize = 4;
+
+// A record's kind, its index byte, and the end of its bytes, which begin right behind its head.
 pub enum Found {
     Record(u8, u8, usize),
     Torn,
@@ -13,8 +17,8 @@ pub enum Found {
 
 fn is_kind(kind: u8) -> bool {
     match kind {
-        1..=8 => true,
-        20 => true,
+        kinds::TABLE..=kinds::HAND_OUT => true,
+        kinds::COUNTS => true,
         _ => false,
     }
 }
@@ -27,17 +31,17 @@ pub fn record_at(input: &[u8], i: usize) -> Found
         return Found::Torn;
     }
     let left = input.len() - i;
-    if left < 4 {
+    if left < HEAD {
         return Found::Torn;
     }
     let kind = byte_at(input, i);
     let index = byte_at(input, i + 1);
     let n = get16(input, i + 2) as usize;
-    if left - 4 < n {
+    if left - HEAD < n {
         return Found::Torn;
     }
     if is_kind(kind) {
-        return Found::Record(kind, index, i + 4 + n);
+        return Found::Record(kind, index, i + HEAD + n);
     }
     Found::Unknown
 }

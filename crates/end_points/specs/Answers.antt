@@ -6,6 +6,14 @@ use Rattle.units.specs.declared.refusals.Verdict.{Verdict}
 use Rattle.units.specs.declared.refusals.Verdict.the-variants as verdicts
 use Rattle.end_points.specs.declared.answers.Counted.{Counted}
 use Rattle.end_points.specs.declared.answers.Counted.the-variants as counted
+use Rattle.end_points.specs.declared.State.{State}
+use Rattle.end_points.specs.declared.State.the-variants.{Closed, Enabled, Open, Failing}
+use Rattle.end_points.specs.declared.answers.Stated.{Stated}
+use Rattle.end_points.specs.declared.answers.Stated.the-variants as stated
+use Rattle.end_points.specs.declared.answers.Needed.{Needed}
+use Rattle.end_points.specs.declared.answers.Needed.the-variants as needed
+use Rattle.end_points.specs.declared.answers.Was.{Was}
+use Rattle.end_points.specs.declared.answers.Was.the-variants as was
 use Rattle.end_points.specs.declared.answers.Arrived.{Arrived}
 use Rattle.end_points.specs.declared.answers.Arrived.the-variants as arrived
 use Rattle.end_points.specs.declared.answers.HandedOut.{HandedOut}
@@ -21,15 +29,44 @@ abbrev pub countedOf : Counted → List ℕ
 countedOf (counted.Counts a c) = 0 ∷ a .0 ∷ c .0 ∷ []
 countedOf (counted.Refused w) = numberOf w ∷ []
 
--- an arrival: what it was; then how many numbers the start passed, how many payloads were held, or the block's length
--- [E13, A4, B3, O3]
+-- a state's number [E1]
+abbrev pub stateNumber : State → ℕ
+stateNumber Closed = 0
+stateNumber (Enabled timer sent) = 1
+stateNumber Open = 2
+stateNumber (Failing timers) = 3
+
+-- an entry's state [E1, O3]
+abbrev pub statedOf : Stated → List ℕ
+statedOf (stated.Is s) = 0 ∷ stateNumber s ∷ []
+statedOf (stated.Refused w) = numberOf w ∷ []
+
+-- the store that a table needs, in bytes [S1, O3]
+abbrev pub neededOf : Needed → List ℕ
+neededOf (needed.Bytes n) = 0 ∷ n ∷ []
+neededOf (needed.Refused w) = numberOf w ∷ []
+
+-- what a frame was: ignored, acknowledged, opened, Reset, Data, Urgent [O3]
+abbrev pub whatOf : Was → ℕ
+whatOf was.Ignored = 0
+whatOf (was.Acknowledged k) = 1
+whatOf was.Opened = 2
+whatOf (was.Reset n) = 3
+whatOf (was.Data n) = 4
+whatOf (was.Urgent n) = 5
+
+-- and its value: how many numbers the start passed, how many payloads were held, or the block's length [E13, A4, B3]
+abbrev pub valueOf : Was → List ℕ
+valueOf was.Ignored = []
+valueOf (was.Acknowledged k) = k ∷ []
+valueOf was.Opened = []
+valueOf (was.Reset n) = n ∷ []
+valueOf (was.Data n) = n ∷ []
+valueOf (was.Urgent n) = n ∷ []
+
+-- an arrival: what it was, the index of the entry that the frame was for, its value [O3, O8]
 abbrev pub arrivedOf : Arrived → List ℕ
-arrivedOf arrived.Ignored = 0 ∷ 0 ∷ []
-arrivedOf (arrived.Acknowledged k) = 0 ∷ 1 ∷ k ∷ []
-arrivedOf arrived.Opened = 0 ∷ 2 ∷ []
-arrivedOf (arrived.Reset n) = 0 ∷ 3 ∷ n ∷ []
-arrivedOf (arrived.Data n) = 0 ∷ 4 ∷ n ∷ []
-arrivedOf (arrived.Urgent n) = 0 ∷ 5 ∷ n ∷ []
+arrivedOf (arrived.At i w) = 0 ∷ whatOf w ∷ i ∷ valueOf w
 arrivedOf (arrived.Refused w) = numberOf w ∷ []
 
 -- handing out: the frame's length, 0 where nothing waits [H4, H5, O3]

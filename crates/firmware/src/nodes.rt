@@ -2,25 +2,27 @@
 // Each answers the refusal, 0 where it is done; what else it answers goes to the last parameter, which a refused call
 // leaves as it was, as all that was lent.
 // Proved: each is the node's own call (crates/node), in the numbers that specs/Nodes.antt gives to its answer.
+use end_points::answers;
 use end_points::answers::Arrived;
 use end_points::answers::Counted;
 use end_points::answers::HandedOut;
+use end_points::answers::Needed;
+use end_points::answers::Stated;
 use node::Book;
 use node::Node;
 use units::refusals::Verdict;
 use units::refusals::number;
 ghost use mathlib.Core.Path.{_≡_};
-ghost use mathlib.Core.List.{[], _∷_};
-ghost use lib.Seq.{sets};
-ghost use Rattle.end_points.specs.Answers.{answerOf, countedOf, arrivedOf, handedOf};
+ghost use Rattle.end_points.specs.Answers.{answerOf, countedOf, arrivedOf, handedOf, statedOf, neededOf};
 ghost use Rattle.end_points.specs.Lent.{bare, stored, whole};
-ghost use Rattle.call_open.specs.Setup.{setupAnswer, setupAfter};
+ghost use Rattle.call_open.specs.Setup.{needAnswer, setupAnswer, setupAfter};
 ghost use Rattle.call_open.specs.Opening.{openAnswer, openAfter, closeAnswer, closeAfter, countsAnswer};
+ghost use Rattle.call_open.specs.Opening.{stateAnswer};
 ghost use Rattle.call_send.specs.Sending.{sendAnswer, sendAfter, urgentAnswer, urgentAfter};
 ghost use Rattle.call_arrive.specs.Arriving.{arrivalAnswer, arrivalAfter};
 ghost use Rattle.call_hand_out.specs.Handing.{handOutAnswer, handOutAfter};
 ghost use Rattle.call_tick.specs.Ticking.{tickAnswer, tickAfter};
-ghost use Rattle.firmware.specs.Nodes.{refusalIn, valueIn, valuesIn};
+ghost use Rattle.firmware.specs.Nodes.{refusalIn, valueIn, countsIn, arrivedIn, versionOf};
 
 // A verdict's number.
 fn told(v: Verdict) -> u8
@@ -82,7 +84,7 @@ pub extern "C" fn shelugvar_close(node: &mut Node, book: &mut Book, index: usize
 pub extern "C" fn shelugvar_counts(node: &Node, index: usize, values: &mut [u32; 2]) -> u8
     ensures answer { λ r. ⌜ r ≡ refusalIn (countedOf (countsAnswer (now (node .entry)) index)) ⌝ }
     ensures after { λ _. ⌜ now (values .exit)
-        ≡ valuesIn (countedOf (countsAnswer (now (node .entry)) index)) (now (values .entry)) ⌝ }
+        ≡ countsIn (countedOf (countsAnswer (now (node .entry)) index)) (now (values .entry)) ⌝ }
 {
     match node::counts(node, index) {
         Counted::Counts(accepted, confirmed) => {
@@ -134,34 +136,24 @@ pub extern "C" fn shelugvar_urgent(
     told(node::urgent(node, book, store, index, payload))
 }
 
-// What an arrival was, and its value.
-fn found(values: &mut [usize; 2], what: usize, value: usize) -> u8
-    ensures answer { λ r. ⌜ r ≡ 0 ⌝ }
-    ensures after { λ _. ⌜ now (values .exit) ≡ sets (now (values .entry)) 0 (what ∷ value ∷ []) ⌝ }
-{
-    values[0] = what;
-    values[1] = value;
-    0
-}
-
-// An arrival in numbers. The value of one that has none is 0.
-fn arrived(values: &mut [usize; 2], a: Arrived) -> u8
+// An arrival in numbers: what it was, its entry, and its value, 0 where it has none.
+fn arrived(values: &mut [usize; 3], a: Arrived) -> u8
     ensures answer { λ r. ⌜ r ≡ refusalIn (arrivedOf a) ⌝ }
-    ensures after { λ _. ⌜ now (values .exit) ≡ valuesIn (arrivedOf a) (now (values .entry)) ⌝ }
+    ensures after { λ _. ⌜ now (values .exit) ≡ arrivedIn (arrivedOf a) (now (values .entry)) ⌝ }
 {
     match a {
-        Arrived::Ignored => found(values, 0, 0),
-        Arrived::Acknowledged(passed) => found(values, 1, passed as usize),
-        Arrived::Opened => found(values, 2, 0),
-        Arrived::Reset(held) => found(values, 3, held as usize),
-        Arrived::Data(length) => found(values, 4, length),
-        Arrived::Urgent(length) => found(values, 5, length),
+        Arrived::At(i, was) => {
+            values[0] = answers::what(was) as usize;
+            values[1] = i as usize;
+            values[2] = answers::value(was);
+            0
+        }
         Arrived::Refused(w) => number(w),
     }
 }
 
-// A frame has arrived: what it was (0 ignored, 1 acknowledged, 2 opened, 3 Reset, 4 Data, 5 Urgent), and the numbers
-// passed, the payloads held or the block's length. Refuses 10, 11, 12, 13, 5, 14, 6.
+// A frame has arrived: what it was (0 ignored, 1 acknowledged, 2 opened, 3 Reset, 4 Data, 5 Urgent), the entry that it
+// was for, and the numbers passed, the payloads held or the block's length. Refuses 10, 11, 12, 13, 5, 14, 6.
 #[no_mangle]
 pub extern "C" fn shelugvar_arrival(
     node: &mut Node,
@@ -169,7 +161,7 @@ pub extern "C" fn shelugvar_arrival(
     store: &mut [u8],
     block: &mut [u8],
     frame: &[u8],
-    values: &mut [usize; 2],
+    values: &mut [usize; 3],
 ) -> u8
     ensures answer { λ r.
         let x = whole (now (node .entry)) (now (book .entry)) (now (store .entry)) (now (block .entry)) in
@@ -180,7 +172,7 @@ pub extern "C" fn shelugvar_arrival(
         ≡ arrivalAfter x (now (frame .entry)) ⌝ }
     ensures values { λ _.
         let x = whole (now (node .entry)) (now (book .entry)) (now (store .entry)) (now (block .entry)) in
-        ⌜ now (values .exit) ≡ valuesIn (arrivedOf (arrivalAnswer x (now (frame .entry)))) (now (values .entry)) ⌝ }
+        ⌜ now (values .exit) ≡ arrivedIn (arrivedOf (arrivalAnswer x (now (frame .entry)))) (now (values .entry)) ⌝ }
 {
     arrived(values, node::arrival(node, book, store, block, frame))
 }
@@ -223,4 +215,50 @@ pub extern "C" fn shelugvar_tick(node: &mut Node, book: &mut Book) -> u16
         ⌜ bare (now (node .exit)) (now (book .exit)) ≡ tickAfter x ⌝ }
 {
     node::tick(node, book)
+}
+
+// An entry's state: 0 Closed, 1 Enabled, 2 Open, 3 Failing. Refuses 2.
+#[no_mangle]
+pub extern "C" fn shelugvar_entry_state(node: &Node, index: usize, state: &mut u8) -> u8
+    ensures answer { λ r. ⌜ r ≡ refusalIn (statedOf (stateAnswer (now (node .entry)) index)) ⌝ }
+    ensures value { λ _. ⌜ now (state .exit)
+        ≡ valueIn (statedOf (stateAnswer (now (node .entry)) index)) (now (state .entry)) ⌝ }
+{
+    match node::state(node, index) {
+        Stated::Is(s) => {
+            *state = answers::state_number(s);
+            0
+        }
+        Stated::Refused(w) => number(w),
+    }
+}
+
+// How many bytes of store a table needs. Refuses 1.
+#[no_mangle]
+pub extern "C" fn shelugvar_store_need(table: &[u8], need: &mut usize) -> u8
+    ensures answer { λ r. ⌜ r ≡ refusalIn (neededOf (needAnswer (now (table .entry)))) ⌝ }
+    ensures value { λ _. ⌜ now (need .exit)
+        ≡ valueIn (neededOf (needAnswer (now (table .entry)))) (now (need .entry)) ⌝ }
+{
+    match node::store_need(table) {
+        Needed::Bytes(n) => {
+            *need = n;
+            0
+        }
+        Needed::Refused(w) => number(w),
+    }
+}
+
+const MAJOR: u32 = 0;
+
+const MINOR: u32 = 1;
+
+const PATCH: u32 = 0;
+
+// The version of this archive, a byte a number.
+#[no_mangle]
+pub extern "C" fn shelugvar_version() -> u32
+    ensures { λ r. ⌜ r ≡ versionOf 0 1 0 ⌝ }
+{
+    (MAJOR * 256 + MINOR) * 256 + PATCH
 }

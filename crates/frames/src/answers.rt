@@ -1,4 +1,6 @@
 // What each kind of record prints after its number and kind.
+use crate::kinds;
+use crate::records;
 use crate::records::get32;
 use frame::Fields;
 use frame::Header;
@@ -8,48 +10,17 @@ use frame::reading::payload;
 use frame::reading::read;
 use frame::type_number;
 use frame::writing::write;
-use lines::number;
-use lines::text;
+use lines::numbers;
+use lines::refused;
+use lines::value;
+use lines::values;
 use units::Address;
 use units::Channel;
 use units::Seq;
 use units::bytes::byte_at;
-use units::refusals::Refusal;
 
-// A number of the line, with the space before it.
-pub fn value(out: &mut [u8], at: usize, v: u64) -> usize {
-    let next = text(out, at, b" ");
-    number(out, next, v)
-}
-
-// The numbers of a slice.
-fn numbers(out: &mut [u8], at: usize, vs: &[u64]) -> usize {
-    let mut next = at;
-    let mut i = 0;
-    while i < vs.len() {
-        next = value(out, next, vs[i]);
-        i += 1;
-    }
-    next
-}
-
-// The bytes of a slice.
-fn values(out: &mut [u8], at: usize, bytes: &[u8]) -> usize {
-    let mut next = at;
-    let mut i = 0;
-    while i < bytes.len() {
-        let b = byte_at(bytes, i);
-        next = value(out, next, b as u64);
-        i += 1;
-    }
-    next
-}
-
-// A refusal's number.
-fn refused(out: &mut [u8], at: usize, why: Refusal) -> usize {
-    let n = units::refusals::number(why);
-    value(out, at, n as u64)
-}
+// What a buffer is filled with beforehand, to show what the writer leaves as it was.
+const FILLER: u8 = 165;
 
 // A frame that the reader takes: 0, its fields, its payload.
 fn taken(out: &mut [u8], at: usize, h: Header, frame: &[u8]) -> usize {
@@ -76,11 +47,11 @@ fn reading(out: &mut [u8], at: usize, bytes: &[u8]) -> usize {
     }
 }
 
-// All of a slice set to 165.
+// All of a slice set to the filler.
 fn fill(buffer: &mut [u8]) {
     let mut i = 0;
     while i < buffer.len() {
-        buffer[i] = 165;
+        buffer[i] = FILLER;
         i += 1;
     }
 }
@@ -120,16 +91,16 @@ fn written(out: &mut [u8], at: usize, answer: Written) -> usize {
 // The writer's answer with a buffer, and the buffer afterwards.
 fn writing_into(out: &mut [u8], at: usize, bytes: &[u8], buffer: &mut [u8]) -> usize {
     fill(buffer);
-    let answer = write(buffer, fields_of(bytes), rest(bytes, 11));
+    let answer = write(buffer, fields_of(bytes), rest(bytes, records::PAYLOAD));
     let next = written(out, at, answer);
     values(out, next, buffer)
 }
 
 // Kind 2: the writer, with as much of the buffer as the record asks for.
 fn writing(out: &mut [u8], at: usize, bytes: &[u8], buffer: &mut [u8]) -> usize {
-    let asked = get32(bytes, 7);
+    let asked = get32(bytes, records::ROOM);
     if asked < buffer.len() {
-        return writing_into(out, at, bytes, &mut buffer[..asked]);
+        return writing_into(out, at, bytes, &mut buffer[0..asked]);
     }
     writing_into(out, at, bytes, buffer)
 }
@@ -143,8 +114,8 @@ fn checking(out: &mut [u8], at: usize, bytes: &[u8]) -> usize {
 // The record's line from the refusal on.
 pub fn answer(out: &mut [u8], at: usize, kind: u8, bytes: &[u8], buffer: &mut [u8]) -> usize {
     match kind {
-        1 => reading(out, at, bytes),
-        2 => writing(out, at, bytes, buffer),
+        kinds::READ => reading(out, at, bytes),
+        kinds::WRITE => writing(out, at, bytes, buffer),
         _ => checking(out, at, bytes),
     }
 }

@@ -7,30 +7,30 @@
 // short for its fields, ends the run with `torn N`, a whole one of another kind with `unknown N`.
 use lines::number;
 use lines::text;
+use lines::torn;
+use lines::unknown;
+use lines::value;
 
+mod kinds; // kinds.rt: the kinds' numbers
 mod records; // records.rt: where the records lie
 mod answers; // answers.rt: what each kind prints
 
 use records::Found;
 use records::record_at;
 
-// A last line: a record that is cut short, or of no listed kind.
-fn torn(out: &mut [u8], at: usize, count: u64) -> usize {
-    let mut next = text(out, at, b"torn ");
-    next = number(out, next, count);
-    text(out, next, b"\n")
-}
+// The most bytes of input. One more is read, to see that it is longer.
+const INPUT: usize = 262144;
 
-fn unknown(out: &mut [u8], at: usize, count: u64) -> usize {
-    let mut next = text(out, at, b"unknown ");
-    next = number(out, next, count);
-    text(out, next, b"\n")
-}
+// How much text is put together before it is written out.
+const TEXT: usize = 65536;
+
+// The largest buffer that the writer is lent: longer than any frame.
+const BUFFER: usize = 70000;
 
 // A record's line.
 fn line(out: &mut [u8], at: usize, count: u64, kind: u8, bytes: &[u8], buffer: &mut [u8]) -> usize {
     let mut next = number(out, at, count);
-    next = answers::value(out, next, kind as u64);
+    next = value(out, next, kind as u64);
     next = answers::answer(out, next, kind, bytes, buffer);
     text(out, next, b"\n")
 }
@@ -55,11 +55,11 @@ fn run(input: &[u8], out: &mut [u8], buffer: &mut [u8]) -> usize {
 }
 
 fn main() {
-    let mut input = [0u8; 262145];
-    let mut out = [0u8; 65536];
-    let mut buffer = [0u8; 70000];
+    let mut input = [0u8; INPUT + 1];
+    let mut out = [0u8; TEXT];
+    let mut buffer = [0u8; BUFFER];
     let n = io::read_full(libc::STDIN_FILENO, &mut input);
-    if 262144 < n {
+    if INPUT < n {
         let at = text(&mut out, 0, b"too long\n");
         lines::flush(&out, at);
         return;

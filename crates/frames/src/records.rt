@@ -1,10 +1,19 @@
 // Where the records lie: kind, length (4 bytes, high byte first), bytes.
+use crate::kinds;
 use units::bytes::byte_at;
 use units::bytes::get16;
 ghost use lib.ListN.{length};
 ghost use Rattle.frames.specs.Records.{Lies};
 
-// A record's kind, from 1 to 3, and its bytes from start to before end.
+// How many bytes stand before a record's own.
+pub const HEAD: usize = 5;
+
+// In a record to write, behind the frame's fields: where the buffer's length stands, and where the payload begins.
+pub const ROOM: usize = 7;
+
+pub const PAYLOAD: usize = 11;
+
+// A record's kind, which is a listed one, and its bytes from start to before end.
 pub enum Found {
     Record(u8, usize, usize),
     Torn,
@@ -30,19 +39,19 @@ pub fn record_at(input: &[u8], i: usize) -> Found
     }
     let kind = byte_at(input, i);
     let left = input.len() - i;
-    if left < 5 {
+    if left < HEAD {
         return Found::Torn;
     }
     let n = get32(input, i + 1);
-    if left - 5 < n {
+    if left - HEAD < n {
         return Found::Torn;
     }
-    if kind == 2 && n < 11 {
+    if kind == kinds::WRITE && n < PAYLOAD {
         return Found::Torn;
     }
-    if kind < 1 || 3 < kind {
+    if kind < kinds::READ || kinds::CHECK < kind {
         return Found::Unknown;
     }
-    let start = i + 5;
+    let start = i + HEAD;
     Found::Record(kind, start, start + n)
 }

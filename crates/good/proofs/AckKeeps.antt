@@ -21,7 +21,7 @@ use Rattle.end_points.specs.States.{isSends}
 use Rattle.end_points.specs.Lent.{Lent}
 use Rattle.end_points.specs.declared.State.{State}
 use Rattle.end_points.specs.declared.State.the-variants.{Closed, Enabled, Open, Failing}
-use Rattle.end_points.specs.declared.answers.Arrived.the-variants as arrived
+use Rattle.end_points.specs.declared.answers.Was.the-variants as was
 use Rattle.slots.specs.Slots.{cell, past, lengthIn, timerIn}
 use Rattle.arrive_ack.specs.Acking.{counts, passing, ackedRun, openedRun, ackAnswer, resetGone, stopped, fewer}
 use Rattle.arrive_ack.specs.Acking.{countedNode, ackNode, ackBook, ackAfter}
@@ -41,7 +41,7 @@ use Rattle.good.proofs.AckRuns.{Passes, Counts, counts-says, passes, mo
 
 -- of the end point: nothing, opened, or a number acknowledged at Open or at Failing
 pub data Acked (ws b ws′ b′ : List ℕ) (i s : ℕ) : Type 0 where
-  ignored : ws′ ≡ ws → b′ ≡ b → ackAnswer (endOf ws i) (endOf ws i .state) s ≡ arrived.Ignored → Acked ws b ws′ b′ i s
+  ignored : ws′ ≡ ws → b′ ≡ b → ackAnswer (endOf ws i) (endOf ws i .state) s ≡ was.Ignored → Acked ws b ws′ b′ i s
   opened : (t : ℕ) → endOf ws i .state ≡ Enabled t true → s ≡ 0 → endOf ws′ i ≡ turnedTo (endOf ws i) Open (openedRun (endOf ws i .run)) → Acked ws b ws′ b′ i s
   counted : endOf ws i .state ≡ Open → counts (endOf ws i .run) s ≡ true → endOf ws′ i ≡ turnedTo (endOf ws i) Open (ackedRun (endOf ws i .run) s)
       → Acked ws b ws′ b′ i s
@@ -281,7 +281,7 @@ module _ (t ws b : List ℕ) (l : Lists) (G : Good t ws b l) (i s : ℕ) (li : i
   opened-kept t₀ q e false a = opened-outcome t₀ q e b l (within-same i b l (G .lines)) (λ c h. refl) a
 
   -- nothing
-  nothing : ackAnswer (endOf ws i) (endOf ws i .state) s ≡ arrived.Ignored → Outcome t ws b l ws b i s
+  nothing : ackAnswer (endOf ws i) (endOf ws i .state) s ≡ was.Ignored → Outcome t ws b l ws b i s
   nothing h =
       record {
         lists = l;

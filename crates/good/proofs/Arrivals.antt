@@ -53,7 +53,7 @@ pub record Taken (x : Lent) (f : List ℕ) : Type 0 where
   pub need : needIn (x .node) ≤ length (x .store)
   pub block : carries (header .kind) ≡ true → blockRoom (endOf (x .node) entry) ≤ length (x .out)
   pub byte : ((k : ℕ) → getD f k 0 < 256) → header .seq .0 < 256
-  pub answer : arrivalAnswer x f ≡ takenInAnswer x entry (endOf (x .node) entry) (header .kind) (header .seq .0) (payloadOf f)
+  pub answer : arrivalAnswer x f ≡ arrived.At entry (takenInAnswer x entry (endOf (x .node) entry) (header .kind) (header .seq .0) (payloadOf f))
   pub after : arrivalAfter x f ≡ takenInAfter x entry (endOf (x .node) entry) (header .kind) (header .seq .0) (payloadOf f)
 
 pub record Refused (x : Lent) (f : List ℕ) : Type 0 where
@@ -110,7 +110,7 @@ module _ (x : Lent) (index : Indexed (x .node)) (f : List ℕ) (h : Header) (r :
   at-entry (verdicts.Refused w) e =
       inl (record {
         why = w;
-        answer = answer ∙ ap (λ (v : Verdict). answerAs v (takenInAnswer x (entryOf x h) (endOf (x .node) (entryOf x h)) (h .kind) (h .seq .0) (payloadOf f))) e;
+        answer = answer ∙ ap (λ (v : Verdict). answerAs v (arrived.At (entryOf x h) (takenInAnswer x (entryOf x h) (endOf (x .node) (entryOf x h)) (h .kind) (h .seq .0) (payloadOf f)))) e;
         after = after ∙ ap (λ (v : Verdict). afterAs v x (takenInAfter x (entryOf x h) (endOf (x .node) (entryOf x h)) (h .kind) (h .seq .0) (payloadOf f))) e;
       })
   at-entry verdicts.Passed e =
@@ -132,7 +132,7 @@ module _ (x : Lent) (index : Indexed (x .node)) (f : List ℕ) (h : Header) (r :
         need = ltb-false (length (x .store)) (needIn (x .node)) (c .1 .1 .1 .1 .1 .0);
         block = λ d. ltb-false _ _ (and-false (carries (h .kind)) _ (c .1 .1 .1 .1 .1 .1 .0) d);
         byte = header-byte f h r;
-        answer = answer ∙ ap (λ (v : Verdict). answerAs v (takenInAnswer x (entryOf x h) (endOf (x .node) (entryOf x h)) (h .kind) (h .seq .0) (payloadOf f))) e;
+        answer = answer ∙ ap (λ (v : Verdict). answerAs v (arrived.At (entryOf x h) (takenInAnswer x (entryOf x h) (endOf (x .node) (entryOf x h)) (h .kind) (h .seq .0) (payloadOf f)))) e;
         after = after ∙ ap (λ (v : Verdict). afterAs v x (takenInAfter x (entryOf x h) (endOf (x .node) (entryOf x h)) (h .kind) (h .seq .0) (payloadOf f))) e;
       })
 

@@ -2,11 +2,12 @@
 use Prim.Native.Nat.{ℕ, _≤_, _<_}
 use mathlib.Core.Path.{_≡_}
 use mathlib.Core.List.{List, [], _∷_}
-use lib.ListN.{length}
-use Rattle.units.specs.Refusals.{numberOf}
-use Rattle.units.specs.declared.refusals.Refusal.{Refusal}
+use lib.ListN.{length, getD}
+use lib.Dec.{eqb}
+use Rattle.units.specs.Refusals.{numberOf, pick}
+use Rattle.units.specs.declared.refusals.Refusal.the-variants as refusal
 use Rattle.table.specs.Areas.{storeOf}
-use Rattle.machine.specs.Calls.{Call, opens, closes, counts, sends, urges, arrives, hands-out, ticks}
+use Rattle.machine.specs.Calls.{Call, opens, closes, counts, sends, urges, arrives, hands-out, ticks, Answer}
 use Rattle.machine.specs.Laws.{lent}
 use Rattle.good.specs.Good.{Lists, Good}
 use Rattle.good.specs.Calls.{Memory, answer, after, relent, Reach}
@@ -27,13 +28,21 @@ Stored (arrives block f) = Unit {0}
 Stored (hands-out buffer) = Unit {0}
 Stored ticks = ⊥
 
--- a call: its answer is a refusal, and all that was lent is as it was [R44]
-pub record Declined (n : Memory) (c : Call) : Type 0 where
-  pub why : Refusal
-  pub answered : answer n c ≡ record { numbers = numberOf why ∷ []; out = lent c }
-  pub left : after n c ≡ n
+-- what a call answers whose store is too short: the refusal that it has with a store that is long enough, and 6 where
+-- it has none [R6, R42]
+abbrev pub shortened : Call → Answer → Answer
+shortened c a =
+    record {
+      numbers = pick (eqb (getD (a .numbers) 0 0) 0) (numberOf refusal.TooShort ∷ []) (a .numbers);
+      out = lent c;
+    }
+
+-- so it answers, and all that was lent is as it was [R44]
+pub record Declined (n : Memory) (s : List ℕ) (c : Call) : Type 0 where
+  pub answered : answer (relent s n) c ≡ shortened c (answer n c)
+  pub left : after (relent s n) c ≡ relent s n
 
 -- a store that is too short is refused by every call that is lent one, and nothing alters [R6, R42, R44]
 unfoldable pub ShortIsRefused : Type 0
 ShortIsRefused = (t : List ℕ) (n : Memory) → Reach t n → (s : List ℕ) → length s < storeOf t
-    → (c : Call) → Stored c → Declined (relent s n) c
+    → (c : Call) → Stored c → Declined n s c

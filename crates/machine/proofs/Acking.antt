@@ -11,7 +11,7 @@ use Rattle.frame.specs.declared.FrameType.the-variants as type
 use Rattle.end_points.specs.States.{isClosed}
 use Rattle.end_points.specs.declared.State.{State}
 use Rattle.end_points.specs.declared.State.the-variants.{Closed, Enabled, Open, Failing}
-use Rattle.end_points.specs.declared.answers.Arrived.the-variants as was
+use Rattle.end_points.specs.declared.answers.Was.the-variants as was
 use Rattle.machine.specs.Calls.{arrives}
 use Rattle.machine.specs.Machine.{Number, End, Sort, Machine, number, stated, counted, turned, notAgain, anew, offset, numberAt, ackedRun, running, passing, told, acked, acking, taken, step}
 use Rattle.machine.specs.Sound.{Sound}
@@ -38,7 +38,7 @@ ack-is t m S i e s p block f c z h up =
 pub ack-opens : AckOpens
 unfolding AckOpens acking
 ack-opens t m S i e timer p block f c h =
-    carry (λ m′ a. (a .numbers ≡ 0 ∷ 2 ∷ []) × (a .out ≡ block) × Opens m m′ i e) (ack-is t m S i e 0 p block f c (Enabled timer true) h refl) (
+    carry (λ m′ a. (a .numbers ≡ 0 ∷ 2 ∷ i ∷ []) × (a .out ≡ block) × Opens m m′ i e) (ack-is t m S i e 0 p block f c (Enabled timer true) h refl) (
       refl,
       refl,
       record {
@@ -54,13 +54,13 @@ ack-opens t m S i e timer p block f c h =
     now : End
     now = counted 0 0 (anew Open e)
 
-ignores : (m : Machine) (block : List ℕ) → Ignored m m (told was.Ignored block m .answer) block
-ignores m block = record { numbers = refl; out = refl; same = refl }
+ignores : (m : Machine) (i : ℕ) (block : List ℕ) → Ignored m m (told i was.Ignored block m .answer) i block
+ignores m i block = record { numbers = refl; out = refl; same = refl }
 
 pub enabled-ignores : EnabledIgnores
 unfolding EnabledIgnores acking
 enabled-ignores t m S i e s timer sent p block f c h other =
-    carry (λ m′ a. Ignored m m′ a block) (ack-is t m S i e s p block f c (Enabled timer sent) h refl ∙ rw other) (ignores m block)
+    carry (λ m′ a. Ignored m m′ a i block) (ack-is t m S i e s p block f c (Enabled timer sent) h refl ∙ rw other) (ignores m i block)
 
 -- ---- those acknowledged without a gap
 
@@ -102,7 +102,7 @@ run-first (n ∷ ns) (suc k) x y h z a = absurd (omega arith)
 
 -- ---- at Open and Failing
 
-module _ (m : Machine) (block : List ℕ) (e : End) (s : ℕ) (x : Number) (here : getElem? (e .numbers) (offset e s) ≡ some x) where
+module _ (m : Machine) (block : List ℕ) (i : ℕ) (e : End) (s : ℕ) (x : Number) (here : getElem? (e .numbers) (offset e s) ≡ some x) where
   abbrev ns : List Number
   ns = set (e .numbers) (offset e s) (number (x .payload) (x .retries) true true 0)
 
@@ -110,17 +110,17 @@ module _ (m : Machine) (block : List ℕ) (e : End) (s : ℕ) (x : Number) (here
   n = ackedRun ns
 
   -- it counts
-  acked-is : x .handed ≡ true → x .acked ≡ false → (g : End → Machine) → acked m block e s g ≡ told (was.Acknowledged n) block (g (passing n ns e))
+  acked-is : x .handed ≡ true → x .acked ≡ false → (g : End → Machine) → acked m block i e s g ≡ told i (was.Acknowledged n) block (g (passing n ns e))
   acked-is h a g =
       let z : numberAt e s ≡ x = elem-getD (e .numbers) (offset e s) _ here in
       rw (z, h, a)
 
   -- an end with the numbers that are left; Failing says how many timers still run
-  confirms : (i : ℕ) (m′ : Machine) (end : End) → Is m′ i end → end .numbers ≡ drop n ns → end .confirmed ≡ e .confirmed + n → end .accepted ≡ e .accepted
+  confirms : (m′ : Machine) (end : End) → Is m′ i end → end .numbers ≡ drop n ns → end .confirmed ≡ e .confirmed + n → end .accepted ≡ e .accepted
       → end .start ≡ passing n ns e .start → end .entry ≡ e .entry → end .places ≡ e .places → end .urgent ≡ e .urgent → end .state ≡ stateAfter (e .state) (end .numbers)
       → ((q : Sort) → m′ .waiting q ≡ stopped (e .state) i s q (m .waiting q))
-      → Confirms m m′ (told (was.Acknowledged n) block m′ .answer) i e s x
-  confirms i m′ end is left c a k x′ ps u z w =
+      → Confirms m m′ (told i (was.Acknowledged n) block m′ .answer) i e s x
+  confirms m′ end is left c a k x′ ps u z w =
       record {
         passed = n;
         numbers = refl;
@@ -144,7 +144,7 @@ unfolding AckConfirms acking
 ack-confirms t m S i e s x p block f c runs here handed missing = sides (e .state) refl runs
   where
     e′ : End
-    e′ = passing (n m block e s x here) (ns m block e s x here) e
+    e′ = passing (n m block i e s x here) (ns m block i e s x here) e
 
     low : i < length (m .ends)
     low = elem-lt (m .ends) i (c .there)
@@ -154,14 +154,14 @@ ack-confirms t m S i e s x p block f c runs here handed missing = sides (e .stat
     sides (Enabled timer sent) h r = absurd r
     sides Open h r =
         carry (λ m′ a. Confirms m m′ a i e s x × (a .out ≡ block))
-        (ack-is t m S i e s p block f c Open h refl ∙ acked-is m block e s x here handed missing (λ d. notAgain i s (turned i d m)))
-        (confirms m block e s x here i (notAgain i s (turned i e′ m)) e′ (elem-set-same (m .ends) i e′ low) refl refl refl refl refl refl refl (rw h) (λ q. rw h), refl)
+        (ack-is t m S i e s p block f c Open h refl ∙ acked-is m block i e s x here handed missing (λ d. notAgain i s (turned i d m)))
+        (confirms m block i e s x here (notAgain i s (turned i e′ m)) e′ (elem-set-same (m .ends) i e′ low) refl refl refl refl refl refl refl (rw h) (λ q. rw h), refl)
     sides (Failing k) h r =
         let d : End = stated (Failing (running (e′ .numbers))) e′ in
         carry (λ m′ a. Confirms m m′ a i e s x × (a .out ≡ block))
         (ack-is t m S i e s p block f c (Failing k) h refl
-        ∙ acked-is m block e s x here handed missing (λ d. turned i (stated (Failing (running (d .numbers))) d) m))
-        (confirms m block e s x here i (turned i d m) d (elem-set-same (m .ends) i d low) refl refl refl refl refl refl refl (rw h) (λ q. rw h), refl)
+        ∙ acked-is m block i e s x here handed missing (λ d. turned i (stated (Failing (running (d .numbers))) d) m))
+        (confirms m block i e s x here (turned i d m) d (elem-set-same (m .ends) i d low) refl refl refl refl refl refl refl (rw h) (λ q. rw h), refl)
 
 -- it does not count
 module _ (m : Machine) (block : List ℕ) (e : End) (s : ℕ)
@@ -184,10 +184,10 @@ pub other-ignored : OtherIgnored
 unfolding OtherIgnored acking
 other-ignored t m S i e s p block f c runs other = sides (e .state) refl runs
   where
-    sides : (z : State) → e .state ≡ z → Runs z → Ignored m (after m (arrives block f)) (answer m (arrives block f)) block
+    sides : (z : State) → e .state ≡ z → Runs z → Ignored m (after m (arrives block f)) (answer m (arrives block f)) i block
     sides Closed h r = absurd r
     sides (Enabled timer sent) h r = absurd r
     sides Open h r =
-        carry (λ m′ a. Ignored m m′ a block) (ack-is t m S i e s p block f c Open h refl ∙ rw (not-counted m block e s other)) (ignores m block)
+        carry (λ m′ a. Ignored m m′ a i block) (ack-is t m S i e s p block f c Open h refl ∙ rw (not-counted m block e s other)) (ignores m i block)
     sides (Failing k) h r =
-        carry (λ m′ a. Ignored m m′ a block) (ack-is t m S i e s p block f c (Failing k) h refl ∙ rw (not-counted m block e s other)) (ignores m block)
+        carry (λ m′ a. Ignored m m′ a i block) (ack-is t m S i e s p block f c (Failing k) h refl ∙ rw (not-counted m block e s other)) (ignores m i block)

@@ -15,7 +15,8 @@ use Rattle.frame.specs.declared.FrameType.the-variants as type
 use Rattle.end_points.specs.Answers.{arrivedOf}
 use Rattle.end_points.specs.States.{isClosed}
 use Rattle.end_points.specs.declared.State.the-variants.{Open}
-use Rattle.end_points.specs.declared.answers.Arrived.the-variants as was
+use Rattle.end_points.specs.declared.answers.Was.the-variants as was
+use Rattle.end_points.specs.declared.answers.Arrived.the-variants as arrived
 use Rattle.blocks.specs.Blocks.{blockOf}
 use Rattle.blocks.specs.Reading.{readBlock}
 use Rattle.blocks.proofs.Appending.{length-one}
@@ -49,7 +50,7 @@ ready m e p block r =
     record { up = ap isClosed (r .opened); opened = λ d. r .opened; short = λ d. r .short; few = λ d. r .few; room = λ d. r .room }
 
 tells : (m : Machine) (es : List End) (i s : ℕ) (ps : List (List ℕ)) (block : List ℕ) → length (blockOf ps) ≤ length block
-    → Told m (waits acks i s (node m es (m .waiting))) (record { numbers = arrivedOf (was.Data (length (blockOf ps))); out = sets block 0 (blockOf ps) }) i s ps block
+    → Told m (waits acks i s (node m es (m .waiting))) (record { numbers = arrivedOf (arrived.At i (was.Data (length (blockOf ps)))); out = sets block 0 (blockOf ps) }) i s ps block
 tells m es i s ps block h =
     record { numbers = refl; holds = read-written block ps h; beyond = beyond-stays block (blockOf ps) h; behind = waits-last m es acks i s }
 
@@ -79,7 +80,7 @@ module _ (t : List ℕ) (m : Machine) (S : Sound t m) (i : ℕ) (e : End) (s : �
     abbrev e′ : End
     e′ = handing-on (length (heldRun ps)) ps e
 
-    new-is : step m (arrives block f) ≡ delivering was.Data (heldRun ps) block (waits acks i s (turned i e′ m))
+    new-is : step m (arrives block f) ≡ delivering i was.Data (heldRun ps) block (waits acks i s (turned i e′ m))
     unfolding receiving taken
     new-is = come-is t m S f i e type.Data s p block c (ready m e p block r) ∙ rw (new-there (e .places) (offset e s) new)
 
@@ -87,7 +88,7 @@ module _ (t : List ℕ) (m : Machine) (S : Sound t m) (i : ℕ) (e : End) (s : �
     new-end = elem-set-same (m .ends) i e′ (elem-lt (m .ends) i (c .there))
 
     abbrev then : Outcome
-    then = delivering was.Data (heldRun ps) block (waits acks i s (turned i e′ m))
+    then = delivering i was.Data (heldRun ps) block (waits acks i s (turned i e′ m))
 
     new-told : {l : List (List ℕ)} → heldRun ps ≡ l → Told m (then .machine) (then .answer) i s l block
     new-told h = subst (λ (l : List (List ℕ)). Told m (then .machine) (then .answer) i s l block) h (tells m (set (m .ends) i e′) i s (heldRun ps) block fit)
@@ -181,7 +182,7 @@ reset-begins t m S i e s p block f c up few =
 pub urgent-delivers : UrgentDelivers
 unfolding UrgentDelivers taken
 urgent-delivers t m S i e s p block f c opened short room =
-    carry (λ m′ a. (a .numbers ≡ 0 ∷ 5 ∷ (10 + length p) ∷ []) × (readBlock (a .out) ≡ p ∷ []) × (drop (10 + length p) (a .out) ≡ drop (10 + length p) block) × (m′ ≡ m))
+    carry (λ m′ a. (a .numbers ≡ 0 ∷ 5 ∷ i ∷ (10 + length p) ∷ []) × (readBlock (a .out) ≡ p ∷ []) × (drop (10 + length p) (a .out) ≡ drop (10 + length p) block) × (m′ ≡ m))
     (come-is t m S f i e type.Urgent s p block c
     (record { up = ap isClosed opened; opened = λ d. opened; short = λ d. short; few = λ d. absurd (false≢true d); room = λ d. room })) (
       rw (length-one p),

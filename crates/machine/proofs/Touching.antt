@@ -20,7 +20,7 @@ use Rattle.frame.specs.declared.FrameType.{FrameType}
 use Rattle.frame.specs.declared.FrameType.the-variants as type
 use Rattle.end_points.specs.declared.State.{State}
 use Rattle.end_points.specs.declared.State.the-variants.{Closed, Enabled, Open, Failing}
-use Rattle.end_points.specs.declared.answers.Arrived.the-variants as was
+use Rattle.end_points.specs.declared.answers.Was.the-variants as was
 use Rattle.end_points.specs.States.{isSends}
 use Rattle.machine.specs.Machine.{Number, End, Sort, acks, resets, urgents, datas, Machine, Outcome, stated, counted, turned, waits, silent, notAgain, past, taking, urging, anew, enabled, answers, unless, onEntry, offset, numberAt, timed, ackedRun, running, passing, told, acked, acking, heldRun, delivering, handing-on, isNew, receiving, resetting, taken, entryTests, entryFor, reading, isOurs}
 use Rattle.machine.specs.Laws.{Is, Free}
@@ -94,16 +94,16 @@ module _ (P : Outcome → Type 0) (m : Machine) (out : List ℕ) (i : ℕ) (e : 
   by-pick true x y p q = p
   by-pick false x y p q = q
 
-  by-acked : (s : ℕ) (g : End → Machine) → ((n : ℕ) (ns : List Number) → Touched i m (g (passing n ns e))) → P (acked m out e s g)
+  by-acked : (s : ℕ) (g : End → Machine) → ((n : ℕ) (ns : List Number) → Touched i m (g (passing n ns e))) → P (acked m out i e s g)
   by-acked s g t =
-      by-pick (numberAt e s .handed && not (numberAt e s .acked)) (told (was.Acknowledged (ackedRun (timed 0 true e s))) out (g (passing (ackedRun (timed 0 true e s)) (timed 0 true e s) e))) (told was.Ignored out m)
+      by-pick (numberAt e s .handed && not (numberAt e s .acked)) (told i (was.Acknowledged (ackedRun (timed 0 true e s))) out (g (passing (ackedRun (timed 0 true e s)) (timed 0 true e s) e))) (told i was.Ignored out m)
       (touches _ (t (ackedRun (timed 0 true e s)) (timed 0 true e s)) _ _) (touches m as-was _ _)
 
   by-state : (s : ℕ) (z : State) → P (acking m out i e s z)
   unfolding acking
   by-state s Closed = touches m as-was _ _
   by-state s (Enabled timer sent) =
-      by-pick (sent && eqb s 0) (told was.Opened out (silent i (turned i (counted 0 0 (anew Open e)) m))) (told was.Ignored out m) (touches _ (silenced (turns e (counted 0 0 (anew Open e)) here (anew-follows e refl refl) as-was)) _ _) (touches m as-was _ _)
+      by-pick (sent && eqb s 0) (told i was.Opened out (silent i (turned i (counted 0 0 (anew Open e)) m))) (told i was.Ignored out m) (touches _ (silenced (turns e (counted 0 0 (anew Open e)) here (anew-follows e refl refl) as-was)) _ _) (touches m as-was _ _)
   by-state s Open = by-acked s (λ d. notAgain i s (turned i d m)) (λ n ns. stopped s (turns e (passing n ns e) here (same-follows e refl refl) as-was))
   by-state s (Failing n) = by-acked s (λ d. turned i (stated (Failing (running (d .numbers))) d) m) (λ n ns. turns e (stated (Failing (running (drop n ns))) (passing n ns e)) here (same-follows e refl refl) as-was)
 
@@ -112,7 +112,7 @@ module _ (P : Outcome → Type 0) (m : Machine) (out : List ℕ) (i : ℕ) (e : 
   by-taken type.Data s p =
       let ps = set (e .places) (offset e s) (some p) in
       let e′ = handing-on (length (heldRun ps)) ps e in
-      by-pick (isNew e s) (delivering was.Data (heldRun ps) out (waits acks i s (turned i e′ m))) (delivering was.Data [] out (waits acks i s m))
+      by-pick (isNew e s) (delivering i was.Data (heldRun ps) out (waits acks i s (turned i e′ m))) (delivering i was.Data [] out (waits acks i s m))
       (touches _ (waited acks s (turns e e′ here (moved-follows ps e) as-was)) _ _) (touches _ (waited acks s as-was) _ _)
   by-taken type.Acknowledge s p = by-state s (e .state)
   by-taken type.Reset s p = touches _ (waited acks 0 (silenced (turns e (anew Open e) here (anew-follows e refl refl) as-was))) _ _

@@ -79,7 +79,7 @@ pub record Ready (m : Machine) (e : End) (p block : List ℕ) : Type 0 where
 -- the answer is Data, the block holds these payloads and beyond its end nothing altered, and an acknowledgement of s
 -- waits behind all others [A1, B1, B3, B4]
 pub record Told (m m′ : Machine) (a : Answer) (i s : ℕ) (ps : List (List ℕ)) (block : List ℕ) : Type 0 where
-  pub numbers : a .numbers ≡ 0 ∷ 4 ∷ length (blockOf ps) ∷ []
+  pub numbers : a .numbers ≡ 0 ∷ 4 ∷ i ∷ length (blockOf ps) ∷ []
   pub holds : readBlock (a .out) ≡ ps
   pub beyond : drop (length (blockOf ps)) (a .out) ≡ drop (length (blockOf ps)) block
   pub behind : WaitsLast m m′ acks i s
@@ -128,7 +128,7 @@ OtherAcked = (t : List ℕ) (m : Machine) → Sound t m → (i : ℕ) (e : End) 
 -- Open, start 1, nothing held; the answer says how many were held; the entry's waiting acknowledgements go, and
 -- acknowledgement 0 waits behind all others' [E11, E12, E13]
 pub record Begins (m m′ : Machine) (a : Answer) (i : ℕ) (e : End) : Type 0 where
-  pub numbers : a .numbers ≡ 0 ∷ 3 ∷ heldCount (e .places) ∷ []
+  pub numbers : a .numbers ≡ 0 ∷ 3 ∷ i ∷ heldCount (e .places) ∷ []
   pub end : End
   pub is : Is m′ i end
   pub anew : Anew Open e end
@@ -150,7 +150,7 @@ unfoldable pub UrgentDelivers : Type 0
 UrgentDelivers = (t : List ℕ) (m : Machine) → Sound t m → (i : ℕ) (e : End) (s : ℕ) (p block f : List ℕ)
     → Comes m f i e type.Urgent s p → e .state ≡ Open → length p ≤ e .entry .largest
     → blockRoom (e .entry) ≤ length block
-    → (answer m (arrives block f) .numbers ≡ 0 ∷ 5 ∷ (10 + length p) ∷ [])
+    → (answer m (arrives block f) .numbers ≡ 0 ∷ 5 ∷ i ∷ (10 + length p) ∷ [])
     × (readBlock (answer m (arrives block f) .out) ≡ p ∷ [])
     × (drop (10 + length p) (answer m (arrives block f) .out) ≡ drop (10 + length p) block)
     × (after m (arrives block f) ≡ m)
@@ -171,12 +171,12 @@ pub record Opens (m m′ : Machine) (i : ℕ) (e : End) : Type 0 where
 unfoldable pub AckOpens : Type 0
 AckOpens = (t : List ℕ) (m : Machine) → Sound t m → (i : ℕ) (e : End) (timer : ℕ) (p block f : List ℕ)
     → Comes m f i e type.Acknowledge 0 p → e .state ≡ Enabled timer true
-    → (answer m (arrives block f) .numbers ≡ 0 ∷ 2 ∷ []) × (answer m (arrives block f) .out ≡ block)
+    → (answer m (arrives block f) .numbers ≡ 0 ∷ 2 ∷ i ∷ []) × (answer m (arrives block f) .out ≡ block)
     × Opens m (after m (arrives block f)) i e
 
 -- ignored: so it is answered, and nothing alters [A5]
-pub record Ignored (m m′ : Machine) (a : Answer) (block : List ℕ) : Type 0 where
-  pub numbers : a .numbers ≡ 0 ∷ 0 ∷ []
+pub record Ignored (m m′ : Machine) (a : Answer) (i : ℕ) (block : List ℕ) : Type 0 where
+  pub numbers : a .numbers ≡ 0 ∷ 0 ∷ i ∷ []
   pub out : a .out ≡ block
   pub same : m′ ≡ m
 
@@ -185,7 +185,7 @@ unfoldable pub EnabledIgnores : Type 0
 EnabledIgnores = (t : List ℕ) (m : Machine) → Sound t m
     → (i : ℕ) (e : End) (s timer : ℕ) (sent : Bool) (p block f : List ℕ)
     → Comes m f i e type.Acknowledge s p → e .state ≡ Enabled timer sent → (sent && eqb s 0) ≡ false
-    → Ignored m (after m (arrives block f)) (answer m (arrives block f)) block
+    → Ignored m (after m (arrives block f)) (answer m (arrives block f)) i block
 
 -- a sender's window is in use at Open and at Failing [A2]
 abbrev pub Runs : State → Type 0
@@ -213,7 +213,7 @@ stateAfter (Failing n) ns = Failing (running ns)
 -- answered and confirmed; the retransmission of s, if it waits, goes. [W8, A3, A4]
 pub record Confirms (m m′ : Machine) (a : Answer) (i : ℕ) (e : End) (s : ℕ) (x : Number) : Type 0 where
   pub passed : ℕ
-  pub numbers : a .numbers ≡ 0 ∷ 1 ∷ passed ∷ []
+  pub numbers : a .numbers ≡ 0 ∷ 1 ∷ i ∷ passed ∷ []
   pub end : End
   pub is : Is m′ i end
   pub left : let ns = set (e .numbers) (offset e s) (number (x .payload) (x .retries) true true 0) in
@@ -245,4 +245,4 @@ unfoldable pub OtherIgnored : Type 0
 OtherIgnored = (t : List ℕ) (m : Machine) → Sound t m → (i : ℕ) (e : End) (s : ℕ) (p block f : List ℕ)
     → Comes m f i e type.Acknowledge s p → Runs (e .state)
     → ((x : Number) → getElem? (e .numbers) (offset e s) ≡ some x → x .handed ≡ true → x .acked ≡ false → ⊥)
-    → Ignored m (after m (arrives block f)) (answer m (arrives block f)) block
+    → Ignored m (after m (arrives block f)) (answer m (arrives block f)) i block

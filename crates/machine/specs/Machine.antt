@@ -30,15 +30,16 @@ use Rattle.frame.specs.declared.Read.the-variants as read
 use Rattle.frame.specs.declared.FrameType.{FrameType}
 use Rattle.frame.specs.declared.FrameType.the-variants as type
 use Rattle.end_points.specs.States.{isSends, isClosed, isOpen, isOver}
-use Rattle.end_points.specs.Answers.{answerOf, countedOf, arrivedOf, handedOf}
+use Rattle.end_points.specs.Answers.{stateNumber, answerOf, countedOf, arrivedOf, handedOf}
 use Rattle.end_points.specs.declared.State.{State}
 use Rattle.end_points.specs.declared.State.the-variants.{Closed, Enabled, Open, Failing}
 use Rattle.end_points.specs.declared.answers.Counted.the-variants.{Counts}
-use Rattle.end_points.specs.declared.answers.Arrived.{Arrived}
-use Rattle.end_points.specs.declared.answers.Arrived.the-variants as was
+use Rattle.end_points.specs.declared.answers.Was.{Was}
+use Rattle.end_points.specs.declared.answers.Was.the-variants as was
+use Rattle.end_points.specs.declared.answers.Arrived.the-variants as arrived
 use Rattle.end_points.specs.declared.answers.HandedOut.the-variants.{Length}
 use Rattle.arrive_lookup.specs.Fitting.{fits}
-use Rattle.blocks.specs.Blocks.{blockOf}
+use Rattle.blocks.specs.Blocks.{empty, offsetBytes, blockOf}
 use Rattle.machine.specs.Calls.{Call, opens, closes, counts, sends, urges, arrives, hands-out, ticks}
 use Rattle.machine.specs.Calls.{Answer, Bytes}
 
@@ -123,6 +124,18 @@ urging u e = end (e .entry) (e .state) (e .accepted) (e .confirmed) (e .start) (
 -- with other end points and other frames waiting; what setup took from the table stays [T17, I3]
 abbrev pub node : Machine → List End → (Sort → List Item) → Machine
 node m es w = record { own = m .own; protocol = m .protocol; need = m .need; room = m .room; ends = es; waiting = w }
+
+-- lent another store, of so many bytes: its length comes with each call that is lent one [P11, R42]
+abbrev pub lending : ℕ → Machine → Machine
+lending room m =
+    record {
+      own = m .own;
+      protocol = m .protocol;
+      need = m .need;
+      room = room;
+      ends = m .ends;
+      waiting = m .waiting;
+    }
 
 -- ---- entries and what waits
 
@@ -253,7 +266,7 @@ setupTests t room = (not (goodTable t), refusal.BadTable) ∷ (ltb room (storeOf
 unfoldable pub setting : Machine → List ℕ → ℕ → Outcome
 setting m t room = unless (setupTests t room) [] m (done (begun t room))
 
--- ---- open, close, counts
+-- ---- open, close, counts, state
 
 -- 2, 4 [E4, R2, R4, R32]
 unfoldable pub opening : Machine → ℕ → Outcome
@@ -273,6 +286,10 @@ counting m i =
     onEntry m i λ e.
     unless ((not (isSends (e .entry .kind)), refusal.OtherKind) ∷ []) [] m
     (answers (countedOf (Counts (record { 0 = e .accepted }) (record { 0 = e .confirmed }))) [] m)
+
+-- 2; it alters nothing, so that it is no step of the machine [E1, R2, R45]
+unfoldable pub stating : Machine → ℕ → List ℕ
+stating m i = at m i (answerOf (Refused refusal.NoEntry)) (λ e. 0 ∷ stateNumber (e .state) ∷ [])
 
 -- ---- send and Urgent
 
@@ -347,29 +364,29 @@ running (x ∷ xs) = pick (eqb (x .timer) 0) (running xs) (suc (running xs))
 abbrev pub passing : ℕ → List Number → End → End
 passing n ns e = counted (e .accepted) (e .confirmed + n) (numbered (past e n) (drop n ns) e)
 
--- what an arrival was [O3]
-abbrev pub told : Arrived → List ℕ → Machine → Outcome
-told a out m = answers (arrivedOf a) out m
+-- which entry an arrival was for, and what it was there [O3, O8]
+abbrev pub told : ℕ → Was → List ℕ → Machine → Outcome
+told i a out m = answers (arrivedOf (arrived.At i a)) out m
 
 -- it counts if its number is in the window, handed out and not yet acknowledged; its timer stops. Else it is ignored.
 -- [A2, A3, A5]
-abbrev pub acked : Machine → List ℕ → End → ℕ → (End → Machine) → Outcome
-acked m out e s f =
+abbrev pub acked : Machine → List ℕ → ℕ → End → ℕ → (End → Machine) → Outcome
+acked m out i e s f =
     let ns = timed 0 true e s in
     pick (numberAt e s .handed && not (numberAt e s .acked))
-    (told (was.Acknowledged (ackedRun ns)) out (f (passing (ackedRun ns) ns e)))
-    (told was.Ignored out m)
+    (told i (was.Acknowledged (ackedRun ns)) out (f (passing (ackedRun ns) ns e)))
+    (told i was.Ignored out m)
 
 -- at Enabled, number 0 after a Reset was handed out: Open, start 1, counts 0, timer and waiting Reset gone; at Open a
 -- waiting retransmission goes; Failing says how many timers still run [E2, E9, E10, A3, A5]
 unfoldable pub acking : Machine → List ℕ → ℕ → End → ℕ → State → Outcome
-acking m out i e s Closed = told was.Ignored out m
+acking m out i e s Closed = told i was.Ignored out m
 acking m out i e s (Enabled timer sent) =
     pick (sent && eqb s 0)
-    (told was.Opened out (silent i (turned i (counted 0 0 (anew Open e)) m)))
-    (told was.Ignored out m)
-acking m out i e s Open = acked m out e s λ e′. notAgain i s (turned i e′ m)
-acking m out i e s (Failing timers) = acked m out e s λ e′. turned i (stated (Failing (running (e′ .numbers))) e′) m
+    (told i was.Opened out (silent i (turned i (counted 0 0 (anew Open e)) m)))
+    (told i was.Ignored out m)
+acking m out i e s Open = acked m out i e s λ e′. notAgain i s (turned i e′ m)
+acking m out i e s (Failing timers) = acked m out i e s λ e′. turned i (stated (Failing (running (e′ .numbers))) e′) m
 
 -- ---- a Reset, Data and an Urgent
 
@@ -385,8 +402,8 @@ heldRun (none ∷ ps) = []
 heldRun (some p ∷ ps) = p ∷ heldRun ps
 
 -- the payloads go into the host's block; beyond its end nothing alters [B3, B4]
-abbrev pub delivering : (ℕ → Arrived) → List (List ℕ) → List ℕ → Machine → Outcome
-delivering what ps out m = told (what (length (blockOf ps))) (sets out 0 (blockOf ps)) m
+abbrev pub delivering : ℕ → (ℕ → Was) → List (List ℕ) → List ℕ → Machine → Outcome
+delivering i what ps out m = told i (what (length (blockOf ps))) (sets out 0 (blockOf ps)) m
 
 -- the start passes n of the places [W5]
 abbrev pub handing-on : ℕ → List (Option (List ℕ)) → End → End
@@ -402,14 +419,14 @@ receiving m out i e s p =
     let ps = set (e .places) (offset e s) (some p) in
     let e′ = handing-on (length (heldRun ps)) ps e in
     pick (isNew e s)
-    (delivering was.Data (heldRun ps) out (waits acks i s (turned i e′ m)))
-    (delivering was.Data [] out (waits acks i s m))
+    (delivering i was.Data (heldRun ps) out (waits acks i s (turned i e′ m)))
+    (delivering i was.Data [] out (waits acks i s m))
 
 -- Open, start 1, held payloads and its waiting acknowledgements dropped, acknowledgement 0 waits; the answer says how
 -- many were held [E11, E12, E13]
 unfoldable pub resetting : Machine → List ℕ → ℕ → End → Outcome
 resetting m out i e =
-    told (was.Reset (heldCount (e .places))) out (waits acks i 0 (silent i (turned i (anew Open e) m)))
+    told i (was.Reset (heldCount (e .places))) out (waits acks i 0 (silent i (turned i (anew Open e) m)))
 
 -- taken in by entry i, which is e: a frame of number s with payload p; an Urgent is delivered and not acknowledged
 -- [F16, E16]
@@ -417,7 +434,7 @@ unfoldable pub taken : Machine → List ℕ → ℕ → End → FrameType → �
 taken m out i e type.Data s p = receiving m out i e s p
 taken m out i e type.Acknowledge s p = acking m out i e s (e .state)
 taken m out i e type.Reset s p = resetting m out i e
-taken m out i e type.Urgent s p = delivering was.Urgent (p ∷ []) out m
+taken m out i e type.Urgent s p = delivering i was.Urgent (p ∷ []) out m
 
 -- ---- an arrival
 
@@ -427,7 +444,7 @@ mostAcks = 32
 
 -- the room in the block that Data and Urgent need [B2]
 abbrev pub blockRoom : Entry → ℕ
-blockRoom x = 6 + x .window * (4 + x .largest)
+blockRoom x = empty + x .window * (offsetBytes + x .largest)
 
 -- 13, 5, 14, 6: for entry e a frame of type t with n bytes of payload, and a block of so many bytes
 -- [E14, R5, R6, R13, R14, R37]
@@ -452,10 +469,10 @@ entryFor m h = placeOf (λ e. fits (e .entry) (forSender (h .kind)) (h .source .
 
 -- 12, then 13 where there is no such entry [R12, R13, R37]
 unfoldable pub reading : Machine → List ℕ → Read → List ℕ → Outcome
-reading m out (read.Refused w) p = told (was.Refused w) out m
+reading m out (read.Refused w) p = answers (answerOf (Refused w)) out m
 reading m out (read.Frame h) p =
     let i = entryFor m h in
-    at m i (told (was.Refused refusal.NoEndPoint) out m) λ e.
+    at m i (answers (answerOf (Refused refusal.NoEndPoint)) out m) λ e.
     unless (entryTests m e (h .kind) (h .length) (length out)) out m (taken m out i e (h .kind) (h .seq .0) p)
 
 -- destination and protocol ID are ours [F2, F3, R11]

@@ -7,12 +7,15 @@
 use end_points::answers::Arrived;
 use end_points::answers::Counted;
 use end_points::answers::HandedOut;
+use end_points::answers::Needed;
+use end_points::answers::Stated;
 use memory::layout;
 use units::refusals::Verdict;
 ghost use mathlib.Core.Path.{_≡_};
 ghost use Rattle.end_points.specs.Lent.{bare, stored, whole};
-ghost use Rattle.call_open.specs.Setup.{setupAnswer, setupAfter};
+ghost use Rattle.call_open.specs.Setup.{needAnswer, setupAnswer, setupAfter};
 ghost use Rattle.call_open.specs.Opening.{openAnswer, openAfter, closeAnswer, closeAfter, countsAnswer};
+ghost use Rattle.call_open.specs.Opening.{stateAnswer};
 ghost use Rattle.call_send.specs.Sending.{sendAnswer, sendAfter, urgentAnswer, urgentAfter};
 ghost use Rattle.call_arrive.specs.Arriving.{arrivalAnswer, arrivalAfter};
 ghost use Rattle.call_hand_out.specs.Handing.{handOutAnswer, handOutAfter};
@@ -22,6 +25,13 @@ ghost use Rattle.call_tick.specs.Ticking.{tickAnswer, tickAfter};
 pub type Node = [u64; layout::NODE_WORDS];
 
 pub type Book = [u16; layout::BOOK_HALVES];
+
+// How many bytes of store a table needs. Refuses 1. [S1, R46]
+pub fn store_need(table: &[u8]) -> Needed
+    ensures { λ r. ⌜ r ≡ needAnswer (now (table .entry)) ⌝ }
+{
+    call_open::store_need(table)
+}
 
 // The table is read: every entry Closed, nothing waiting, start 1, counts 0. Refuses 1, 6. [E3, R31]
 pub fn setup(node: &mut Node, book: &mut Book, store: &[u8], table: &[u8]) -> Verdict
@@ -60,6 +70,13 @@ pub fn counts(node: &Node, index: usize) -> Counted
     ensures { λ r. ⌜ r ≡ countsAnswer (now (node .entry)) index ⌝ }
 {
     call_open::counts(node, index)
+}
+
+// An entry's state. Refuses 2. [E1, R45]
+pub fn state(node: &Node, index: usize) -> Stated
+    ensures { λ r. ⌜ r ≡ stateAnswer (now (node .entry)) index ⌝ }
+{
+    call_open::state(node, index)
 }
 
 // A payload is accepted and waits. Refuses 2, 3, 4, 5, 8, 7, 6. [W2, R35]

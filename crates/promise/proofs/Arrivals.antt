@@ -10,7 +10,7 @@ use lib.ListN.{length, getElem?}
 use lib.Dec.{eqb}
 use native.Mathlib.Decide.{ℕ-discrete}
 use borrow.Author.Tests.{not-false}
-use Rattle.units.specs.Refusals.{pick, verdict}
+use Rattle.units.specs.Refusals.{numberOf, pick, verdict}
 use Rattle.units.specs.declared.refusals.Refusal.{Refusal}
 use Rattle.units.specs.declared.refusals.Refusal.the-variants as refusal
 use Rattle.units.specs.declared.refusals.Verdict.{Verdict}
@@ -28,9 +28,8 @@ use Rattle.frame.specs.declared.FrameType.the-variants as type
 use Rattle.end_points.specs.States.{isSends}
 use Rattle.end_points.specs.declared.State.{State}
 use Rattle.end_points.specs.declared.State.the-variants.{Closed, Enabled, Open, Failing}
-use Rattle.end_points.specs.declared.answers.Arrived.the-variants as was
 use Rattle.arrive_lookup.proofs.Found.{Fitting}
-use Rattle.machine.specs.Machine.{End, Machine, Outcome, found, judged, told, isOurs, entryTests, entryFor, isNew, numberAt, acking, receiving, resetting, taken, reading, arriving, step}
+use Rattle.machine.specs.Machine.{End, Machine, Outcome, found, judged, answers, isOurs, entryTests, entryFor, isNew, numberAt, acking, receiving, resetting, taken, reading, arriving, step}
 use Rattle.machine.specs.Calls.{arrives}
 use Rattle.machine.specs.Sound.{Sound}
 use Rattle.machine.specs.Laws.{On}
@@ -42,7 +41,7 @@ use Rattle.promise.proofs.Watched.{Watch, Follows, Step, seen-as, still
 
 record Refused (m : Machine) (block f : List ℕ) : Type 0 where
   why : Refusal
-  is : arriving m block f ≡ told (was.Refused why) block m
+  is : arriving m block f ≡ answers (numberOf why ∷ []) block m
 
 pub record Taken (m : Machine) (block f : List ℕ) : Type 0 where
   pub header : Header
@@ -68,7 +67,7 @@ module _ (m : Machine) (block f : List ℕ) where
   -- what is made of the entry that a header is for
   abbrev entered : Header → Option End → Outcome
   entered h z =
-      found z (told (was.Refused refusal.NoEndPoint) block m)
+      found z (answers (numberOf refusal.NoEndPoint ∷ []) block m)
       (λ e. judged (verdict (tests h e)) block m (taken m block (entryFor m h) e (h .kind) (h .seq .0) (payloadOf f)))
 
   by-header : arriving m block f ≡ judged (verdict frameTests) block m (reading m block (headerOf f) (payloadOf f))
@@ -79,7 +78,7 @@ module _ (m : Machine) (block f : List ℕ) where
   unfolding reading
   by-entry h = refl
 
-  refused-read : (w : Refusal) → reading m block (read.Refused w) (payloadOf f) ≡ told (was.Refused w) block m
+  refused-read : (w : Refusal) → reading m block (read.Refused w) (payloadOf f) ≡ answers (numberOf w ∷ []) block m
   unfolding reading
   refused-read w = refl
 

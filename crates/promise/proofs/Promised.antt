@@ -1,17 +1,20 @@
 -- The promise is kept, of two machines and of two nodes: every call on the sender's machine is a step of the sending
 -- end point, every call on the receiver's one of the receiving end point, so what holds of one channel holds of the
 -- two; and a node does what the machine does that it stands for. Assumes nothing.
-use Prim.Native.Nat.{ℕ, _<_}
+use Prim.Native.Nat.{ℕ, _-_, _<_}
 use mathlib.Core.Path.{_≡_, refl, sym, ap, subst, _∙_}
 use mathlib.Core.Bool.{true, false}
 use mathlib.Core.Option.{some}
-use mathlib.Core.List.{List, [], _∷_, map}
-use lib.ListN.{length, replicate, getElem?, length-replicate}
+use mathlib.Core.List.{List, [], _∷_, _++_, map}
+use native.Mathlib.Omega.{arith}
+use lib.ListN.{length, take, replicate, getElem?, length-append, length-replicate}
+use lib.Seq.{length-take-le, take-at}
 use Rattle.units.specs.Sizes.{isSize}
 use Rattle.units.specs.declared.refusals.Verdict.the-variants.{Passed}
 use Rattle.memory.specs.Layout.{nodeWords, bookHalves}
 use Rattle.waiting.specs.Order.{acksIn}
 use Rattle.table.specs.Layout.{countOf, entryOf}
+use Rattle.table.specs.Areas.{storeOf}
 use Rattle.table.specs.declared.Entry.{Entry}
 use Rattle.table.specs.declared.Kind.the-variants.{Sends, Receives}
 use Rattle.table.proofs.Good.{good-entry}
@@ -24,16 +27,17 @@ use Rattle.call_open.specs.Setup.{setupAfter}
 use Rattle.good.specs.Calls.{Memory, kept, answer, after, relent}
 use Rattle.good.specs.Calls as nodes
 use Rattle.machine.specs.Calls.{Call, opens, closes, counts, sends, urges, arrives, hands-out, ticks, Fed}
-use Rattle.machine.specs.Machine.{End, Machine, first, begun, step, SetUp}
+use Rattle.machine.specs.Machine.{End, Machine, lending, first, begun, step, SetUp}
 use Rattle.machine.specs.Sound.{Sound}
-use Rattle.refinement.specs.Standing.{Reading, standsFor, stateFor, readAt, endFor, endAt, ackItem, waitingFor, Stands, Follows, SetupAnswers, Begins, Refines, StandsSound}
+use Rattle.refinement.specs.Standing.{Reading, standsFor, stateFor, readAt, endFor, endAt, ackItem, waitingFor, Stands, Follows, SetupAnswers, Begins, Refines, Relends, StandsSound}
 use Rattle.machine.proofs.Listed.{elem-listed}
 use Rattle.refinement.proofs.SetupStands.{setup-answers, begins}
 use Rattle.refinement.proofs.Refining.{refines, restored}
+use Rattle.refinement.proofs.Relending.{relends}
 use Rattle.refinement.proofs.Sounding.{stands-sound}
 use Rattle.promise.specs.Promise.{Demand3}
 use Rattle.promise.specs.Seen.{Event, s-state-of}
-use Rattle.promise.specs.Link.{Did, sender, receiver, owedTo, Promise}
+use Rattle.promise.specs.Link.{Did, Lends, sender, receiver, owedTo, Promise}
 use Rattle.promise.specs.Nodes as nodal
 use Rattle.promise.specs.Nodes.{owedIn, NodesPromise}
 use Rattle.promise.proofs.Channel.{Recv}
@@ -158,6 +162,26 @@ module _ (K : Watch) (t : List ℕ) (i : ℕ) (h : i < countOf t)
       let x = law n m v (e .call) (d .fed) s in
       (x .0, rw (d .answered) (x .1), (after n (e .call), rw (d .left) (x .2)))
 
+  -- with another store of so many bytes it is seen as before: a node whose store has the same payloads stands for it
+  machine-lends : (m m′ : Machine) (v : K .View) → SeesM m v → Lends t m m′ → (z : K .View) × SeesM m′ z
+  unfolding Relends
+  machine-lends m m′ v (n, s) d =
+      let S = s .0 .stands in
+      let bytes = take (storeOf t) (n .store) in
+      let store = bytes ++ replicate (d .room - storeOf t) 0 in
+      let part : length bytes ≡ storeOf t = length-take-le (storeOf t) (n .store) (S .room) in
+      let size : length store ≡ d .room =
+      length-append bytes (replicate (d .room - storeOf t) 0)
+      ∙ (let r = length-replicate {A = ℕ} (d .room - storeOf t) 0 in omega (arith, part, r, d .long)) in
+      let alike : take (storeOf t) store ≡ bytes = take-at bytes (replicate (d .room - storeOf t) 0) (storeOf t) part in
+      let o = relent store n in
+      let k = lending (length store) m in
+      let is : k ≡ m′ = ap (λ (r : ℕ). lending r m) size ∙ sym (d .is) in
+      let x : At t i o k =
+      record { stands = relends t n m S store (rw size (d .long)) alike; end = s .0 .end; there = s .0 .there } in
+      let z = K .view (x .end) (owed i k) in
+      (z, subst (λ (y : Machine). SeesM y z) is (o, (x, refl)))
+
   -- and of nodes, each with the machine that it stands for
   abbrev SeesN : Memory → K .View → Type 0
   SeesN n v = (m : Machine) × Sees n m v
@@ -205,7 +229,7 @@ module _ (t : List ℕ) (i : ℕ) (h : i < countOf t) (k : entryOf t i .kind ≡
         Views = SeesM (s-watch t i) t i h s-steps;
         first = first-machine (s-watch t i) t i h s-steps;
         agrees = λ m s v. rw (v .1 .0 .there, v .1 .1) (refl, refl, refl);
-        lends = λ m m′ s v d. absurd d;
+        lends = machine-lends (s-watch t i) t i h s-steps;
         law = machine-law (s-watch t i) t i h s-steps;
       }
 
@@ -252,7 +276,7 @@ module _ (u : List ℕ) (j : ℕ) (h : j < countOf u) (k : entryOf u j .kind ≡
         Views = SeesM (r-watch u j) u j h r-steps;
         first = first-machine (r-watch u j) u j h r-steps;
         agrees = λ m r v. ap (λ (y : Recv). y .waiting) (v .1 .1);
-        lends = λ m m′ r v d. absurd d;
+        lends = machine-lends (r-watch u j) u j h r-steps;
         law = machine-law (r-watch u j) u j h r-steps;
       }
 

@@ -61,10 +61,10 @@ module _ (t : List ℕ) (m : Machine) (S : Sound t m) (i : ℕ) (e : End) (there
     -- where it counts the start passes, and the entry is then as next has it
     counting : (st : State) → s-state-of st ≡ s-state-of (e .state) → (next : End → Machine)
         → next (passing (ackedRun ns) ns e) .ends ≡ set (m .ends) i (stated st (passing (ackedRun ns) ns e))
-        → s-ack W (sendOf e) s ≡ s-count W (sendOf e) (offset e s) → Hears (acked m out e s next)
+        → s-ack W (sendOf e) s ≡ s-count W (sendOf e) (offset e s) → Hears (acked m out i e s next)
     counting st q next ends is = sides counts refl
       where
-        sides : (b : Bool) → counts ≡ b → Hears (acked m out e s next)
+        sides : (b : Bool) → counts ≡ b → Hears (acked m out i e s next)
         sides true h =
             rw h (leaves _ (stated st (passing (ackedRun ns) ns e)) (rw ends (placed _))
             (passed-view e s W narrow (both (numberAt e s .handed) (not (numberAt e s .acked)) h .0) st q

@@ -132,7 +132,7 @@ abbrev block : List ℕ
 block = replicate 18 0
 
 abbrev wrote : List Pay → Answer
-wrote given = record { numbers = 0 ∷ 4 ∷ length (blockOf given) ∷ []; out = sets block 0 (blockOf given) }
+wrote given = record { numbers = 0 ∷ 4 ∷ 0 ∷ length (blockOf given) ∷ []; out = sets block 0 (blockOf given) }
 
 -- it was done, if that is what it answers
 did : (n : Machine) (c : Call) (x : Answer) → Fed c → answer n c ≡ x → Did n (event c x) (after n c)
@@ -213,14 +213,14 @@ ack-out s f n said seen =
 -- a Reset comes in, where nothing is held
 reset-in : (s : Sys A B) (f : List ℕ)
     → T (areBytes f)
-    → answer (s .receiver) (arrives [] f) ≡ says (0 ∷ 3 ∷ 0 ∷ [])
-    → B .seen (event (arrives [] f) (says (0 ∷ 3 ∷ 0 ∷ []))) ≡ r-resets
+    → answer (s .receiver) (arrives [] f) ≡ says (0 ∷ 3 ∷ 0 ∷ 0 ∷ [])
+    → B .seen (event (arrives [] f) (says (0 ∷ 3 ∷ 0 ∷ 0 ∷ []))) ≡ r-resets
     → List·Memᴰ reset (s .hist .sent)
     → s .hist .dataIn ≡ false
     → Move W A B s (r-does s (arrives [] f) (new 0) false r-resets)
 reset-in s f fed said seen out before =
-    reset-comes s (event (arrives [] f) (says (0 ∷ 3 ∷ 0 ∷ []))) (after (s .receiver) (arrives [] f))
-    (did (s .receiver) (arrives [] f) (says (0 ∷ 3 ∷ 0 ∷ [])) (λ k. byte f k fed) said) seen out before
+    reset-comes s (event (arrives [] f) (says (0 ∷ 3 ∷ 0 ∷ 0 ∷ []))) (after (s .receiver) (arrives [] f))
+    (did (s .receiver) (arrives [] f) (says (0 ∷ 3 ∷ 0 ∷ 0 ∷ [])) (λ k. byte f k fed) said) seen out before
 
 data-in : (s : Sys A B) (f : List ℕ) (n : ℕ) (p : Pay) (given : List Pay)
     → T (areBytes f)
@@ -303,7 +303,7 @@ starts =
     (s-own g2 (hands-out buffer) (went reset!) 0 s-resets tt refl refl tt))
     (reset-in g3 reset! tt refl refl (List·Memᴰ·head refl) refl))
     (ack-out g4 ack0 0 refl refl))
-    (ack-in g5 ack0 (says (0 ∷ 2 ∷ [])) 1 0 tt refl refl (List·Memᴰ·head refl) tt)
+    (ack-in g5 ack0 (says (0 ∷ 2 ∷ 0 ∷ [])) 1 0 tt refl refl (List·Memᴰ·head refl) tt)
 
 -- two payloads are handed out; the first is lost; the second arrives, and once more: it is held
 abbrev g7 : Sys A B
@@ -373,7 +373,7 @@ confirms =
     (ack-out g15 ack2 2 refl refl))
     (ack-out g16 ack2 2 refl refl))
     (ack-out g17 ack1 1 refl refl))
-    (ack-in g18 ack1 (says (0 ∷ 1 ∷ 1 ∷ [])) 1 1 tt refl refl (List·Memᴰ·head refl) tt)
+    (ack-in g18 ack1 (says (0 ∷ 1 ∷ 0 ∷ 1 ∷ [])) 1 1 tt refl refl (List·Memᴰ·head refl) tt)
 
 -- there is room for a third payload; the second, which still waits, goes out before it and arrives after it, when it is passed
 abbrev g20 : Sys A B
@@ -419,9 +419,9 @@ unfolding computes
 runs =
     and-then (and-then (and-then (and-then passes
     (ack-out g24 ack3 3 refl refl))
-    (ack-in g25 ack3 (says (0 ∷ 1 ∷ 0 ∷ [])) 2 3 tt refl refl (List·Memᴰ·head refl) tt))
-    (ack-in g26 ack2 (says (0 ∷ 1 ∷ 2 ∷ [])) 2 2 tt refl refl (List·Memᴰ·tail (List·Memᴰ·tail (List·Memᴰ·head refl))) tt))
-    (ack-in g27 ack2 (says (0 ∷ 0 ∷ [])) 4 2 tt refl refl (List·Memᴰ·tail (List·Memᴰ·tail (List·Memᴰ·head refl))) tt)
+    (ack-in g25 ack3 (says (0 ∷ 1 ∷ 0 ∷ 0 ∷ [])) 2 3 tt refl refl (List·Memᴰ·head refl) tt))
+    (ack-in g26 ack2 (says (0 ∷ 1 ∷ 0 ∷ 2 ∷ [])) 2 2 tt refl refl (List·Memᴰ·tail (List·Memᴰ·tail (List·Memᴰ·head refl))) tt))
+    (ack-in g27 ack2 (says (0 ∷ 0 ∷ 0 ∷ [])) 4 2 tt refl refl (List·Memᴰ·tail (List·Memᴰ·tail (List·Memᴰ·head refl))) tt)
 
 -- ---- what it shows
 

@@ -1,14 +1,15 @@
 -- DEMAND 3 of two machines: the two sides of the promise, and the entries that the channel goes between. Assumes
 -- nothing.
-use Prim.Native.Nat.{ℕ, _<_}
+use Prim.Native.Nat.{ℕ, _≤_, _<_}
 use mathlib.Core.Path.{_≡_}
 use mathlib.Core.List.{List, [], _∷_}
 use lib.Dec.{eqb}
 use Rattle.units.specs.Refusals.{pick}
 use Rattle.table.specs.Layout.{countOf, ownOf, protocolOf, entryOf}
+use Rattle.table.specs.Areas.{storeOf}
 use Rattle.table.specs.declared.Kind.the-variants.{Sends, Receives}
 use Rattle.machine.specs.Calls.{Fed}
-use Rattle.machine.specs.Machine.{Item, acks, Machine, at, step, SetUp}
+use Rattle.machine.specs.Machine.{Item, acks, Machine, lending, at, step, SetUp}
 use Rattle.promise.specs.History.{s-closed}
 use Rattle.promise.specs.Promise.{SSide, RSide, Demand3}
 use Rattle.promise.specs.Seen.{Event, s-seen, r-seen, s-state-of}
@@ -21,8 +22,14 @@ pub record Did (m : Machine) (e : Event) (m′ : Machine) : Type 0 where
   pub answered : e .answer ≡ step m (e .call) .answer
   pub left : m′ ≡ step m (e .call) .machine
 
--- entry i of a machine that was set up from table t. A machine has no store that could be another: its payloads are its
--- own. [P11]
+-- the host lends another store, long enough for the table: a machine's payloads are its own, so only the length is
+-- another [P11]
+pub record Lends (t : List ℕ) (m m′ : Machine) : Type 0 where
+  pub room : ℕ
+  pub long : storeOf t ≤ room
+  pub is : m′ ≡ lending room m
+
+-- entry i of a machine that was set up from table t [P11]
 abbrev pub sender : List ℕ → ℕ → SSide
 sender t i =
     record {
@@ -30,7 +37,7 @@ sender t i =
       Call = Event;
       Did = Did;
       SetUp = SetUp t;
-      Lends = λ m m′. ⊥;
+      Lends = Lends t;
       seen = λ e. s-seen (entryOf t i) i (e .call) (e .answer);
       state = λ m. at m i s-closed (λ e. s-state-of (e .state));
       accepted = λ m. at m i 0 (λ e. e .accepted);
@@ -49,7 +56,7 @@ receiver u j =
       Call = Event;
       Did = Did;
       SetUp = SetUp u;
-      Lends = λ m m′. ⊥;
+      Lends = Lends u;
       seen = λ e. r-seen (entryOf u j) j (e .call) (e .answer);
       waiting = λ m. owedTo j (m .waiting acks);
     }

@@ -31,7 +31,8 @@ use Rattle.end_points.specs.declared.State.the-variants.{Closed, Enabled, Open,
 use Rattle.end_points.specs.declared.Run.{Run}
 use Rattle.end_points.specs.declared.EndPoint.{EndPoint}
 use Rattle.end_points.specs.declared.answers.Arrived.{Arrived}
-use Rattle.end_points.specs.declared.answers.Arrived.the-variants.{Ignored, Acknowledged, Opened}
+use Rattle.end_points.specs.declared.answers.Arrived.the-variants.{At}
+use Rattle.end_points.specs.declared.answers.Was.the-variants.{Ignored, Acknowledged, Opened}
 use Rattle.slots.specs.Slots.{cell, past, timerIn, retriesIn}
 use Rattle.timing.specs.Timing.{clockIn, roused}
 use Rattle.timing.proofs.Falling.{left-zero}
@@ -152,7 +153,7 @@ module _ (t : List ℕ) (n : Memory) (l : Lists) (g : Good t (n .node) (n .book)
   cell-small : c₀ < 2048
   cell-small = cell-low i low w window s
 
-  same : Takes t (answers (0 ∷ 0 ∷ []) block M) Ignored x
+  same : Takes t (answers (0 ∷ 0 ∷ i ∷ []) block M) (At i Ignored) x
   same = record { numbers = refl; out = refl; stands = still g room }
 
   left : (z : State) → e .state ≡ z → Leaves t n (kept (now z)) l i
@@ -492,23 +493,23 @@ module _ (t : List ℕ) (n : Memory) (l : Lists) (g : Good t (n .node) (n .book)
   counts-as : (z : State) (f : End → Machine) → Sending (n .book) i (e .run) (e .entry .largest)
       → (memory.counts (e .run) s ≡ false → now z ≡ x)
       → (memory.counts (e .run) s ≡ true → (ackedRun noted ≡ p) × Stands t (kept (now z)) (f passed))
-      → Takes t (machine.acked M block E s f) (pick (memory.counts (e .run) s) (Acknowledged p) Ignored) (now z)
+      → Takes t (machine.acked M block i E s f) (At i (pick (memory.counts (e .run) s) (Acknowledged p) Ignored)) (now z)
   counts-as z f S stays counts = rw (← counts-is L zero-left (n .store) (n .book) i e s S) (sides (memory.counts (e .run) s) refl)
     where
       sides : (y : Bool) → memory.counts (e .run) s ≡ y
-          → Takes t (pick y (answers (0 ∷ 1 ∷ ackedRun noted ∷ []) block (f passed)) (answers (0 ∷ 0 ∷ []) block M))
-          (pick y (Acknowledged p) Ignored) (now z)
+          → Takes t (pick y (answers (0 ∷ 1 ∷ i ∷ ackedRun noted ∷ []) block (f passed)) (answers (0 ∷ 0 ∷ i ∷ []) block M))
+          (At i (pick y (Acknowledged p) Ignored)) (now z)
       sides true c =
-          record { numbers = ap (λ (k : ℕ). 0 ∷ 1 ∷ k ∷ []) (sym (counts c .0)); out = refl; stands = counts c .1 }
+          record { numbers = ap (λ (k : ℕ). 0 ∷ 1 ∷ i ∷ k ∷ []) (sym (counts c .0)); out = refl; stands = counts c .1 }
       sides false c = rw (stays c) same
 
-  takes-in : (z : State) → e .state ≡ z → Takes t (acking M block i E s (stateFor L z)) (ackAnswer e z s) (now z)
+  takes-in : (z : State) → e .state ≡ z → Takes t (acking M block i E s (stateFor L z)) (At i (ackAnswer e z s)) (now z)
   unfolding acking ackAnswer ackNode ackBook
   takes-in Closed q = same
   takes-in (Enabled timer₀ sent) q = sides (sent && eqb s 0) refl
     where
       sides : (z : Bool) → (sent && eqb s 0) ≡ z
-          → Takes t (acking M block i E s (Enabled (L timer₀) sent)) (ackAnswer e (Enabled timer₀ sent) s) (now (Enabled timer₀ sent))
+          → Takes t (acking M block i E s (Enabled (L timer₀) sent)) (At i (ackAnswer e (Enabled timer₀ sent) s)) (now (Enabled timer₀ sent))
       sides true c = rw c (record { numbers = refl; out = refl; stands = rw c at (opened-stands timer₀ sent q c) })
       sides false c = rw c same
   takes-in Open q =
@@ -517,6 +518,6 @@ module _ (t : List ℕ) (n : Memory) (l : Lists) (g : Good t (n .node) (n .book)
       counts-as (Failing m) (λ E. turned i (stated (Failing (running (E .numbers))) E) M)
       (stated-at g li true kind (Failing m) q .sending) (λ c. rw c) (λ c. failing-counts c m q)
 
-  pub ack-takes : Takes t (acking M block i E s (E .state)) (ackAnswer e (e .state) s) (ackAfter x i e (e .state) s)
+  pub ack-takes : Takes t (acking M block i E s (E .state)) (At i (ackAnswer e (e .state) s)) (ackAfter x i e (e .state) s)
   unfolding endFor
   ack-takes = takes-in (e .state) refl

@@ -162,16 +162,16 @@ module _ (t : List ℕ) (n : Memory) (l : Lists) (g : Good t (n .node) (n .book)
     e = endOf (n .node) i
 
     abbrev TakesAs : FrameType → Type 0
-    TakesAs q = Takes t (taken M block i (endAt n i) q (h .seq .0) p) (takenInAnswer x i e q (h .seq .0) p) (takenInAfter x i e q (h .seq .0) p)
+    TakesAs q = Takes t (taken M block i (endAt n i) q (h .seq .0) p) (arrived.At i (takenInAnswer x i e q (h .seq .0) p)) (takenInAfter x i e q (h .seq .0) p)
 
     took : (q : FrameType) → isSends (e .entry .kind) ≡ forSender q → (carries q ≡ true → e .state ≡ Open)
         → (carries q ≡ true → length p ≤ e .entry .largest) → (carries q ≡ true → 1 ≤ length p)
-        → (answered q ≡ true → waitingOf (n .node) < 32) → TakesAs q
+        → (answered q ≡ true → waitingOf (n .node) < 32) → (carries q ≡ true → memory.blockRoom e ≤ length block) → TakesAs q
     unfolding taken takenInAnswer takenInAfter
-    took type.Data k o m s f = data-takes t n l g room i li k block (o refl) (h .seq .0) hs p (s refl) (m refl) (f refl)
-    took type.Acknowledge k o m s f = ack-takes t n l g room i li k (h .seq .0) hs block
-    took type.Reset k o m s f = reset-takes t n l g room i li k block (f refl) (h .seq .0) p
-    took type.Urgent k o m s f = urgent-takes t n l g room i li k block p
+    took type.Data k o m s f r = data-takes t n l g room i li k block (o refl) (h .seq .0) hs p (s refl) (m refl) (f refl) (r refl)
+    took type.Acknowledge k o m s f r = ack-takes t n l g room i li k (h .seq .0) hs block
+    took type.Reset k o m s f r = reset-takes t n l g room i li k block (f refl) (h .seq .0) p
+    took type.Urgent k o m s f r = urgent-takes t n l g room i li k block p (m refl) (r refl)
 
     waiting-is : length (M .waiting acks) ≡ waitingOf (n .node)
     unfolding waitingFor
@@ -190,6 +190,7 @@ module _ (t : List ℕ) (n : Memory) (l : Lists) (g : Good t (n .node) (n .book)
         (λ d. rw size (ltb-false _ _ (and-false (carries (h .kind)) _ (c .1 .1 .1 .0) d)))
         some
         (λ d. leb-false 32 (waitingOf (n .node)) (and-false (answered (h .kind)) _ (c .1 .1 .1 .1 .0) d))
+        (λ d. ltb-false _ _ (and-false (carries (h .kind)) _ (c .1 .1 .1 .1 .1 .1 .0) d))
 
     at-entry : Takes t (judged (verdict (machine.entryTests M (endAt n i) (h .kind) (h .length) (length block))) block M
         (taken M block i (endAt n i) (h .kind) (h .seq .0) p))

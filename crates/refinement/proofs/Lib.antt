@@ -18,6 +18,7 @@ pub mod TickStands
 pub mod TickQuiet
 pub mod TickAllStands
 pub mod Refining
+pub mod Relending
 pub mod Sounding
 pub mod OneMachine
 pub mod NewNodes

@@ -1,12 +1,12 @@
 -- A Reset, Data and an Urgent taken in are the machine's. Assumes nothing.
-use Prim.Native.Nat.{ℕ, suc, _+_, _*_, _/_, _%_, _≤_, _<_}
+use Prim.Native.Nat.{ℕ, zero, suc, _+_, _*_, _/_, _%_, _≤_, _<_}
 use mathlib.Core.Path.{_≡_, refl, sym, ap, subst, _∙_}
 use mathlib.Core.Logic.{_≢_}
 use mathlib.Core.Bool.{Bool, true, false}
 use mathlib.Core.Option.{Option, some}
 use mathlib.Core.List.{List, [], _∷_, _++_, map, map-append}
 use native.Mathlib.Omega.{arith}
-use lib.ListN.{length, set}
+use lib.ListN.{length, set, getElem?, length-set}
 use lib.Seq.{sets}
 use borrow.Author.Tests.{ltb-true}
 use Rattle.units.specs.Refusals.{pick}
@@ -20,7 +20,9 @@ use Rattle.window.proofs.Passing.{pass-run, run-le}
 use Rattle.window.proofs.WindowLaw.{distance-back}
 use Rattle.window.proofs.Holding.{held-below}
 use Rattle.table.specs.Areas.{slotsOf, storeOf}
-use Rattle.table.specs.Layout.{entryOf}
+use Rattle.table.specs.Layout.{countOf, entryOf}
+use Rattle.table.specs.declared.Entry.{Entry}
+use Rattle.table.proofs.Good.{good-entry}
 use Rattle.frame.specs.declared.FrameType.the-variants as type
 use Rattle.end_points.specs.Ends.{endOf}
 use Rattle.end_points.specs.Heads.{countIn}
@@ -31,12 +33,14 @@ use Rattle.end_points.specs.Lent.{Lent}
 use Rattle.end_points.specs.declared.State.{State}
 use Rattle.end_points.specs.declared.State.the-variants.{Open}
 use Rattle.end_points.specs.declared.EndPoint.{EndPoint}
-use Rattle.end_points.specs.declared.answers.Arrived.the-variants as arrived
+use Rattle.end_points.specs.declared.answers.Was.the-variants as was
+use Rattle.end_points.specs.declared.answers.Arrived.the-variants.{At}
 use Rattle.slots.specs.Slots.{slotFor, cell, past}
-use Rattle.blocks.specs.Blocks.{blockOf}
+use Rattle.blocks.specs.Blocks.{blockOf, takes}
 use Rattle.arrive_data.specs.Receiving as memory
 use Rattle.arrive_data.specs.Receiving.{acknowledged, resetAnswer, resetNode, resetAfter, withWindow, putStore, putBook}
 use Rattle.arrive_data.specs.Receiving.{delivered, given, dataAnswer, dataAfter, urgentAnswer, urgentAfter}
+use Rattle.call_arrive.specs.Arriving.{blockRoom}
 use Rattle.good.specs.Good.{Lists, Lines, Silent, Good, mine}
 use Rattle.good.specs.Calls.{Memory, lent, kept}
 use Rattle.good.proofs.Known.{is-new, receiver-silent, silent-nil}
@@ -46,19 +50,22 @@ use Rattle.good.proofs.Turns.{turnedTo, saved-acks, ring-of, push-end}
 use Rattle.good.proofs.AckRuns.{Passes, passes}
 use Rattle.good.proofs.ReceiveKeeps.{reset-acks, reset-end, reset-keeps, length-own, length-other, data-end}
 use Rattle.good.proofs.ReceiveKeeps.{data-acks, data-puts, data-keeps}
-use Rattle.good.proofs.Stores.{slot-low}
+use Rattle.good.proofs.Stores.{end-entry, slot-low}
 use Rattle.good.proofs.Payloads.{payload-apart, r-filled, Stored, unaltered, put}
 use Rattle.machine.specs.Machine as machine
 use Rattle.machine.specs.Machine.{End, Sort, acks, Machine, Outcome, listed, anew, turned, waits, silent, heldRun}
 use Rattle.machine.specs.Machine.{delivering, handing-on, receiving, taken}
 use Rattle.refinement.specs.Standing.{readAt, payloadFor, endFor, endAt, ackItem, waitingFor, standsFor, Stands}
-use Rattle.machine.proofs.Listed.{length-listed}
+use Rattle.machine.proofs.Listed.{length-listed, elem-listed}
+use Rattle.machine.proofs.Entries.{not-none, elem-in}
+use Rattle.machine.proofs.Blocks.{block-fits, run-fits, put-short}
 use Rattle.refinement.proofs.Elsewhere.{no-urgent, none-taken, put-read, Leaves, leaves, end-at, still, turned-same, turned-stands}
 use Rattle.refinement.proofs.Waiting.{silent-steady, waits-only, lists-are, not-map, silent-then}
 use Rattle.refinement.proofs.Following.{low-at, stated-at, begun-end, size-is}
 use Rattle.refinement.proofs.Passing.{start-past}
 use Rattle.refinement.proofs.Places.{count-is, new-is, payloads-listed, delivered-is, places-then}
 use Rattle.refinement.proofs.AckStands.{Takes}
+use Rattle.refinement.proofs.Sounding.{sound-at}
 
 -- an acknowledgement of s by entry i
 ack-item : (i s : ℕ) → i < 16 → s < 256 → ackItem (i * 256 + s) ≡ record { entry = i; number = s }
@@ -91,11 +98,36 @@ module _ (t : List ℕ) (n : Memory) (l : Lists) (g : Good t (n .node) (n .book)
   quiet : Silent l i []
   quiet = receiver-silent (n .book) l i e (e .state) (stated-at g li false kind (e .state) refl)
 
+  -- ---- room in the block
+
+  -- what fits the room that the entry asks for is written whole
+  takes-all : (ps : List (List ℕ)) → blockRoom e ≤ length block → length (blockOf ps) ≤ machine.blockRoom (e .entry)
+      → takes block ps ≡ length (blockOf ps)
+  takes-all ps roomy fits =
+      let same : blockRoom e ≡ machine.blockRoom (e .entry) = rw (size-is g li) in
+      omega (arith, roomy, fits, same)
+
+  -- a window has a number at least
+  some-size : 1 ≤ e .entry .window
+  some-size =
+      rw (end-entry t (n .node) (n .book) l g i li) (good-entry t (g .table) i (omega (arith, g .tabled .count)) .window-low)
+
+  only : (p : List ℕ) → length p ≤ e .entry .largest → (k : ℕ) (q : List ℕ) → getElem? (p ∷ []) k ≡ some q
+      → length q ≤ e .entry .largest
+  only p most zero q h = let z : p ≡ q = cc in rw (← z) most
+  only p most (suc k) q h = not-none h
+
   -- ---- an Urgent
 
-  pub urgent-takes : (p : List ℕ) → Takes t (delivering arrived.Urgent (p ∷ []) block M) (urgentAnswer p) (urgentAfter x p)
+  pub urgent-takes : (p : List ℕ) → length p ≤ e .entry .largest → blockRoom e ≤ length block
+      → Takes t (delivering i was.Urgent (p ∷ []) block M) (At i (urgentAnswer block p)) (urgentAfter x p)
   unfolding urgentAnswer urgentAfter
-  urgent-takes p = record { numbers = refl; out = refl; stands = still g room }
+  urgent-takes p most roomy =
+      record {
+        numbers = rw (takes-all (p ∷ []) roomy (block-fits (e .entry) (p ∷ []) some-size (only p most)));
+        out = refl;
+        stands = still g room;
+      }
 
   -- ---- a Reset
 
@@ -131,11 +163,11 @@ module _ (t : List ℕ) (n : Memory) (l : Lists) (g : Good t (n .node) (n .book)
         (ap (map ackItem) acks-then ∙ map-append ackItem (notOf i (acksIn (n .node))) ((i * 256 + 0) ∷ [])
         ∙ rw (not-map i (acksIn (n .node)), ack-item i 0 low (omega arith)))
 
-    pub reset-takes : (s : ℕ) (p : List ℕ) → Takes t (taken M block i (endAt n i) type.Reset s p) (resetAnswer e) (resetAfter x i e)
+    pub reset-takes : (s : ℕ) (p : List ℕ) → Takes t (taken M block i (endAt n i) type.Reset s p) (At i (resetAnswer e)) (resetAfter x i e)
     unfolding taken machine.resetting resetAnswer resetAfter
     reset-takes s p =
         record {
-          numbers = ap (λ (k : ℕ). 0 ∷ 3 ∷ k ∷ []) (count-is (readAt n) (n .store) (n .book) i e kind window (size-is g li));
+          numbers = ap (λ (k : ℕ). 0 ∷ 3 ∷ i ∷ k ∷ []) (count-is (readAt n) (n .store) (n .book) i e kind window (size-is g li));
           out = refl;
           stands = turned-stands g room li left E-is waiting;
         }
@@ -143,7 +175,7 @@ module _ (t : List ℕ) (n : Memory) (l : Lists) (g : Good t (n .node) (n .book)
   -- ---- Data
 
   module _ (o : e .state ≡ Open) (s : ℕ) (hs : s < 256) (p : List ℕ) (some-p : 1 ≤ length p)
-      (most-p : length p ≤ e .entry .largest) (few : waitingOf (n .node) < 32) where
+      (most-p : length p ≤ e .entry .largest) (few : waitingOf (n .node) < 32) (roomy : blockRoom e ≤ length block) where
     abbrev now-d : Lent
     now-d = dataAfter x i e s p
 
@@ -291,26 +323,42 @@ module _ (t : List ℕ) (n : Memory) (l : Lists) (g : Good t (n .node) (n .book)
     abbrev placed : List (Option (List ℕ))
     placed = set (endAt n i .places) at (some p)
 
+    none-fit : length (blockOf []) ≤ machine.blockRoom (e .entry)
+    none-fit = block-fits (e .entry) [] (omega arith) (λ k q h. not-none h)
+
+    -- those that are held have at most P bytes, as the machine is sound
+    placed-fit : length (blockOf (heldRun placed)) ≤ machine.blockRoom (e .entry)
+    unfolding endFor
+    placed-fit =
+        let here = elem-listed (countOf t) (endAt n) i (omega (arith, g .tabled .count)) in
+        let b = sound-at t n l g room .bounded i (endAt n i) here in
+        let entry = b .entry in
+        run-fits (e .entry) placed (length-set (endAt n i .places) at (some p) ∙ b .places ∙ ap (λ (y : Entry). y .window) (sym entry))
+        (put-short (endAt n i .places) (e .entry .largest) at p
+        (λ k q h. rw entry (b .held q (elem-in (endAt n i .places) k h) .most)) most-p)
+
     abbrev received : Bool → Outcome
     received z =
         pick z
-        (delivering arrived.Data (heldRun placed) block
+        (delivering i was.Data (heldRun placed) block
         (waits acks i s (turned i (handing-on (length (heldRun placed)) placed (endAt n i)) M)))
-        (delivering arrived.Data [] block (waits acks i s M))
+        (delivering i was.Data [] block (waits acks i s M))
 
     receiving-as : receiving M block i (endAt n i) s p ≡ received (isNew (acceptOf w s .found))
     unfolding receiving endFor
     receiving-as = ap received (new-is (readAt n) (n .store) (n .book) i e kind window (size-is g li) s)
 
-    pub data-takes : Takes t (receiving M block i (endAt n i) s p) (dataAnswer x i e s p) (dataAfter x i e s p)
+    pub data-takes : Takes t (receiving M block i (endAt n i) s p) (At i (dataAnswer x i e s p)) (dataAfter x i e s p)
     unfolding dataAnswer given
     data-takes = rw receiving-as (sides (isNew (acceptOf w s .found)) refl)
       where
-        sides : (z : Bool) → isNew (acceptOf w s .found) ≡ z → Takes t (received z) (dataAnswer x i e s p) (dataAfter x i e s p)
+        sides : (z : Bool) → isNew (acceptOf w s .found) ≡ z → Takes t (received z) (At i (dataAnswer x i e s p)) (dataAfter x i e s p)
         sides true z =
             record {
-              numbers = rw z (ap (λ (ds : List (List ℕ)). 0 ∷ 4 ∷ length (blockOf ds) ∷ []) (sym (given-is z)));
+              numbers =
+                  rw z (ap (λ (ds : List (List ℕ)). 0 ∷ 4 ∷ i ∷ takes block ds ∷ []) (sym (given-is z))
+                  ∙ ap (λ (k : ℕ). 0 ∷ 4 ∷ i ∷ k ∷ []) (takes-all (heldRun placed) roomy placed-fit));
               out = ap (λ (y : Lent). y .out) (now-new z) ∙ ap (λ (ds : List (List ℕ)). sets block 0 (blockOf ds)) (sym (given-is z));
               stands = new-stands z;
             }
-        sides false z = record { numbers = rw z; out = ap (λ (y : Lent). y .out) (now-old z); stands = old-stands z }
+        sides false z = record { numbers = rw (z, takes-all [] roomy none-fit); out = ap (λ (y : Lent). y .out) (now-old z); stands = old-stands z }

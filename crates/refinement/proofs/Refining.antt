@@ -1,15 +1,27 @@
 -- The whole theorem: every call does what the machine does, and so every node that setup and calls can give stands for
 -- a machine. Assumes nothing.
-use Prim.Native.Nat.{ℕ, _≤_}
-use mathlib.Core.Path.{refl, subst}
-use mathlib.Core.List.{List}
+use Prim.Native.Nat.{ℕ, _≤_, _<_}
+use mathlib.Core.Path.{_≡_, refl, ap, subst}
+use mathlib.Core.List.{List, [], _∷_}
+use native.Mathlib.Decide.{decLt}
+use native.Mathlib.Omega.{arith}
 use lib.ListN.{length}
+use borrow.Author.Tests.{le-leb, lt-leb}
 use Rattle.table.specs.Areas.{storeOf}
+use Rattle.table.specs.Layout.{countOf}
+use Rattle.end_points.specs.Answers.{stateNumber, statedOf}
+use Rattle.end_points.specs.Ends.{endOf}
+use Rattle.end_points.specs.Heads.{countIn}
+use Rattle.end_points.specs.declared.State.{State}
+use Rattle.end_points.specs.declared.State.the-variants.{Closed, Enabled, Open, Failing}
+use Rattle.call_open.specs.Opening.{stateAnswer}
 use Rattle.good.specs.Good.{Lists, Good}
 use Rattle.good.specs.Calls.{Memory, relent, at-setup, by-call, by-store}
 use Rattle.machine.specs.Calls.{Call, Fed, opens, closes, counts, sends, urges, arrives, hands-out, ticks}
-use Rattle.machine.specs.Machine.{Machine, begun, step}
-use Rattle.refinement.specs.Standing.{standsFor, Stands, Follows, Begins, Refines, ReachStands}
+use Rattle.machine.specs.Machine.{Machine, begun, stating, step}
+use Rattle.machine.proofs.Listed.{elem-listed, elem-none}
+use Rattle.refinement.specs.Standing.{Reading, readAt, stateFor, endFor, endAt}
+use Rattle.refinement.specs.Standing.{standsFor, Stands, Follows, Begins, Refines, StatesAnswer, ReachStands}
 use Rattle.refinement.proofs.SetupStands.{begins}
 use Rattle.refinement.proofs.OpenStands.{open-follows, close-follows, counts-follow}
 use Rattle.refinement.proofs.SendStands.{send-follows, urgent-follows}
@@ -32,6 +44,26 @@ follows-at t n l g room ticks f = tick-follows t n l g room
 pub refines : Refines
 unfolding Refines
 refines t n m s c f = subst (λ (m : Machine). Follows t n m c) (s .is) (follows-at t n (s .lists) (s .good) (s .room) c f)
+
+pub states-answer : StatesAnswer
+unfolding StatesAnswer stateAnswer stating endFor
+states-answer t n m S i = subst (λ (m : Machine). statedOf (stateAnswer (n .node) i) ≡ stating m i) (S .is) (sides (decLt i (countIn (n .node))))
+  where
+    count : countIn (n .node) ≡ countOf t
+    count = S .good .tabled .count
+
+    same : (L : Reading) (s : State) → stateNumber s ≡ stateNumber (stateFor L s)
+    same L Closed = refl
+    same L (Enabled timer sent) = refl
+    same L Open = refl
+    same L (Failing timers) = refl
+
+    sides : Dec (i < countIn (n .node)) → statedOf (stateAnswer (n .node) i) ≡ stating (standsFor t n (S .lists)) i
+    sides (yes h) =
+        rw (lt-leb (countIn (n .node)) i h, elem-listed (countOf t) (endAt n) i (omega (arith, count)))
+        (ap (λ (k : ℕ). 0 ∷ k ∷ []) (same (readAt n) (endOf (n .node) i .state)))
+    sides (no h) =
+        rw (le-leb (countIn (n .node)) i (omega arith), elem-none (countOf t) (endAt n) i (omega (arith, count)))
 
 -- with another store the memory stands for the machine that has the payloads found there
 pub restored : (t : List ℕ) (n : Memory) (m : Machine) (S : Stands t n m) (s : List ℕ) → storeOf t ≤ length s

@@ -338,7 +338,7 @@ module _ (t : List ℕ) (n : Memory) (l : Lists) (g : Good t (n .node) (n .book)
       subst (λ (k : ℕ). k ≤ 32)
       (sym (length-map (acksIn (n .node)) ackItem ∙ from-length (n .node) (placeOf (n .node)) (waitingOf (n .node)))) (g .acks)
 
-  sound-at : Sound t M
+  pub sound-at : Sound t M
   sound-at =
       record {
         table = g .table;

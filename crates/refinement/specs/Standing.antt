@@ -5,8 +5,8 @@ use Prim.Native.Nat.{ℕ, _/_, _%_, _≤_}
 use mathlib.Core.Path.{_≡_}
 use mathlib.Core.Bool.{not, _&&_}
 use mathlib.Core.Option.{Option, none, some}
-use mathlib.Core.List.{List, map}
-use lib.ListN.{length}
+use mathlib.Core.List.{List, [], map, List·Memᴰ}
+use lib.ListN.{length, take, getElem?}
 use lib.Dec.{eqb, ltb}
 use Rattle.units.specs.Refusals.{pick, verdict}
 use Rattle.memory.specs.Layout as layout
@@ -22,17 +22,19 @@ use Rattle.end_points.specs.declared.State.the-variants.{Closed, Enabled, Open,
 use Rattle.end_points.specs.declared.EndPoint.{EndPoint}
 use Rattle.timing.specs.Timing.{clockIn, leftOf}
 use Rattle.slots.specs.Slots.{cell, past, numberIn, timerIn, retriesIn}
+use Rattle.end_points.specs.Answers.{statedOf}
 use Rattle.call_open.specs.Setup.{setupAnswer}
+use Rattle.call_open.specs.Opening.{stateAnswer}
 use Rattle.blocks.specs.Payloads.{payloadAt}
 use Rattle.call_hand_out.specs.Handing.{urgentPayload}
 use Rattle.memory.specs.Layout.{idSlot}
 use Rattle.good.specs.Good.{Lists, Good, ownerOf}
-use Rattle.good.specs.Calls.{Memory, answer, after, SetUp, Reach}
+use Rattle.good.specs.Calls.{Memory, answer, after, SetUp, relent, Reach}
 use Rattle.good.specs.NewNode.{newAt}
 use Rattle.machine.specs.Calls.{Call, Fed}
 use Rattle.machine.specs.Sound.{Sound}
 use Rattle.machine.specs.Machine.{Number, End, Item, Sort, acks, resets, urgents, resends, datas}
-use Rattle.machine.specs.Machine.{Machine, listed, begun, blank, setupTests, step}
+use Rattle.machine.specs.Machine.{Machine, lending, listed, begun, blank, setupTests, stating, step}
 
 -- ---- an end point, of a store and a book, as entry i
 
@@ -142,6 +144,34 @@ pub record Follows (t : List ℕ) (n : Memory) (m : Machine) (c : Call) : Type 0
 -- on what stands for a machine every call does what the machine does [O1, O2]
 unfoldable pub Refines : Type 0
 Refines = (t : List ℕ) (n : Memory) (m : Machine) → Stands t n m → (c : Call) → Fed c → Follows t n m c
+
+-- an entry's state is the machine's [E1, R45]
+unfoldable pub StatesAnswer : Type 0
+StatesAnswer = (t : List ℕ) (n : Memory) (m : Machine) → Stands t n m → (i : ℕ)
+    → statedOf (stateAnswer (n .node) i) ≡ stating m i
+
+-- ---- another store: it comes with the call
+
+-- with another store, long enough and with the same bytes where the table's entries lie, a memory stands for the same
+-- machine, lent that many bytes [P11, R42]
+unfoldable pub Relends : Type 0
+Relends = (t : List ℕ) (n : Memory) (m : Machine) → Stands t n m
+    → (s : List ℕ) → storeOf t ≤ length s → take (storeOf t) s ≡ take (storeOf t) (n .store)
+    → Stands t (relent s n) (lending (length s) m)
+
+-- an end point has no payload: none taken, none held, no Urgent [E8]
+pub record Empty (e : End) : Type 0 where
+  pub numbers : e .numbers ≡ []
+  pub places : (p : List ℕ) → List·Memᴰ (some p) (e .places) → ⊥
+  pub urgent : e .urgent ≡ none
+
+-- where no end point has one, so with a store of any content: outside every run a host may lend another [P11]
+unfoldable pub RelendsAny : Type 0
+RelendsAny = (t : List ℕ) (n : Memory) (m : Machine) → Stands t n m
+    → ((i : ℕ) (e : End) → getElem? (m .ends) i ≡ some e → Empty e) → (s : List ℕ) → storeOf t ≤ length s
+    → Stands t (relent s n) (lending (length s) m)
+
+-- ---- every node
 
 -- so every node that setup and calls can give stands for a machine, and for no other [O2]
 unfoldable pub ReachStands : Type 0

@@ -1,6 +1,6 @@
 -- `arrive_data::take_urgent` meets its contract. Assumes nothing.
 use mathlib.Core.Path.{ap}
-use Rattle.end_points.specs.declared.answers.Arrived.the-variants as arrived
+use Rattle.end_points.specs.declared.answers.Was.the-variants as was
 use Rattle.arrive_data.specs.Receiving.{urgentAnswer}
 use borrow.Author.Needs.{needs}
 use Rattle.arrive_data.proofs.take_urgent.Statement.{statement}
@@ -14,7 +14,7 @@ same-length c = search needs
 
 returns : tie.Need-returns
 unfolding urgentAnswer
-returns c = (ap arrived.Urgent (c .before .before .put-one .ensures .0), c .before .before .put-one .ensures .1)
+returns c = (ap was.Urgent (c .before .before .put-one .ensures .0), c .before .before .put-one .ensures .1)
 
 pub take-urgent-spec : {M : Type 1} → statement M
 take-urgent-spec = tie.close (tie.spec put-one-requires same-length returns)

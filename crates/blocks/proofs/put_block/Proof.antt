@@ -65,14 +65,26 @@ put-offset-requires-2 : tie.Need-put-offset-requires-2 Inv-loop μ-loop
 put-offset-requires-2 c κs = omega arith
 
 same-length : tie.Need-same-length Inv-loop μ-loop
-same-length c = c .before .before .put-offset2 .kept .0 ∙ begun-long (c .before .before .before .before .before .loop .inv .1) ∙ c .before .before .before .before .before .before .before .before .put16 .kept .0
+same-length c = c .before .before .before .put-offset2 .kept .0 ∙ begun-long (c .before .before .before .before .before .before .loop .inv .1) ∙ c .before .before .before .before .before .before .before .before .before .put16 .kept .0
 
 returns : tie.Need-returns Inv-loop μ-loop
 returns c =
-    let l = c .before .before .before .before .before .loop in
-    let a = c .before .before .before .before .before .before .before .before .before .before .before .before .before .args in
+    let l = c .before .before .before .before .before .before .loop in
+    let a = c .before .before .before .before .before .before .before .before .before .before .before .before .before .before .args in
     let h : l .j ≡ a .k = omega arith in
-    begun-done (now (a .out)) (rw h at (l .inv .1)) (c .before .before .before .before .before .before .before .before .put16 .ensures) (c .before .before .put-offset2 .ensures)
+    let w = begun-done (now (a .out)) (rw h at (l .inv .1)) (c .before .before .before .before .before .before .before .before .before .put16 .ensures) (c .before .before .before .put-offset2 .ensures) in
+    (omega (arith, w .0, same-length c), w .1)
+
+same-length-2 : tie.Need-same-length-2 Inv-loop μ-loop
+same-length-2 c = c .before .before .before .put-offset2 .kept .0 ∙ begun-long (c .before .before .before .before .before .before .loop .inv .1) ∙ c .before .before .before .before .before .before .before .before .before .put16 .kept .0
+
+returns-2 : tie.Need-returns-2 Inv-loop μ-loop
+returns-2 c =
+    let l = c .before .before .before .before .before .before .loop in
+    let a = c .before .before .before .before .before .before .before .before .before .before .before .before .before .before .args in
+    let h : l .j ≡ a .k = omega arith in
+    let w = begun-done (now (a .out)) (rw h at (l .inv .1)) (c .before .before .before .before .before .before .before .before .before .put16 .ensures) (c .before .before .before .put-offset2 .ensures) in
+    (omega (arith, w .0, same-length-2 c), w .1)
 
 pub put-block-spec : {M : Type 1} → statement M
 put-block-spec =
@@ -93,4 +105,6 @@ put-block-spec =
     loop-again
     put-offset-requires-2
     same-length
-    returns)
+    returns
+    same-length-2
+    returns-2)

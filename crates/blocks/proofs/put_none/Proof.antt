@@ -1,5 +1,5 @@
 -- `blocks::put_none` meets its contract. Assumes nothing.
-use mathlib.Core.Path.{refl}
+use native.Mathlib.Omega.{arith}
 use Rattle.units.specs.Bytes.{be16, be32}
 use Rattle.blocks.specs.Blocks.{offsets, joinedUp, blockOf}
 use borrow.Author.Needs.{needs}
@@ -17,7 +17,16 @@ same-length c = search needs
 
 returns : tie.Need-returns
 unfolding blockOf offsets joinedUp be16 be32
-returns c = (refl, rw (c .before .before .put-offset .ensures, c .before .before .before .before .before .before .put16 .ensures))
+returns c =
+    (omega arith, rw (c .before .before .before .put-offset .ensures, c .before .before .before .before .before .before .before .put16 .ensures))
+
+same-length-2 : tie.Need-same-length-2
+same-length-2 c = search needs
+
+returns-2 : tie.Need-returns-2
+unfolding blockOf offsets joinedUp be16 be32
+returns-2 c =
+    (omega arith, rw (c .before .before .before .put-offset .ensures, c .before .before .before .before .before .before .before .put16 .ensures))
 
 pub put-none-spec : {M : Type 1} → statement M
-put-none-spec = tie.close (tie.spec put16-requires put-offset-requires same-length returns)
+put-none-spec = tie.close (tie.spec put16-requires put-offset-requires same-length returns same-length-2 returns-2)

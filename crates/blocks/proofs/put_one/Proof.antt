@@ -1,5 +1,5 @@
 -- `blocks::put_one` meets its contract. Assumes nothing.
-use mathlib.Core.Path.{sym}
+use native.Mathlib.Omega.{arith}
 use denote.Ref.{now}
 use Rattle.blocks.proofs.Appending.{length-one, sets-one}
 use borrow.Author.Needs.{needs}
@@ -26,9 +26,21 @@ same-length c = search needs
 
 returns : tie.Need-returns
 returns c =
-    let a = c .before .before .before .before .before .before .before .before .before .before .before .before .before .before .before .before .before .before .args in (
-      sym (length-one (now (a .payload))),
-      rw (c .before .before .put-all .ensures, c .before .before .before .before .before .before .put-offset2 .ensures, c .before .before .before .before .before .before .before .before .before .before .put-offset .ensures, c .before .before .before .before .before .before .before .before .before .before .before .before .before .before .put16 .ensures) (sets-one (now (a .out)) (now (a .payload))),
+    let put = c .before .before .before in
+    let a = c .before .before .before .before .before .before .before .before .before .before .before .before .before .before .before .before .before .before .before .args in (
+      omega (arith, length-one (now (a .payload))),
+      rw (put .put-all .ensures, put .before .before .before .before .put-offset2 .ensures, put .before .before .before .before .before .before .before .before .put-offset .ensures, put .before .before .before .before .before .before .before .before .before .before .before .before .put16 .ensures) (sets-one (now (a .out)) (now (a .payload))),
+    )
+
+same-length-2 : tie.Need-same-length-2
+same-length-2 c = search needs
+
+returns-2 : tie.Need-returns-2
+returns-2 c =
+    let put = c .before .before .before in
+    let a = c .before .before .before .before .before .before .before .before .before .before .before .before .before .before .before .before .before .before .before .args in (
+      omega (arith, length-one (now (a .payload))),
+      rw (put .put-all .ensures, put .before .before .before .before .put-offset2 .ensures, put .before .before .before .before .before .before .before .before .put-offset .ensures, put .before .before .before .before .before .before .before .before .before .before .before .before .put16 .ensures) (sets-one (now (a .out)) (now (a .payload))),
     )
 
 pub put-one-spec : {M : Type 1} → statement M
@@ -41,4 +53,6 @@ put-one-spec =
     put-offset-requires-2
     put-all-requires
     same-length
-    returns)
+    returns
+    same-length-2
+    returns-2)

@@ -1,5 +1,6 @@
 -- `call_arrive::come` meets its contract. Assumes nothing.
-use mathlib.Core.Path.{sym, _∙_}
+use mathlib.Core.Path.{sym, ap, _∙_}
+use Rattle.end_points.specs.declared.answers.Arrived.the-variants as arrived
 use borrow.Author.Needs.{needs}
 use Rattle.call_arrive.proofs.come.Statement.{statement}
 use Rattle.call_arrive.proofs.come.Tie as tie
@@ -45,7 +46,8 @@ returns-2 c =
     let l = t .before .before .before .before .before in
     let q = sym (l .before .before .before .before .judge .ensures) ∙ l .before .before .enum-told .given .1 in
     let e = l .read-end .ensures in
-    (rw q (rw e at (t .take .ensures .0)), rw q (rw e at (t .take .ensures .1)))
+    let i = l .before .before .before .before .before .before .before .before .before .before .before .args .i in
+    (rw q (ap (arrived.At i) (rw e at (t .take .ensures .0))), rw q (rw e at (t .take .ensures .1)))
 
 pub come-spec : {M : Type 1} → statement M
 come-spec =

@@ -1,7 +1,10 @@
 -- `lines::number` meets its contract. Assumes nothing.
-use mathlib.Core.Path.{_≡_, sym}
+use mathlib.Core.Path.{_≡_, _∙_}
+use native.Mathlib.Omega.{arith}
 use borrow.Author.Needs.{needs}
-use lib.ListN.{length, take}
+use lib.ListN.{take}
+use Rattle.lines.specs.Lines.{decimalOf}
+use Rattle.lines.proofs.Decimals.{spelt}
 use Rattle.lines.proofs.number.Statement.{statement}
 use Rattle.lines.proofs.number.Tie as tie
 
@@ -21,15 +24,12 @@ same-length : tie.Need-same-length
 same-length c = search needs
 
 returns : tie.Need-returns
+unfolding decimalOf
 returns c =
     let d = c .before .before .before .before .before .decimal in
-    let n : length (take (d .result) (d .last .1 .0)) ≡ d .result = sym (d .ensures .0 .1) in
-    record {
-      places = d .result;
-      fewest = d .ensures .1 .0;
-      answer = rw n at (c .before .before .text .ensures .0);
-      stored = rw (← d .ensures .1 .1) (rw n at (c .before .before .text .ensures .1));
-    }
+    let v = c .before .before .before .before .before .before .before .before .args .v in
+    let e : take (d .result) (d .last .1 .0) ≡ decimalOf v = d .ensures .1 .1 ∙ spelt (d .result) v (omega arith) (d .ensures .1 .0) in
+    (rw e at (c .before .before .text .ensures .0), rw e at (c .before .before .text .ensures .1))
 
 pub number-spec : {M : Type 1} → statement M
 number-spec =

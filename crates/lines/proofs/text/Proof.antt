@@ -3,7 +3,8 @@ use native.Mathlib.Omega.{arith}
 use borrow.Author.Needs.{needs}
 use denote.Ref.{now}
 use lib.ListN.{length}
-use Rattle.lines.proofs.Places.{place-le}
+use Rattle.lines.specs.Lines.{appended}
+use Rattle.lines.proofs.Pages.{place-le}
 use Rattle.lines.proofs.text.Statement.{statement}
 use Rattle.lines.proofs.text.Tie as tie
 
@@ -16,14 +17,14 @@ put-all-requires c κs = search needs
 add-result : tie.Need-add-result
 add-result c =
     let a = c .before .before .before .before .before .before .before .before .args in
-    omega (arith, c .before .before .before .before .place .ensures, place-le (length (now (a .buffer))) (a .at) (length (now (a .bytes))), c .before .before .before .before .before .before .before .before .good)
+    omega (arith, c .before .before .before .before .place .ensures, place-le (length (now (a .out))) (a .at) (length (now (a .bytes))), c .before .before .before .before .before .before .before .before .good)
 
 same-length : tie.Need-same-length
 same-length c = search needs
 
 returns : tie.Need-returns
+unfolding appended
 returns c =
-    let a = c .before .before .before .before .before .before .before .before .args in
     let e = c .before .before .before .before .place .ensures in
     (rw e, rw (← e) (c .before .before .put-all .ensures))
 

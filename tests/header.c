@@ -1,0 +1,165 @@
+/* include/shelugvar.h by itself, as C99, C11, C++11 and C++17 (tests/header): it may be included twice; each of its
+ * tags may be a typedef's name too, which it cannot where a function has that name; every function with a length takes
+ * null where that is 0, and answers what it has to; the macros give the paper's bytes and lengths.
+ * Prints what is wrong and ends with status 1 where anything is. */
+#include "shelugvar.h"
+#include "shelugvar.h"
+
+#include <stdio.h>
+#include <string.h>
+
+typedef struct shelugvar_node shelugvar_node;
+typedef struct shelugvar_sender_counts shelugvar_sender_counts;
+typedef struct shelugvar_arrived shelugvar_arrived;
+typedef struct shelugvar_fields shelugvar_fields;
+typedef enum shelugvar_frame_type shelugvar_frame_type;
+typedef enum shelugvar_kind shelugvar_kind;
+typedef enum shelugvar_state shelugvar_state;
+typedef enum shelugvar_refusal shelugvar_refusal;
+typedef enum shelugvar_what shelugvar_what;
+typedef enum shelugvar_window_answer shelugvar_window_answer;
+
+static int wrong;
+
+static void must(int holds, const char *what)
+{
+    if (holds)
+        return;
+    printf("wrong: %s\n", what);
+    wrong = 1;
+}
+
+static void refuses(shelugvar_refusal got, shelugvar_refusal wanted, const char *what)
+{
+    if (got == wanted)
+        return;
+    printf("wrong: %s answers %d, not %d\n", what, got, wanted);
+    wrong = 1;
+}
+
+/* The table of the paper's worked example, whose store is 5,376 bytes. */
+static void table_bytes(void)
+{
+    static const uint8_t paper[] = {0x00, 0x02, 0x00, 0x08, 0x40, 0xEE, 0x00, 0x00, 0x00, 0x41, 0x07,
+                                    0x03, 0x00, 0x10, 0x01, 0x00, 0x00, 0x64, 0x00, 0x00, 0x01, 0x41,
+                                    0x09, 0x00, 0x00, 0x00, 0x00, 0x40, 0x00, 0x00, 0x00, 0x00};
+    size_t need = 7;
+    const uint8_t remote = paper[9]; /* a variable may stand in a table too */
+    const uint8_t table[] = {SHELUGVAR_HEAD(2, 64, SHELUGVAR_PROTOCOL_ID), SHELUGVAR_SENDER(remote, 7, 3, 16, 256, 100),
+                             SHELUGVAR_RECEIVER(remote, 9, 0, 64)};
+
+    must(sizeof table == sizeof paper && memcmp(table, paper, sizeof paper) == 0, "the table's bytes");
+    must(SHELUGVAR_SENDER_STORE(16, 256) + SHELUGVAR_RECEIVER_STORE(SHELUGVAR_WINDOW_DEFAULT, 64) == 5376,
+         "the table's store");
+    refuses(shelugvar_node_store_need(table, sizeof table, &need), SHELUGVAR_DONE, "the need of a table");
+    must(need == 5376, "the need of a table");
+}
+
+static void lengths(void)
+{
+    must(SHELUGVAR_TABLE_HEAD + SHELUGVAR_ENTRIES_MOST * SHELUGVAR_TABLE_ENTRY == SHELUGVAR_TABLE_MOST, "table");
+    must(SHELUGVAR_BLOCK_ROOM(SHELUGVAR_WINDOW_MOST, SHELUGVAR_STORE_MOST / SHELUGVAR_WINDOW_MOST) ==
+             SHELUGVAR_BLOCK_MOST,
+         "block");
+    must(SHELUGVAR_FRAME_ROOM(SHELUGVAR_PAYLOAD_MOST) == SHELUGVAR_FRAME_MOST, "frame");
+    must(SHELUGVAR_FRAME_ROOM(SHELUGVAR_PROTOCOL_PAYLOAD_MOST) == SHELUGVAR_PROTOCOL_FRAME_MOST, "the wire's frame");
+    must(SHELUGVAR_RUN_MOST == UINT32_MAX, "a run's payloads");
+}
+
+static void version(void)
+{
+    char text[32];
+
+    snprintf(text, sizeof text, "%d.%d.%d", SHELUGVAR_VERSION_NUMBER >> 16, SHELUGVAR_VERSION_NUMBER >> 8 & 255,
+             SHELUGVAR_VERSION_NUMBER & 255);
+    must(strcmp(text, SHELUGVAR_VERSION) == 0, "the version's number");
+    must(shelugvar_version() == SHELUGVAR_VERSION_NUMBER, "the archive's version");
+}
+
+/* Null pointers at a new node, to which no store is too short. */
+static void null_at_a_new_node(void)
+{
+    static const uint8_t no_entries[] = {SHELUGVAR_HEAD(0, 64, SHELUGVAR_PROTOCOL_ID)};
+    static shelugvar_node n;
+    shelugvar_arrived arrived = {7, 7, 7};
+    shelugvar_sender_counts counts = {7, 7};
+    shelugvar_state state = SHELUGVAR_FAILING;
+    size_t length = 7, need = 7;
+
+    refuses(shelugvar_node_store_need(NULL, 0, &need), SHELUGVAR_BAD_TABLE, "the need of no table");
+    refuses(shelugvar_node_setup(&n, NULL, 0, NULL, 0), SHELUGVAR_BAD_TABLE, "setup, no table");
+    refuses(shelugvar_node_setup(&n, NULL, 0, no_entries, sizeof no_entries), SHELUGVAR_DONE, "setup, no store");
+    refuses(shelugvar_node_open(&n, 0), SHELUGVAR_NO_ENTRY, "open");
+    refuses(shelugvar_node_close(&n, 0), SHELUGVAR_NO_ENTRY, "close");
+    refuses(shelugvar_node_counts(&n, 0, &counts), SHELUGVAR_NO_ENTRY, "counts");
+    refuses(shelugvar_node_entry_state(&n, 0, &state), SHELUGVAR_NO_ENTRY, "an entry's state");
+    refuses(shelugvar_node_send(&n, NULL, 0, 0, NULL, 0), SHELUGVAR_NO_ENTRY, "send");
+    refuses(shelugvar_node_urgent(&n, NULL, 0, 0, NULL, 0), SHELUGVAR_NO_ENTRY, "urgent");
+    refuses(shelugvar_node_arrival(&n, NULL, 0, NULL, 0, NULL, 0, &arrived), SHELUGVAR_BAD_FRAME, "arrival");
+    must(arrived.what == 7 && arrived.entry == 7 && arrived.value == 7 && counts.accepted == 7 && need == 7 &&
+             state == SHELUGVAR_FAILING,
+         "a refused call alters nothing");
+    refuses(shelugvar_node_hand_out(&n, NULL, 0, NULL, 0, &length), SHELUGVAR_DONE, "hand out");
+    must(length == 0, "nothing waits");
+    must(shelugvar_node_tick(&n) == 0, "tick");
+}
+
+/* Null pointers at a sender that is Open, where a store, a frame buffer or a payload is asked for. */
+static void null_at_a_sender(void)
+{
+    static const uint8_t table[] = {SHELUGVAR_HEAD(1, 64, SHELUGVAR_PROTOCOL_ID),
+                                    SHELUGVAR_SENDER(65, 7, 3, 1, 8, 100)};
+    static const shelugvar_fields ack = {64, SHELUGVAR_PROTOCOL_ID, 65, SHELUGVAR_ACKNOWLEDGE, 0, 7, 0};
+    static shelugvar_node n;
+    uint8_t store[SHELUGVAR_SENDER_STORE(1, 8)], frame[SHELUGVAR_FRAME_ROOM(8)];
+    const uint8_t payload[] = {1};
+    shelugvar_arrived arrived = {7, 7, 7};
+    shelugvar_state state = SHELUGVAR_FAILING;
+    size_t length = 0;
+
+    refuses(shelugvar_node_setup(&n, NULL, 0, table, sizeof table), SHELUGVAR_TOO_SHORT, "setup, a store too short");
+    refuses(shelugvar_node_setup(&n, store, sizeof store, table, sizeof table), SHELUGVAR_DONE, "setup");
+    refuses(shelugvar_node_open(&n, 0), SHELUGVAR_DONE, "open");
+    refuses(shelugvar_node_hand_out(&n, store, sizeof store, NULL, 0, &length), SHELUGVAR_TOO_SHORT,
+            "hand out, no frame buffer");
+    refuses(shelugvar_node_hand_out(&n, NULL, 0, frame, sizeof frame, &length), SHELUGVAR_TOO_SHORT,
+            "hand out, no store");
+    refuses(shelugvar_node_hand_out(&n, store, sizeof store, frame, sizeof frame, &length), SHELUGVAR_DONE, "a Reset");
+    refuses(shelugvar_write_frame(frame, sizeof frame, &ack, NULL, 0), SHELUGVAR_DONE, "write, no payload");
+    refuses(shelugvar_node_arrival(&n, NULL, 0, NULL, 0, frame, SHELUGVAR_FRAME_OVERHEAD, &arrived),
+            SHELUGVAR_TOO_SHORT, "arrival, no store");
+    refuses(shelugvar_node_arrival(&n, store, sizeof store, NULL, 0, frame, SHELUGVAR_FRAME_OVERHEAD, &arrived),
+            SHELUGVAR_DONE, "arrival, no block");
+    must(shelugvar_arrived_what(&arrived) == SHELUGVAR_WAS_OPENED && arrived.entry == 0, "the sender's arrival");
+    refuses(shelugvar_node_entry_state(&n, 0, &state), SHELUGVAR_DONE, "the sender's state");
+    must(state == SHELUGVAR_OPEN, "the sender is Open");
+    refuses(shelugvar_node_send(&n, store, sizeof store, 0, NULL, 0), SHELUGVAR_PAYLOAD_LENGTH, "send, no payload");
+    refuses(shelugvar_node_send(&n, NULL, 0, 0, payload, 1), SHELUGVAR_TOO_SHORT, "send, no store");
+    refuses(shelugvar_node_urgent(&n, store, sizeof store, 0, NULL, 0), SHELUGVAR_PAYLOAD_LENGTH, "urgent, no payload");
+    refuses(shelugvar_node_urgent(&n, NULL, 0, 0, payload, 1), SHELUGVAR_TOO_SHORT, "urgent, no store");
+}
+
+static void null_without_a_node(void)
+{
+    static const shelugvar_fields reset = {64, SHELUGVAR_PROTOCOL_ID, 65, SHELUGVAR_RESET, 0, 7, 0};
+    shelugvar_fields fields;
+    uint8_t frame[SHELUGVAR_FRAME_OVERHEAD];
+
+    refuses(shelugvar_read_frame(NULL, 0, &fields), SHELUGVAR_BAD_FRAME, "read");
+    refuses(shelugvar_write_frame(NULL, 0, &reset, NULL, 0), SHELUGVAR_TOO_SHORT, "write, no buffer");
+    refuses(shelugvar_write_frame(frame, sizeof frame, &reset, NULL, 0), SHELUGVAR_DONE, "write, no payload");
+    refuses(shelugvar_read_frame(frame, sizeof frame, &fields), SHELUGVAR_DONE, "read back");
+    must(shelugvar_fields_type(&fields) == SHELUGVAR_RESET, "a frame's type");
+    must(shelugvar_test_window(250, 16, 9) == SHELUGVAR_INSIDE, "the window test");
+}
+
+int main(void)
+{
+    table_bytes();
+    lengths();
+    version();
+    null_at_a_new_node();
+    null_at_a_sender();
+    null_without_a_node();
+    return wrong;
+}
