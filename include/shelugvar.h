@@ -133,7 +133,7 @@ enum shelugvar_window_answer {
 #define SHELUGVAR_PROTOCOL_PAYLOAD_MOST 65520 /* payload that a frame can have, for the frame reader and writer */
 #define SHELUGVAR_PROTOCOL_FRAME_MOST 65529   /* frame that can come over the wire; a longer one is refused */
 
-#define SHELUGVAR_SENDER_STORE(w, p) (((w) + 1) * (p))           /* a sender's part of the store */
+#define SHELUGVAR_SENDER_STORE(w, p) (((w) + 1) * (p))           /* a sender's area of the store */
 #define SHELUGVAR_RECEIVER_STORE(w, p) ((w) * (p))               /* a receiver's */
 #define SHELUGVAR_BLOCK_ROOM(w, p) (6 + (w) * (4 + (p)))         /* block for such a receiver */
 #define SHELUGVAR_FRAME_ROOM(p) ((p) + SHELUGVAR_FRAME_OVERHEAD) /* frame buffer for entries of such a P */
@@ -218,8 +218,9 @@ uint32_t shelugvar_version(void);
 /* For this header alone: an answer of the archive as a refusal. */
 #define SHELUGVAR_REFUSAL_(answer) SHELUGVAR_AS_(enum shelugvar_refusal, answer)
 
-/* ---- The node's calls. `store` is the node's, `room` its bytes: the same store at every call. For a pointer whose
- * length is 0, which may be null, the archive gets the address of a byte that it then neither reads nor writes. */
+/* ---- The node's calls. `store` is the node's, `room` its bytes: the same store while an entry is Open or Failing. For
+ * a pointer whose length is 0, which may be null, the archive gets the address of a byte that it then neither reads nor
+ * writes. */
 
 /* The bytes of store that a node with this table needs. Refuses 1. */
 static inline enum shelugvar_refusal shelugvar_node_store_need(const uint8_t *table, size_t length, size_t *need)

@@ -14,6 +14,8 @@ from html import escape
 from pathlib import Path
 from typing import NamedTuple
 
+import drawn
+
 ROOT = Path(__file__).resolve().parent.parent
 LIST = ROOT / "crates.txt"
 PICTURE = ROOT / "docs" / "house.svg"
@@ -116,14 +118,7 @@ def picture() -> str:
 
 
 def main() -> int:
-    drawn = picture()
-    if "--write" in sys.argv[1:]:
-        PICTURE.write_text(drawn, encoding="utf-8")
-    good = PICTURE.is_file() and PICTURE.read_text(encoding="utf-8") == drawn
-    if not good:
-        print("docs/house.svg is not what crates.txt gives: tools/house.py --write draws it")
-    print("1 passed, 0 failed" if good else "0 passed, 1 failed")
-    return 0 if good else 1
+    return drawn.held(PICTURE, picture(), "crates.txt")
 
 
 if __name__ == "__main__":

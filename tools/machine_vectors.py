@@ -437,7 +437,7 @@ unfolding get16Of be32 defaultSize timesX timesXs stepByte checkFrom entryOf ent
     areas.storeOf payloadOf headBytes bodyBytes frameBytes soundOf headerOf fits offsets joinedUp blockOf begun step
     machine.without machine.enabled machine.listed machine.opening machine.closing machine.counting machine.sending
     machine.urgentSending machine.ackedRun machine.running machine.acking machine.heldCount machine.heldRun
-    machine.receiving machine.resetting machine.taken machine.placeOf machine.reading machine.arriving machine.frameOf
+    machine.receiving machine.resetting machine.takenIn machine.placeOf machine.reading machine.arriving machine.frameOf
     machine.goingOut machine.inOrder machine.handingOut machine.tickedAll machine.anySpent machine.againFrom
     machine.ticked machine.each machine.bitsFrom machine.ticking
 computes = tt

@@ -12,6 +12,8 @@ from html import escape
 from pathlib import Path
 from typing import NamedTuple
 
+import drawn
+
 ROOT = Path(__file__).resolve().parent.parent
 LAYOUT = ROOT / "crates" / "memory" / "src" / "layout.rt"
 PICTURE = ROOT / "docs" / "memory.svg"
@@ -184,17 +186,10 @@ a node; all zeros is a new node</text>
 
 def main() -> int:
     try:
-        drawn = picture()
+        return drawn.held(PICTURE, picture(), "layout.rt")
     except BadLayout as bad:
         print(f"{bad}\n0 passed, 1 failed")
         return 1
-    if "--write" in sys.argv[1:]:
-        PICTURE.write_text(drawn, encoding="utf-8")
-    good = PICTURE.is_file() and PICTURE.read_text(encoding="utf-8") == drawn
-    if not good:
-        print("docs/memory.svg is not what layout.rt gives: tools/memory_map.py --write draws it")
-    print("1 passed, 0 failed" if good else "0 passed, 1 failed")
-    return 0 if good else 1
 
 
 if __name__ == "__main__":

@@ -31,7 +31,7 @@ MODIFIER = re.compile(r"(?:pub(?:\(\w+\))?|abbrev|unfoldable|private|record|data
                       r'|unsafe|"C")\s+')
 IDENTIFIER = re.compile(r"[^\s:(){}<>=;,]+")
 NO_DECLARATION = ("use", "ghost", "mod", "module", "import")
-PROOF = re.compile(r"^pub \S+ : (?:(?:\{[^}]*\} ?)+→ )?([^\s(){}→×]+(?: [^\s(){}→×]+)*)$", re.MULTILINE)
+PROOF = re.compile(r"^pub \S+ :\s+(?:(?:\{[^}]*\} ?)+→ )?([^\s(){}→×]+)(?!\S)(?![^\n]*→)", re.MULTILINE)
 
 
 class Citation(NamedTuple):
@@ -75,12 +75,10 @@ def citations_in(path: Path, mark: str, errors: list[str]) -> list[Citation]:
 
 
 def proved(crate: str) -> set[str]:
-    """The names that are, with what they are applied to, the whole type of a proof of the crate."""
+    """The names of which, with what they are applied to, a proof of the crate has the type."""
     names: set[str] = set()
     for path in sorted((ROOT / "crates" / crate / "proofs").glob("**/*.antt")):
-        for statement in PROOF.findall(path.read_text(encoding="utf-8")):
-            words = statement.split(" ")
-            names |= {words[0], words[-1]}
+        names |= set(PROOF.findall(path.read_text(encoding="utf-8")))
     return names
 
 

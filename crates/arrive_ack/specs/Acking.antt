@@ -33,7 +33,7 @@ counts r s = ltb (offsetOf (r .window) s) (r .handed) && isNew (acceptOf (r .win
 abbrev pub passing : Run → ℕ → Passed
 passing r s = passOf (acceptOf (r .window) s .window)
 
--- the start passes them; confirmed is the number passed [W8, A4]
+-- the start passes them; confirmed grows by the number passed [W8, A4]
 abbrev pub moved : Run → Passed → Run
 moved r p =
     record {

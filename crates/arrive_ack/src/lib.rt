@@ -11,7 +11,6 @@ use memory::layout;
 use memory::put_word;
 use slots::cell_of;
 use slots::cells;
-use timing::rouse;
 use units::Seq;
 use units::Unfolded;
 use waiting::queues;
@@ -89,7 +88,7 @@ fn opened_run(r: Run) -> Run
     }
 }
 
-// A Reset that waits again waits no more: one does where its timer, at t, does not run.
+// Takes the waiting Reset out of its queue: one waits exactly where its timer t is 0.
 fn drop_reset(book: &mut [u16], i: u8, t: u16)
     ensures { λ _. ⌜ now (book .exit) ≡ resetGone (now (book .entry)) i t ⌝ }
 {
@@ -197,7 +196,7 @@ fn at_failing(node: &mut [u64], book: &mut [u16], i: u8, e: EndPoint, n: u16, s:
             let running = fewer_of(cells::timer(book, g), n);
             cells::put_timer(book, g, 0);
             save(node, i as usize, State::Failing(running), next);
-            rouse(node);
+            timing::rouse(node);
             Was::Acknowledged(passed)
         }
     }

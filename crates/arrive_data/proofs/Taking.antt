@@ -9,14 +9,14 @@ use Rattle.end_points.specs.Runs.{isNew}
 use Rattle.end_points.specs.declared.EndPoint.{EndPoint}
 use Rattle.end_points.specs.declared.answers.Was.the-variants as was
 use Rattle.blocks.specs.Blocks.{takes}
-use Rattle.arrive_data.specs.Receiving.{delivered, given, taken, repeated, dataAnswer, dataAfter}
+use Rattle.arrive_data.specs.Receiving.{delivered, given, firstTime, repeated, dataAnswer, dataAfter}
 
 module _ (x : Lent) (i : ℕ) (e : EndPoint) (s : ℕ) (p : List ℕ) where
   pub dataAnswer-new : isNew (acceptOf (e .run .window) s .found) ≡ true → dataAnswer x i e s p ≡ was.Data (takes (x .out) (delivered x i e s p))
   unfolding dataAnswer given
   dataAnswer-new h = rw h
 
-  pub dataAfter-new : isNew (acceptOf (e .run .window) s .found) ≡ true → dataAfter x i e s p ≡ taken x i e s p
+  pub dataAfter-new : isNew (acceptOf (e .run .window) s .found) ≡ true → dataAfter x i e s p ≡ firstTime x i e s p
   unfolding dataAfter
   dataAfter-new h = rw h
 

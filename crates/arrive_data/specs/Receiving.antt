@@ -5,7 +5,7 @@ use mathlib.Core.List.{List, [], _∷_}
 use lib.ListN.{length, set}
 use lib.Seq.{sets}
 use Rattle.units.specs.Refusals.{pick}
-use Rattle.memory.specs.Layout.{entryAt, startWord, lowMarksWord, highMarksWord, lengthAt}
+use Rattle.memory.specs.Layout.{ackWord, entryAt, startWord, lowMarksWord, highMarksWord, lengthAt}
 use Rattle.waiting.specs.Acks.{pushed, dropped}
 use Rattle.window.specs.Windows.{acceptOf, passOf, heldCount}
 use Rattle.window.specs.declared.Window.{Window}
@@ -24,7 +24,7 @@ use Rattle.blocks.specs.Payloads.{payloads}
 
 -- an acknowledgement of s waits for entry i [A1, H3]
 abbrev pub acknowledged : List ℕ → ℕ → ℕ → List ℕ
-acknowledged ws i s = pushed ws (i * 256 + s)
+acknowledged ws i s = pushed ws (ackWord i s)
 
 -- ---- a Reset, at Enabled or Open
 
@@ -86,8 +86,8 @@ unfoldable pub dataAnswer : Lent → ℕ → EndPoint → ℕ → List ℕ → W
 dataAnswer x i e s p = was.Data (takes (x .out) (given x i e s p))
 
 -- in the window and new: held, what is at the start delivered, and an acknowledgement waits [W4, W5, A1, B3, B4]
-abbrev pub taken : Lent → ℕ → EndPoint → ℕ → List ℕ → Lent
-taken x i e s p =
+abbrev pub firstTime : Lent → ℕ → EndPoint → ℕ → List ℕ → Lent
+firstTime x i e s p =
     record {
       node = windowNode (acknowledged (x .node) i s) i (passing e s .window);
       book = putBook (x .book) i e s p;
@@ -107,7 +107,7 @@ repeated x i s =
 
 -- in all cases an acknowledgement waits [A1]
 unfoldable pub dataAfter : Lent → ℕ → EndPoint → ℕ → List ℕ → Lent
-dataAfter x i e s p = pick (isNew (acceptOf (e .run .window) s .found)) (taken x i e s p) (repeated x i s)
+dataAfter x i e s p = pick (isNew (acceptOf (e .run .window) s .found)) (firstTime x i e s p) (repeated x i s)
 
 -- ---- an Urgent, at Open: delivered, not acknowledged
 

@@ -1,6 +1,7 @@
 // A Reset, Data or an Urgent taken in by a receiver.
 // Proved: the answer, and the node, the book, the store and the host's block afterwards, are those of
 // specs/Receiving.antt, for every memory and every number; a payload has at most 65,535 bytes, as in any frame.
+use blocks::Owner;
 use blocks::put_block;
 use blocks::put_none;
 use blocks::put_one;
@@ -70,16 +71,13 @@ pub fn take_data(
     if is_new(found) {
         keep(book, store, i, e, s, payload);
         let passed = accepted.window.pass();
-        let n = put_block(
-            out,
-            store,
-            book,
-            i,
-            e.place,
-            e.entry.largest,
+        let owner = Owner {
+            entry: i,
+            place: e.place,
+            largest: e.entry.largest,
             window,
-            passed.run,
-        );
+        };
+        let n = put_block(out, store, book, owner, passed.run);
         put_window(node, i as usize, passed.window);
         return Was::Data(n);
     }

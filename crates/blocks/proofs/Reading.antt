@@ -100,9 +100,5 @@ unfolding readBlock
 read-block ps t = rw (count ps t) (rest [] ps t)
 
 -- and so it is read out of memory that has room for it
-pub read-written : (l : List ℕ) (ps : List (List ℕ)) → length (blockOf ps) ≤ length l → readBlock (sets l 0 (blockOf ps)) ≡ ps
-read-written l ps h = rw (sets-eq (blockOf ps) l 0 (omega arith)) (read-block ps (drop (0 + length (blockOf ps)) l))
-
 pub reads-back : ReadsBack
-unfolding ReadsBack
-reads-back = read-written
+reads-back l ps h = rw (sets-eq (blockOf ps) l 0 (omega arith)) (read-block ps (drop (0 + length (blockOf ps)) l))

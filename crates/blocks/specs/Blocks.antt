@@ -5,7 +5,10 @@ use mathlib.Core.List.{List, [], _∷_, _++_}
 use lib.ListN.{length}
 use Rattle.units.specs.Bytes.{be16, be32}
 
--- an offset's bytes, and the length of a block of no payloads: the count, and the offset of its end [B1, B3]
+-- where the offsets begin, behind the count; an offset's bytes; and the length of a block of no payloads [B1, B3]
+abbrev pub offsetsAt : ℕ
+offsetsAt = 2
+
 abbrev pub offsetBytes : ℕ
 offsetBytes = 4
 

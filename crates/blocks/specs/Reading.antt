@@ -6,14 +6,14 @@ use mathlib.Core.List.{List, [], _∷_}
 use lib.ListN.{length, take, drop}
 use lib.Seq.{sets}
 use Rattle.units.specs.Bytes.{get16Of}
-use Rattle.blocks.specs.Blocks.{blockOf}
+use Rattle.blocks.specs.Blocks.{offsetsAt, offsetBytes, blockOf}
 
 -- the four bytes from i on, as a number
 unfoldable pub get32Of : List ℕ → ℕ → ℕ
 get32Of s i = get16Of s i * 65536 + get16Of s (i + 2)
 
 abbrev pub offsetIn : List ℕ → ℕ → ℕ
-offsetIn s j = get32Of s (2 + 4 * j)
+offsetIn s j = get32Of s (offsetsAt + offsetBytes * j)
 
 unfoldable pub payloadIn : List ℕ → ℕ → List ℕ
 payloadIn s j = take (offsetIn s (j + 1) - offsetIn s j) (drop (offsetIn s j) s)
@@ -28,5 +28,5 @@ unfoldable pub readBlock : List ℕ → List (List ℕ)
 readBlock s = payloadsIn s 0 (get16Of s 0)
 
 -- the law, proved in proofs/Reading.antt: what was written into a buffer with room for it is read out again [B1]
-unfoldable pub ReadsBack : Type 0
+abbrev pub ReadsBack : Type 0
 ReadsBack = (l : List ℕ) (ps : List (List ℕ)) → length (blockOf ps) ≤ length l → readBlock (sets l 0 (blockOf ps)) ≡ ps

@@ -1,6 +1,6 @@
 // The host's block: how many payloads it has, where each begins and where the last ends, then the payloads.
 // Proved: what is written is `blockOf` of specs/Blocks.antt, from the first byte on, and the answer how many of its
-// bytes the lent block took: all of them, where it is long enough. Beyond its end nothing alters. proofs/Reading.antt:
+// bytes the lent block took: all of them, where it is long enough. Beyond its end nothing alters. specs/Reading.antt:
 // the payloads can be read out of the block again.
 // `put_one` asks a payload of at most 65,535 bytes, which is more than any frame carries.
 pub mod layout; // layout.rt: its numbers
@@ -21,31 +21,37 @@ ghost use Prim.Native.Nat.{_+_, _*_, _<_};
 ghost use lib.ListN.{length};
 ghost use lib.Seq.{sets};
 ghost use Rattle.units.specs.Bytes.{be32};
-ghost use Rattle.blocks.specs.Blocks.{blockOf, takes};
+ghost use Rattle.blocks.specs.Blocks.{offsetsAt, offsetBytes, blockOf, takes};
 ghost use Rattle.blocks.specs.Payloads.{payloadAt, payloads};
 
+// Whose payloads they are: the entry, where its area of the store begins, P, and its window.
+pub struct Owner {
+    pub entry: u8,
+    pub place: u16,
+    pub largest: u16,
+    pub window: Window,
+}
+
 // The payload of number k past the start.
-fn payload<'a>(
-    store: &'a [u8],
-    book: &[u16],
-    i: u8,
-    place: u16,
-    largest: u16,
-    w: Window,
-    k: u8,
-) -> &'a [u8]
-    ensures is { λ r. ⌜ now r ≡ payloadAt (now (store .entry)) (now (book .entry)) i place largest w k ⌝ }
+fn payload<'a>(store: &'a [u8], book: &[u16], o: Owner, k: u8) -> &'a [u8]
+    ensures is { λ r. ⌜ now r
+        ≡ payloadAt (now (store .entry)) (now (book .entry)) (o .entry) (o .place) (o .largest) (o .window) k ⌝ }
     ensures short { λ r. ⌜ length (now r) < 65536 ⌝ }
 {
+    let w = o.window;
     let s = advance(w.start, k);
-    let n = cells::length(book, cell_of(i, w, s));
-    part(store, spot_of(place, largest, slot_for(w, s)), n as usize)
+    let n = cells::length(book, cell_of(o.entry, w, s));
+    part(
+        store,
+        spot_of(o.place, o.largest, slot_for(w, s)),
+        n as usize,
+    )
 }
 
 // Offset j of a block stored, with one test of the room where all of it fits.
 fn put_offset(out: &mut [u8], j: u8, offset: usize)
     requires { ⌜ offset < 4294967296 ⌝ }
-    ensures { λ _. ⌜ now (out .exit) ≡ sets (now (out .entry)) (2 + 4 * j) (be32 offset) ⌝ }
+    ensures { λ _. ⌜ now (out .exit) ≡ sets (now (out .entry)) (offsetsAt + offsetBytes * j) (be32 offset) ⌝ }
 {
     let at = layout::OFFSETS + layout::OFFSET_BYTES * j as usize;
     if out.len() < at + layout::OFFSET_BYTES {
@@ -58,28 +64,21 @@ fn put_offset(out: &mut [u8], j: u8, offset: usize)
     out[at + 3] = (offset % 65536 % 256) as u8;
 }
 
-// The block of the first k payloads of entry i from the start of its window on, as store and book have them;
+// The block of an entry's first k payloads from the start of its window on, as store and book have them;
 // answers how much of it the lent block took.
-pub fn put_block(
-    out: &mut [u8],
-    store: &[u8],
-    book: &[u16],
-    i: u8,
-    place: u16,
-    largest: u16,
-    w: Window,
-    k: u8,
-) -> usize
-    ensures length { λ r. ⌜ r ≡ takes (now (out .entry))
-        (payloads (now (store .entry)) (now (book .entry)) i place largest w k) ⌝ }
-    ensures written { λ _. ⌜ now (out .exit) ≡ sets (now (out .entry)) 0
-        (blockOf (payloads (now (store .entry)) (now (book .entry)) i place largest w k)) ⌝ }
+pub fn put_block(out: &mut [u8], store: &[u8], book: &[u16], o: Owner, k: u8) -> usize
+    ensures length { λ r.
+        let ps = payloads (now (store .entry)) (now (book .entry)) (o .entry) (o .place) (o .largest) (o .window) k in
+        ⌜ r ≡ takes (now (out .entry)) ps ⌝ }
+    ensures written { λ _.
+        let ps = payloads (now (store .entry)) (now (book .entry)) (o .entry) (o .place) (o .largest) (o .window) k in
+        ⌜ now (out .exit) ≡ sets (now (out .entry)) 0 (blockOf ps) ⌝ }
 {
     put16(out, 0, k as u16);
     let mut end = layout::EMPTY + layout::OFFSET_BYTES * k as usize;
     let mut j: u8 = 0;
     while j < k {
-        let p = payload(store, book, i, place, largest, w, j);
+        let p = payload(store, book, o, j);
         put_offset(out, j, end);
         put_all(out, end, p);
         end += p.len();

@@ -1,6 +1,6 @@
 -- An arrival: which answer, and what all that was lent holds afterwards. Cited by the call. Assumes nothing.
 use Prim.Native.Nat.{ℕ, _+_, _*_}
-use mathlib.Core.Bool.{Bool, true, false, not, _&&_}
+use mathlib.Core.Bool.{Bool, not, _&&_}
 use mathlib.Core.List.{List, [], _∷_}
 use lib.ListN.{length, getD}
 use lib.Dec.{eqb, leb, ltb}
@@ -9,8 +9,9 @@ use Rattle.units.specs.declared.refusals.Refusal.{Refusal}
 use Rattle.units.specs.declared.refusals.Refusal.the-variants as refusal
 use Rattle.units.specs.declared.refusals.Verdict.{Verdict}
 use Rattle.units.specs.declared.refusals.Verdict.the-variants as verdicts
+use Rattle.memory.specs.Layout.{ackPlaces}
 use Rattle.waiting.specs.Acks.{waitingOf}
-use Rattle.frame.specs.Layout.{payloadOf}
+use Rattle.frame.specs.Layout.{destinationByte, protocolByte, payloadOf}
 use Rattle.frame.specs.Types.{carries, answered}
 use Rattle.frame.specs.Reading.{soundOf, headerOf}
 use Rattle.frame.specs.declared.Header.{Header}
@@ -33,7 +34,7 @@ use Rattle.blocks.specs.Blocks.{empty, offsetBytes}
 
 -- destination and protocol ID are ours [F2, F3, R11]
 abbrev pub ours : List ℕ → List ℕ → Bool
-ours ws f = eqb (getD f 0 0) (ownIn ws .0) && eqb (getD f 1 0) (protocolIn ws)
+ours ws f = eqb (getD f destinationByte 0) (ownIn ws .0) && eqb (getD f protocolByte 0) (protocolIn ws)
 
 -- the room that Data and Urgent need [B2]
 abbrev pub blockRoom : EndPoint → ℕ
@@ -49,7 +50,7 @@ entryTests ws i e t n store block =
     ∷ (isClosed (e .state), refusal.NoEndPoint)
     ∷ (carries t && not (isOpen (e .state)), refusal.NoEndPoint)
     ∷ (carries t && ltb (e .entry .largest) n, refusal.PayloadLength)
-    ∷ (answered t && leb 32 (waitingOf ws), refusal.AcksFull)
+    ∷ (answered t && leb ackPlaces (waitingOf ws), refusal.AcksFull)
     ∷ (ltb store (needIn ws), refusal.TooShort)
     ∷ (carries t && ltb block (blockRoom e), refusal.TooShort)
     ∷ []

@@ -14,6 +14,7 @@ ghost use mathlib.Core.Bool.{not, _&&_};
 ghost use mathlib.Core.List.{[], _∷_};
 ghost use lib.Dec.{leb, ltb};
 ghost use Rattle.units.specs.declared.refusals.Refusal.the-variants as refusal;
+ghost use Rattle.memory.specs.Layout.{ackPlaces};
 ghost use Rattle.waiting.specs.Acks.{waitingOf};
 ghost use Rattle.end_points.specs.Ends.{endOf};
 ghost use Rattle.end_points.specs.Heads.{needIn};
@@ -56,10 +57,10 @@ fn block_room(node: &[u64], i: u8) -> usize
 
 // Data or a Reset, with so many acknowledgements waiting.
 fn acks_full(t: FrameType, n: u8) -> bool
-    ensures { λ r. ⌜ r ≡ answered t && leb 32 n ⌝ }
+    ensures { λ r. ⌜ r ≡ answered t && leb ackPlaces n ⌝ }
 {
     if is_answered(t) {
-        return 32 <= n;
+        return acks::MOST <= n;
     }
     false
 }
@@ -70,7 +71,7 @@ fn judge_payload(node: &[u64], i: u8, t: FrameType, n: u16, store: usize, block:
         let e = endOf (now (node .entry)) i in
         ⌜ r ≡ verdict ((not (isOpen (e .state)), refusal.NoEndPoint)
         ∷ (ltb (e .entry .largest) n, refusal.PayloadLength)
-        ∷ (answered t && leb 32 (waitingOf (now (node .entry))), refusal.AcksFull)
+        ∷ (answered t && leb ackPlaces (waitingOf (now (node .entry))), refusal.AcksFull)
         ∷ (ltb store (needIn (now (node .entry))), refusal.TooShort)
         ∷ (ltb block (blockRoom e), refusal.TooShort) ∷ []) ⌝ }
 {
@@ -96,7 +97,7 @@ fn judge_payload(node: &[u64], i: u8, t: FrameType, n: u16, store: usize, block:
 
 // Acknowledge and Reset.
 fn judge_bare(node: &[u64], t: FrameType, store: usize) -> Verdict
-    ensures { λ r. ⌜ r ≡ verdict ((answered t && leb 32 (waitingOf (now (node .entry))), refusal.AcksFull)
+    ensures { λ r. ⌜ r ≡ verdict ((answered t && leb ackPlaces (waitingOf (now (node .entry))), refusal.AcksFull)
         ∷ (ltb store (needIn (now (node .entry))), refusal.TooShort) ∷ []) ⌝ }
 {
     if acks_full(t, acks::waiting(node)) {

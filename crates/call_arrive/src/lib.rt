@@ -96,8 +96,8 @@ fn read_end(node: &[u64], i: usize) -> EndPoint
     }
 }
 
-// A frame of type t, with a payload of n bytes by its header and number s, comes to entry i. It is handed these and not
-// the header: what goes in one word has to be put into it and taken out again.
+// A frame of type t, with a payload of n bytes by its header and number s, comes to entry i. It takes these apart and
+// not the `Header`, which would be packed into a word and unpacked again.
 fn come(
     node: &mut [u64],
     book: &mut [u16],

@@ -13,7 +13,7 @@ ghost use mathlib.Core.Path.{_≡_};
 ghost use Rattle.end_points.specs.Lent.{whole};
 ghost use Rattle.call_hand_out.specs.Handing.{nextOut, handOutAnswer, handOutAfter};
 
-mod frames; // frames.rt: a frame's fields, and its bytes where there is room
+mod framing; // framing.rt: a frame's fields, and its bytes where there is room
 mod sorts; // sorts.rt: each sort, handed out
 
 // What goes out next: an acknowledgement, or what has waited longest in a queue, by its number there.

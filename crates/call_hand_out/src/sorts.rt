@@ -1,6 +1,6 @@
 // Each sort of what waits, handed out: its frame into the buffer, and what that leaves of node and book.
-use super::frames::fields_to;
-use super::frames::put_frame;
+use super::framing::fields_to;
+use super::framing::put_frame;
 use end_points::Run;
 use end_points::State;
 use end_points::answers::HandedOut;
@@ -17,9 +17,6 @@ use slots::cells;
 use slots::number_in;
 use slots::part;
 use slots::spot_of;
-use timing::clock;
-use timing::heed;
-use timing::later;
 use units::Seq;
 use waiting::acks;
 use waiting::acks::Ack;
@@ -64,7 +61,7 @@ pub fn put_ack(node: &mut [u64], frame: &mut [u8], a: Ack) -> HandedOut
     }
 }
 
-// The Reset that is x in its queue: its timer starts, and one went out.
+// Hands out the Reset whose number in the book is x; its timer starts, and the end point notes that one went out.
 pub fn put_reset(node: &mut [u64], book: &mut [u16], frame: &mut [u8], x: u16) -> HandedOut
     ensures answer { λ r. ⌜ r ≡ fitted (now (frame .entry)) (resetFrame (now (node .entry)) x) ⌝ }
     ensures node { λ r. ⌜ now (node .exit) ≡ once r (now (node .entry))
@@ -80,9 +77,9 @@ pub fn put_reset(node: &mut [u64], book: &mut [u16], frame: &mut [u8], x: u16) -
         HandedOut::Refused(w) => HandedOut::Refused(w),
         HandedOut::Length(n) => {
             queues::unlink(book, x);
-            let over = later(clock(node), e.entry.timeout);
+            let over = timing::later(timing::clock(node), e.entry.timeout);
             save(node, i, State::Enabled(over, true), e.run);
-            heed(node, e.entry.timeout);
+            timing::heed(node, e.entry.timeout);
             HandedOut::Length(n)
         }
     }
@@ -163,8 +160,8 @@ pub fn put_again(
         HandedOut::Refused(w) => HandedOut::Refused(w),
         HandedOut::Length(n) => {
             queues::unlink(book, x);
-            cells::put_timer(book, g, later(clock(node), entry.timeout));
-            heed(node, entry.timeout);
+            cells::put_timer(book, g, timing::later(timing::clock(node), entry.timeout));
+            timing::heed(node, entry.timeout);
             HandedOut::Length(n)
         }
     }
@@ -214,9 +211,9 @@ pub fn put_data(
         HandedOut::Refused(w) => HandedOut::Refused(w),
         HandedOut::Length(n) => {
             queues::unlink(book, x);
-            cells::put_timer(book, g, later(clock(node), entry.timeout));
+            cells::put_timer(book, g, timing::later(timing::clock(node), entry.timeout));
             put_handed(node, i, run);
-            heed(node, entry.timeout);
+            timing::heed(node, entry.timeout);
             HandedOut::Length(n)
         }
     }

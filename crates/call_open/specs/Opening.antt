@@ -66,7 +66,7 @@ closeAnswer x i =
 unfoldable pub silenced : ℕ → State → Run → List ℕ → List ℕ
 silenced i state.Closed r b = b
 silenced i (state.Enabled t sent) r b = pick (eqb t 0) (unlinked b (resetId i)) b
-silenced i state.Open r b = idled i (r .window) (r .handed) (r .taken) (r .urgent) b
+silenced i state.Open r b = idled i r b
 silenced i (state.Failing n) r b = b
 
 -- a sender's frames and a receiver's acknowledgements wait no more [E6, E7, E8]

@@ -5,6 +5,7 @@ use mathlib.Core.List.{List, [], _∷_}
 use lib.ListN.{length, replicate}
 use lib.Seq.{sets}
 use lib.Dec.{ltb}
+use Rattle.timing.specs.Timing.{round}
 use Rattle.units.specs.Refusals.{pick, verdict}
 use Rattle.units.specs.declared.refusals.Refusal.the-variants as refusal
 use Rattle.units.specs.declared.refusals.Verdict.{Verdict}
@@ -28,7 +29,7 @@ unfoldable pub setupAnswer : Lent → List ℕ → Verdict
 setupAnswer x t =
     verdict ((not (goodTable t), refusal.BadTable) ∷ (ltb (length (x .store)) (storeOf t), refusal.TooShort) ∷ [])
 
--- how many bytes of store it needs: 1, or the sum of its entries' parts [S1, R1, R46]
+-- how many bytes of store it needs: 1, or the sum of its entries' areas [S1, R1, R46]
 unfoldable pub needAnswer : List ℕ → Needed
 needAnswer t = pick (goodTable t) (needed.Bytes (storeOf t)) (needed.Refused refusal.BadTable)
 
@@ -47,7 +48,7 @@ firstRun =
 -- the head: from the table, no acknowledgement waiting, the clock before its first tick; with no timer running as many
 -- ticks may pass as the longest timer takes [T17]
 abbrev pub headed : List ℕ → List ℕ → List ℕ
-headed t ws = sets ws 0 (countOf t ∷ ownOf t .0 ∷ protocolOf t ∷ storeOf t ∷ 0 ∷ 0 ∷ 0 ∷ 65535 ∷ [])
+headed t ws = sets ws 0 (countOf t ∷ ownOf t .0 ∷ protocolOf t ∷ storeOf t ∷ 0 ∷ 0 ∷ 0 ∷ round ∷ [])
 
 -- then the first k entries, each Closed and in the index [E3]
 abbrev pub entered : List ℕ → ℕ → List ℕ → List ℕ

@@ -92,7 +92,7 @@ fn silence(book: &mut [u16], i: u8, s: State, r: Run)
                 queues::unlink(book, layout::RESET_ID + i as u16);
             }
         }
-        State::Open => idle(book, i, r.window, r.taken, r.handed, r.urgent),
+        State::Open => idle(book, i, r),
         State::Failing(_) => {}
     }
 }

@@ -70,8 +70,8 @@ fn clear(ws: &mut [u64])
     }
 }
 
-// The head: how many entries, who we are, how much of a store the entries take; no acknowledgement waits, no tick was,
-// and 65,535 may pass before a timer can run out.
+// The head: how many entries, who we are, how much of a store the entries take; no acknowledgement waits, no tick
+// has passed yet, and 65,535 may pass before a timer can run out.
 fn put_head(node: &mut [u64], table: &[u8])
     ensures { λ _. ⌜ now (node .exit) ≡ headed (now (table .entry)) (now (node .entry)) ⌝ }
 {

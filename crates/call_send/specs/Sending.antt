@@ -5,6 +5,7 @@ use mathlib.Core.List.{List, [], _∷_, _++_}
 use lib.ListN.{length, set}
 use lib.Seq.{sets}
 use lib.Dec.{eqb, leb, ltb}
+use Rattle.units.specs.Limits.{mostAccepted}
 use Rattle.units.specs.Refusals.{verdict}
 use Rattle.units.specs.declared.refusals.Refusal.{Refusal}
 use Rattle.units.specs.declared.refusals.Refusal.the-variants as refusal
@@ -34,7 +35,7 @@ senderTests e n =
 -- of the run, and of a store of room bytes where need are in use: 8, 7, 6 [W3, R6, R7, R8]
 abbrev pub runTests : Run → ℕ → ℕ → List (Bool × Refusal)
 runTests r room need =
-    (eqb (r .accepted .0) 4294967295, refusal.RunFull)
+    (eqb (r .accepted .0) mostAccepted, refusal.RunFull)
     ∷ (leb (r .window .size) (r .taken), refusal.WindowFull)
     ∷ (ltb room need, refusal.TooShort)
     ∷ []

@@ -2,6 +2,7 @@
 use end_points::EndPoint;
 use end_points::states::is_open;
 use end_points::states::is_sends;
+use units::limits;
 use units::refusals::Refusal;
 use units::refusals::Verdict;
 ghost use mathlib.Core.Path.{_≡_};
@@ -36,7 +37,7 @@ pub fn judge_send(e: EndPoint, n: usize, room: usize, need: usize) -> Verdict
 {
     let v = judge_sender(e, n);
     let Verdict::Refused(why) = v else {
-        if e.run.accepted.0 == 4294967295 {
+        if e.run.accepted.0 == limits::ACCEPTED {
             return Verdict::Refused(Refusal::RunFull);
         }
         if e.run.window.size <= e.run.taken {

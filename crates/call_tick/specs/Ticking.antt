@@ -7,7 +7,8 @@ use mathlib.Core.Bool.{Bool, true, false}
 use mathlib.Core.List.{List, []}
 use lib.ListN.{set}
 use lib.Dec.{eqb, ltb}
-use Rattle.timing.specs.Timing.{clockIn, quietIn, later, soonest, passed}
+use Rattle.timing.specs.Timing.{round, clockIn, quietIn, later, soonest, passed}
+use Rattle.units.specs.Limits.{mostEntries}
 use Rattle.units.specs.Refusals.{pick}
 use Rattle.memory.specs.Layout.{resets, resends, resetId, cellId, timerAt, retriesAt}
 use Rattle.waiting.specs.Queues.{appended}
@@ -45,7 +46,7 @@ expired i e g t =
       least = t .least;
     })
     (record {
-      book = set (idled i (e .run .window) (e .run .handed) (e .run .taken) (e .run .urgent) (t .book)) (timerAt g) 0;
+      book = set (idled i (e .run) (t .book)) (timerAt g) 0;
       failing = true;
       running = t .running;
       least = t .least;
@@ -163,11 +164,11 @@ recoverAll (suc n) r = recover n (recoverAll n r)
 -- ---- the call: it refuses nothing
 
 abbrev pub entries : Lent → ℕ
-entries x = min (countIn (x .node)) 16
+entries x = min (countIn (x .node)) mostEntries
 
 -- all timers have ticked
 abbrev pub scanned : ℕ → Lent → Scanned
-scanned c x = tickEntries c (entries x) (record { lent = x; least = 65535 })
+scanned c x = tickEntries c (entries x) (record { lent = x; least = round })
 
 -- tick c where a timer can run out
 unfoldable pub scanBoth : ℕ → Lent → Recovered

@@ -19,12 +19,6 @@ use end_points::states::is_open;
 use end_points::states::without_urgent;
 use memory::layout;
 use timers::tick_slots;
-use timing::clock;
-use timing::later;
-use timing::one_less;
-use timing::pass;
-use timing::quiet;
-use timing::soonest;
 use waiting::queues;
 ghost use mathlib.Core.Path.{_≡_};
 ghost use mathlib.Core.List.{[]};
@@ -56,7 +50,7 @@ fn tick_enabled(
         return least;
     }
     if d != c {
-        return soonest(least, c, d);
+        return timing::soonest(least, c, d);
     }
     let run = load(node, i as usize).run;
     save(node, i as usize, State::Enabled(0, sent), run);
@@ -198,7 +192,7 @@ fn scan(node: &mut [u64], book: &mut [u16], c: u16) -> u16
     let n = entries(node);
     let least = tick_entries(node, book, n, c);
     let bits = recover_all(node, book, n);
-    pass(node, c, one_less(least));
+    timing::pass(node, c, timing::one_less(least));
     bits
 }
 
@@ -208,10 +202,10 @@ pub fn tick(node: &mut [u64], book: &mut [u16]) -> u16
     ensures { λ _. ⌜ bare (now (node .exit)) (now (book .exit))
         ≡ tickAfter (bare (now (node .entry)) (now (book .entry))) ⌝ }
 {
-    let c = later(clock(node), 1);
-    let left = quiet(node);
+    let c = timing::later(timing::clock(node), 1);
+    let left = timing::quiet(node);
     if left != 0 {
-        pass(node, c, left - 1);
+        timing::pass(node, c, left - 1);
         return 0;
     }
     scan(node, book, c)

@@ -7,7 +7,6 @@ use memory::layout;
 use memory::put_half;
 use slots::idle;
 use slots::slot_for;
-use timing::soonest;
 use waiting::queues;
 use window::advance;
 ghost use mathlib.Core.Path.{_≡_};
@@ -61,7 +60,7 @@ fn expire(book: &mut [u16], i: u8, e: EndPoint, g: usize, t: Timers) -> Timers
         };
     }
     let run = e.run;
-    idle(book, i, run.window, run.taken, run.handed, run.urgent);
+    idle(book, i, run);
     stop(book, g);
     Timers {
         failing: true,
@@ -85,7 +84,7 @@ fn tick_cell(book: &mut [u16], i: u8, e: EndPoint, c: u16, g: usize, d: u16, t: 
         return Timers {
             failing: t.failing,
             running: t.running + 1,
-            least: soonest(t.least, c, d),
+            least: timing::soonest(t.least, c, d),
         };
     }
     expire(book, i, e, g, t)

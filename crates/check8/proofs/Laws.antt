@@ -76,25 +76,17 @@ check-lt c (b ∷ bs) h t =
 
 -- ---- after a list its own check byte brings 0, and no other byte does
 
-pub own-check : (bs : List ℕ) → checkOf (bs ++ checkOf bs ∷ []) ≡ 0
+pub own-check : OwnCheck
 unfolding checkFrom stepByte
 own-check bs = check-append 255 bs (checkOf bs ∷ []) ∙ ap (timesXs 8) (xor-self (checkOf bs)) ∙ zeros 8
 
 xor-zero : (a b : ℕ) → bitXor a b ≡ 0 → a ≡ b
 xor-zero a b e = omega (arith, xor-add-and a b, and-le-l a b, and-le-r a b)
 
-pub only-check : (bs : List ℕ) (x : ℕ) → T (areBytes bs) → x < 256 → checkOf (bs ++ x ∷ []) ≡ 0 → x ≡ checkOf bs
+pub only-check : OnlyCheck
 unfolding checkFrom stepByte
 only-check bs x t h e =
     let c = check-lt 255 bs (omega arith) t in
     sym (xor-zero (checkOf bs) x (timesXs-zero 8 _ (xor-lt 8 (checkOf bs) x c h) (sym (check-append 255 bs (x ∷ [])) ∙ e)))
 
 -- ---- as specs/Laws.antt states them
-
-pub the-own-check : OwnCheck
-unfolding OwnCheck
-the-own-check = own-check
-
-pub the-only-check : OnlyCheck
-unfolding OnlyCheck
-the-only-check = only-check

@@ -7,9 +7,9 @@ use lib.Pow.{areBytes}
 use Rattle.check8.specs.Polynomial.{checkOf}
 
 -- over bytes followed by their check byte it comes to 0 [C5]
-unfoldable pub OwnCheck : Type 0
+abbrev pub OwnCheck : Type 0
 OwnCheck = (bs : List ℕ) → checkOf (bs ++ checkOf bs ∷ []) ≡ 0
 
 -- and over bytes followed by any other byte it does not [C5]
-unfoldable pub OnlyCheck : Type 0
+abbrev pub OnlyCheck : Type 0
 OnlyCheck = (bs : List ℕ) (x : ℕ) → T (areBytes bs) → x < 256 → checkOf (bs ++ x ∷ []) ≡ 0 → x ≡ checkOf bs

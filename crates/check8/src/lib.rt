@@ -1,6 +1,6 @@
 // The check byte of a frame: polynomial x^8 + x^2 + x + 1, highest bit first, start value all ones, no final change.
 // Proved: `check` is the check byte that specs/Polynomial.antt works out from the polynomial, for every slice; bytes
-// followed by their check byte come to 0, and with no other last byte do they (proofs/Laws.antt).
+// followed by their check byte come to 0, and with no other last byte do they (specs/Laws.antt).
 mod table; // table.rt: the 256 entries
 
 use table::TABLE;

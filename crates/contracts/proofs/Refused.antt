@@ -1,5 +1,5 @@
 -- A refused call leaves all that was lent as it was, by the contract's own text: a theorem for every function that
--- refuses and alters, bare or for C. Of the node's calls `counts`, `state` and
+-- refuses and alters, of the node, below it and for C. Of the node's calls `counts`, `state` and
 -- `store_need` alter nothing and `tick` refuses nothing. Assumes
 -- nothing.
 use Prim.Native.Nat.{ℕ}
@@ -46,6 +46,13 @@ use Rattle.node.proofs.send.Reads as node-send
 use Rattle.node.proofs.urgent.Reads as node-urgent
 use Rattle.node.proofs.arrival.Reads as node-arrival
 use Rattle.node.proofs.hand_out.Reads as node-hand-out
+use Rattle.call_open.proofs.setup.Reads as call-open-setup
+use Rattle.call_open.proofs.open.Reads as call-open-open
+use Rattle.call_open.proofs.close.Reads as call-open-close
+use Rattle.call_send.proofs.send.Reads as call-send-send
+use Rattle.call_send.proofs.urgent.Reads as call-send-urgent
+use Rattle.call_arrive.proofs.arrive.Reads as call-arrive-arrive
+use Rattle.call_hand_out.proofs.hand_out.Reads as call-hand-out-hand-out
 use Rattle.frame.proofs.writing.write.Reads as frame-write
 use Rattle.firmware.proofs.shelugvar_frame_read.Reads as shelugvar-frame-read
 use Rattle.firmware.proofs.shelugvar_frame_write.Reads as shelugvar-frame-write
@@ -115,6 +122,44 @@ pub node-arrival-refused : Spares node-arrival.Post (IsRefused arrived.Refused)
 node-arrival-refused u a r e p w =
     let x = whole (now (a .0)) (now (a .1 .0)) (now (a .1 .1 .0)) (now (a .1 .1 .1 .0)) in
     p .1 ∙ arrival-spared (w .0) x (now (a .1 .1 .1 .1 .0)) (sym (p .0) ∙ w .1)
+
+-- ---- the calls on which those stand
+
+pub call-open-setup-refused : Spares call-open-setup.Post (IsRefused verdicts.Refused)
+    (λ e. stored (now (e .0)) (now (e .1 .0)) (now (e .1 .1 .0)))
+unfolding setupAfter
+call-open-setup-refused u a r e p w = cc (p .1, w .1)
+
+pub call-open-open-refused : Spares call-open-open.Post (IsRefused verdicts.Refused)
+    (λ e. bare (now (e .0)) (now (e .1 .0)))
+unfolding openAfter
+call-open-open-refused u a r e p w = cc (p .1, w .1)
+
+pub call-open-close-refused : Spares call-open-close.Post (IsRefused verdicts.Refused)
+    (λ e. bare (now (e .0)) (now (e .1 .0)))
+unfolding closeAfter
+call-open-close-refused u a r e p w = cc (p .1, w .1)
+
+pub call-send-send-refused : Spares call-send-send.Post (IsRefused verdicts.Refused)
+    (λ e. stored (now (e .0)) (now (e .1 .0)) (now (e .1 .1 .0)))
+unfolding sendAfter
+call-send-send-refused u a r e p w = cc (p .1, w .1)
+
+pub call-send-urgent-refused : Spares call-send-urgent.Post (IsRefused verdicts.Refused)
+    (λ e. stored (now (e .0)) (now (e .1 .0)) (now (e .1 .1 .0)))
+unfolding urgentAfter
+call-send-urgent-refused u a r e p w = cc (p .1, w .1)
+
+pub call-arrive-arrive-refused : Spares call-arrive-arrive.Post (IsRefused arrived.Refused)
+    (λ e. whole (now (e .0)) (now (e .1 .0)) (now (e .1 .1 .0)) (now (e .1 .1 .1 .0)))
+call-arrive-arrive-refused u a r e p w =
+    let x = whole (now (a .0)) (now (a .1 .0)) (now (a .1 .1 .0)) (now (a .1 .1 .1 .0)) in
+    p .1 ∙ arrival-spared (w .0) x (now (a .1 .1 .1 .1 .0)) (sym (p .0) ∙ w .1)
+
+pub call-hand-out-hand-out-refused : Spares call-hand-out-hand-out.Post (IsRefused handed.Refused)
+    (λ e. whole (now (e .0)) (now (e .1 .0)) [] (now (e .1 .1 .1 .0)))
+unfolding handOutAfter
+call-hand-out-hand-out-refused u a r e p w = but-store (now (a .1 .1 .0)) (cc (p .1, w .1))
 
 -- ---- the frame writer
 

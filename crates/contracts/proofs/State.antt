@@ -50,7 +50,6 @@ use Rattle.slots.proofs.cells.length.Reads as slots-length
 use Rattle.slots.proofs.cells.put_length.Reads as slots-put-length
 use Rattle.slots.proofs.cells.timer.Reads as slots-timer
 use Rattle.slots.proofs.cells.put_timer.Reads as slots-put-timer
-use Rattle.slots.proofs.cells.retries.Reads as slots-retries
 use Rattle.slots.proofs.cells.put_retries.Reads as slots-put-retries
 use Rattle.slots.proofs.slot_for.Reads as slots-slot-for
 use Rattle.slots.proofs.cell_of.Reads as slots-cell-of
@@ -209,9 +208,6 @@ slots-timer-one u v a r₁ r₂ e₁ e₂ p q = cc
 
 pub slots-put-timer-one : OneAfter slots-put-timer.Post (λ e. now (e .0))
 slots-put-timer-one u v a r₁ r₂ e₁ e₂ p q = cc
-
-pub slots-retries-one : OneAnswer slots-retries.Post (λ r. r)
-slots-retries-one u v a r₁ r₂ e₁ e₂ p q = cc
 
 pub slots-put-retries-one : OneAfter slots-put-retries.Post (λ e. now (e .0))
 slots-put-retries-one u v a r₁ r₂ e₁ e₂ p q = cc

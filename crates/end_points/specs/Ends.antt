@@ -7,8 +7,8 @@ use lib.ListN.{getD}
 use lib.Seq.{sets}
 use lib.Dec.{eqb}
 use Rattle.units.specs.Refusals.{pick}
-use Rattle.memory.specs.Layout.{entryAt, remoteWord, channelWord, retriesWord, windowWord, largestWord, timeoutWord}
-use Rattle.memory.specs.Layout.{placeWord, stateWord}
+use Rattle.memory.specs.Layout.{entryAt, remoteWord, channelWord, retriesWord, windowWord, largestWord}
+use Rattle.memory.specs.Layout.{timeoutWord, placeWord, stateWord}
 use Rattle.memory.specs.Layout.{stateValueWord, stateFlagWord, startWord, lowMarksWord, highMarksWord, takenWord}
 use Rattle.memory.specs.Layout.{handedWord, acceptedWord, confirmedWord, urgentWord}
 use Rattle.table.specs.declared.Kind.{Kind}
@@ -36,7 +36,7 @@ stateOf tag value flag =
     (pick (eqb (tag % 4) 2) Open
     (Failing (value % 65536))))
 
--- what the table says, and where its part of the store begins
+-- what the table says, and where its area of the store begins
 unfoldable pub loadEntry : List ℕ → ℕ → Entry
 loadEntry ws i =
     record {
@@ -105,13 +105,13 @@ unfoldable pub saved : List ℕ → ℕ → State → Run → List ℕ
 saved ws i s r = sets ws (entryAt i + stateWord) (stateWords s ++ runWords r)
 
 -- entry i as the table has it, at its place in the store
-abbrev pub kindWord : Kind → ℕ
-kindWord Sends = 0
-kindWord Receives = 1
+abbrev pub kindNumber : Kind → ℕ
+kindNumber Sends = 0
+kindNumber Receives = 1
 
 abbrev pub entryWords : Entry → ℕ → List ℕ
 entryWords e place =
-    kindWord (e .kind) ∷ e .remote .0 ∷ e .channel .0 ∷ e .retries ∷ e .window ∷ e .largest ∷ e .timeout ∷ place ∷ []
+    kindNumber (e .kind) ∷ e .remote .0 ∷ e .channel .0 ∷ e .retries ∷ e .window ∷ e .largest ∷ e .timeout ∷ place ∷ []
 
 unfoldable pub savedEntry : List ℕ → ℕ → Entry → ℕ → List ℕ
 savedEntry ws i e place = sets ws (entryAt i) (entryWords e place)

@@ -18,11 +18,11 @@ use units::Unfolded;
 use window::Marks;
 use window::Window;
 ghost use mathlib.Core.Path.{_≡_};
-ghost use Prim.Native.Nat.{_+_, _<_};
+ghost use Prim.Native.Nat.{_<_};
 ghost use lib.ListN.{take, drop};
-ghost use Rattle.memory.specs.Layout.{entryAt};
+ghost use Rattle.memory.specs.Layout.{entryLong, entryAt};
 ghost use Rattle.end_points.specs.Ends.{kindOf, stateOf, loadEntry, placeIn, loadState, loadRun, endOf};
-ghost use Rattle.end_points.specs.Ends.{stateWords, kindWord, saved, savedEntry};
+ghost use Rattle.end_points.specs.Ends.{stateWords, kindNumber, saved, savedEntry};
 ghost use mathlib.Core.List.{[], _∷_};
 
 // Where an end point is in its life. [E1, E2, G7]
@@ -50,7 +50,7 @@ pub struct Run {
 
 pub struct EndPoint {
     pub entry: Entry,
-    // Where its part of the store begins.
+    // Where its area of the store begins.
     pub place: u16,
     pub state: State,
     pub run: Run,
@@ -84,7 +84,7 @@ fn state_of(tag: u64, value: u64, flag: u64) -> State
 // call of the node, no read of a word below tests it again.
 fn words_of(node: &[u64], i: usize) -> &[u64]
     requires { ⌜ i < 4096 ⌝ }
-    ensures { λ r. ⌜ now r ≡ take 32 (drop (entryAt i) (now (node .entry))) ⌝ }
+    ensures { λ r. ⌜ now r ≡ take entryLong (drop (entryAt i) (now (node .entry))) ⌝ }
 {
     let at = layout::ENTRY_AT + layout::ENTRY_WORDS * i;
     let end = at + layout::ENTRY_WORDS;
@@ -121,7 +121,7 @@ pub fn load_entry(node: &[u64], i: usize) -> Entry
     }
 }
 
-// Where the part of the store begins that is entry i's.
+// Where the area of the store begins that is entry i's.
 pub fn load_place(node: &[u64], i: usize) -> u16
     requires { ⌜ i < 4096 ⌝ }
     ensures { λ r. ⌜ r ≡ placeIn (now (node .entry)) i ⌝ }
@@ -232,7 +232,7 @@ fn state_words(s: State) -> Words
 }
 
 fn kind_word(k: Kind) -> u64
-    ensures { λ r. ⌜ r ≡ kindWord k ⌝ }
+    ensures { λ r. ⌜ r ≡ kindNumber k ⌝ }
 {
     match k {
         Kind::Sends => 0,

@@ -5,10 +5,10 @@
 pub mod nodes; // nodes.rt: the node's calls
 
 use frame::Fields;
-use frame::FrameType;
 use frame::Header;
 use frame::Read;
 use frame::Written;
+use frame::type_number;
 use units::Address;
 use units::Channel;
 use units::Seq;
@@ -22,19 +22,6 @@ ghost use mathlib.Core.Path.{_≡_};
 ghost use Rattle.frame.specs.Reading.{readOf};
 ghost use Rattle.frame.specs.Writing.{writeAnswer, writtenOf};
 ghost use Rattle.firmware.specs.Firmware.{readNumber, readFields, fieldsIn, writeNumber, windowNumber};
-ghost use Rattle.frame.specs.Types.{typeNumber};
-
-// A type's number.
-fn type_byte(t: FrameType) -> u8
-    ensures { λ r. ⌜ r ≡ typeNumber t ⌝ }
-{
-    match t {
-        FrameType::Data => 0,
-        FrameType::Acknowledge => 1,
-        FrameType::Reset => 2,
-        FrameType::Urgent => 3,
-    }
-}
 
 // The fields of a frame that was read, stored as C has them.
 fn put_fields(fields: &mut [u8], h: Header)
@@ -45,7 +32,7 @@ fn put_fields(fields: &mut [u8], h: Header)
         h.destination.0,
         h.protocol,
         h.source.0,
-        type_byte(kind),
+        type_number(kind),
         0,
         h.channel.0,
         h.seq.0,

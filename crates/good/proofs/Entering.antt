@@ -22,9 +22,9 @@ use Rattle.table.specs.declared.Entry.{Entry}
 use Rattle.table.specs.Layout.{countOf, startOf, entryFrom, entryOf}
 use Rattle.table.specs.Areas.{placeOf}
 use Rattle.table.specs.Rules.{goodTable}
-use Rattle.table.proofs.Good.{good-head, good-entry, good-store}
-use Rattle.table.proofs.Places.{area-in-store}
-use Rattle.end_points.specs.Ends.{word, kindOf, loadEntry, placeIn, endOf, kindWord, entryWords, stateWords, runWords, saved, savedEntry}
+use Rattle.table.proofs.Good.{good-head, good-entry, store-fits}
+use Rattle.table.proofs.Places.{areas-inside}
+use Rattle.end_points.specs.Ends.{word, kindOf, loadEntry, placeIn, endOf, kindNumber, entryWords, stateWords, runWords, saved, savedEntry}
 use Rattle.end_points.specs.States.{isSends}
 use Rattle.end_points.specs.declared.State.the-variants.{Closed}
 use Rattle.end_points.specs.declared.Run.{Run}
@@ -45,7 +45,7 @@ record EntryFits (e : Entry) : Type 0 where
   largest : e .largest < 65536
   timeout : e .timeout < 65536
 
-kind-back : (k : Kind) → kindOf (kindWord k) ≡ k
+kind-back : (k : Kind) → kindOf (kindNumber k) ≡ k
 kind-back Sends = refl
 kind-back Receives = refl
 
@@ -80,7 +80,7 @@ module _ (ws : List ℕ) (i : ℕ) (e : Entry) (place : ℕ) where
     unfolding loadEntry
     put-entry f =
         let z : entryAt i + 0 ≡ entryAt i = omega arith in
-        let h0 : getD (savedEntry ws i e place) (entryAt i) 0 ≡ kindWord (e .kind) = rw z at (put-at 0 (omega arith)) in
+        let h0 : getD (savedEntry ws i e place) (entryAt i) 0 ≡ kindNumber (e .kind) = rw z at (put-at 0 (omega arith)) in
         rw (
           h0,
           put-at 1 (omega arith),
@@ -128,7 +128,7 @@ module _ (t : List ℕ) (g : goodTable t ≡ true) (bytes : (k : ℕ) → getD t
       }
 
   place-fits : placeOf t i < 65536
-  place-fits = omega (arith, area-in-store t i h, good-store t g)
+  place-fits = omega (arith, areas-inside t i h, store-fits t g)
 
 -- ---- one entry is entered
 

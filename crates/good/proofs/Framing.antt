@@ -33,7 +33,8 @@ use Rattle.arrive_lookup.proofs.Rows.{row-ext}
 use Rattle.slots.specs.Slots.{slotFor, cell, past, lengthIn, timerIn}
 use Rattle.timing.specs.Timing.{clockIn, quietIn}
 use Rattle.table.proofs.Good.{good-head}
-use Rattle.good.specs.Good.{Lists, Lines, ownerOf, Ranged, mine, Share, Resends, Silent, Filled, Sending, Receiving, running, Anew, Stated, Entered, Outlasts, Timely, Tabled, Owed, Good}
+use Rattle.memory.specs.Layout.{ownerOf, Ranged}
+use Rattle.good.specs.Good.{Lists, Lines, mine, Share, Resends, Silent, Filled, Sending, Receiving, running, Anew, Stated, Entered, Outlasts, Timely, Tabled, Owed, Good}
 use Rattle.good.proofs.Members.{mine-append, mine-other, mine-apart, without-in, rest, rest-append, rest-own, rest-without}
 use Rattle.good.proofs.Lined.{added, less, added-here, added-there, added-in, append-lines, append-cells, unlink-lines, unlink-cells, set-lines}
 

@@ -21,7 +21,8 @@ use Rattle.call_hand_out.specs.declared.Next.{Next}
 use Rattle.call_hand_out.specs.declared.Next.the-variants as next
 use Rattle.call_hand_out.specs.Handing.{nextOut}
 use Rattle.memory.specs.Layout.{idEntry}
-use Rattle.good.specs.Good.{Lists, Lines, ownerOf, Ranged, mine, Silent, Stated, Good}
+use Rattle.memory.specs.Layout.{ownerOf, Ranged}
+use Rattle.good.specs.Good.{Lists, Lines, mine, Silent, Stated, Good}
 use Rattle.good.proofs.Members.{mine-all}
 
 -- ---- what waits first

@@ -18,7 +18,8 @@ use Rattle.window.proofs.Sizes.{size-le}
 use Rattle.end_points.specs.declared.Run.{Run}
 use Rattle.slots.specs.Slots.{slotFor, cell, past, numberIn, timerIn}
 use Rattle.memory.specs.Layout.{idCell, idSlot}
-use Rattle.good.specs.Good.{Lists, Lines, ownerOf, mine, idAt, ids, Resend, Resends, Sending}
+use Rattle.memory.specs.Layout.{ownerOf}
+use Rattle.good.specs.Good.{Lists, Lines, mine, idAt, ids, Resend, Resends, Sending}
 use Rattle.good.proofs.Members.{without, without-out}
 use Rattle.good.proofs.Lined.{less}
 use Rattle.good.proofs.Framing.{slot-lt}

@@ -30,11 +30,12 @@ use Rattle.end_points.specs.declared.EndPoint.{EndPoint}
 use Rattle.slots.specs.Slots.{cell, past}
 use Rattle.timing.specs.Timing.{clockIn, quietIn, later, heeded}
 use Rattle.timing.proofs.Falling.{later-runs}
+use Rattle.memory.specs.Layout.{ownerOf}
 use Rattle.good.proofs.Clocked.{Clocked, clocked-set, clocked-end, clocked-waiting, clocked-acks, heeded-apart, heeded-quiet, starts}
 use Rattle.call_hand_out.specs.declared.Next.the-variants as next
 use Rattle.call_hand_out.specs.Handing.{resetNode, outNode, outBook, handedOut}
 use Rattle.memory.specs.Layout.{resetEntry, urgentEntry}
-use Rattle.good.specs.Good.{Lists, ownerOf, mine, Silent, OpenSender, Anew, Entered, Timely, Owed, Good}
+use Rattle.good.specs.Good.{Lists, mine, Silent, OpenSender, Anew, Entered, Timely, Owed, Good}
 use Rattle.good.proofs.Lined.{less, unlink-cells}
 use Rattle.good.proofs.Framing.{Within, within-same, within-unlink, Apart, apart-then, apart-saved, apart-timely, timely-as, framed, count-low, entry-low}
 use Rattle.good.proofs.Offsets.{reset-owner, urgent-owner}

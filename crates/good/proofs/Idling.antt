@@ -246,13 +246,13 @@ module _ (b : List ℕ) (l : Lists) (i : ℕ) (r : Run) where
         }
 
 pub idle : (b : List ℕ) (l : Lists) (i : ℕ) → i < 16 → Lines b l → (e : EndPoint) → GoodWindow (e .run .window) → OpenSender b l i e
-    → Idled i b (idled i (e .run .window) (e .run .handed) (e .run .taken) (e .run .urgent) b) l
+    → Idled i b (idled i (e .run) b) l
 unfolding idled
 idle b l i low L e g o =
     let s = o .sending in
     let h = o .share in
     drop-idled b l i (e .run) low g (s .taken) (s .handed) (h .datas) (o .resends)
-    (idled i (e .run .window) (e .run .handed) (e .run .taken) (e .run .urgent) b) (h .resets)
+    (idled i (e .run) b) (h .resets)
     (drop-all b l i (e .run) low g (s .taken) (s .handed) (h .datas) (o .resends) (e .run .taken)
     (pick (eqb (e .run .urgent) 0) b (unlinked b (urgentId i))) (omega arith)
     (no-urgent i low (e .run .window) g b l (e .run .urgent) L (h .resets) (h .urgents)))

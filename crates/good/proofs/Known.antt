@@ -17,7 +17,8 @@ use Rattle.end_points.specs.Runs.{isNew}
 use Rattle.end_points.specs.declared.State.{State}
 use Rattle.end_points.specs.declared.State.the-variants.{Closed, Enabled, Open, Failing}
 use Rattle.end_points.specs.declared.EndPoint.{EndPoint}
-use Rattle.good.specs.Good.{Lists, ownerOf, mine, Silent, Stated, Entered}
+use Rattle.memory.specs.Layout.{ownerOf}
+use Rattle.good.specs.Good.{Lists, mine, Silent, Stated, Entered}
 use Rattle.good.proofs.Members.{mine-all}
 
 -- ---- by a test

@@ -10,7 +10,8 @@ use borrow.Author.Tests.{eq-eqb, ne-eqb, eqb-true, eqb-false}
 use Rattle.units.specs.Refusals.{pick}
 use Rattle.waiting.specs.Order.{Out, Below, Distinct}
 use Rattle.waiting.proofs.Linked.{last, first}
-use Rattle.good.specs.Good.{ownerOf, mine}
+use Rattle.memory.specs.Layout.{ownerOf}
+use Rattle.good.specs.Good.{mine}
 
 -- ---- members
 

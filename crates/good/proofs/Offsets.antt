@@ -16,7 +16,8 @@ use Rattle.window.proofs.Accepting.{accept-start, accept-size}
 use Rattle.window.proofs.Sizes.{size-pos, size-le, size-power}
 use Rattle.window.proofs.WindowLaw.{slot-byte, slots-apart}
 use Rattle.slots.specs.Slots.{slotFor, cell, past, numberIn}
-use Rattle.good.specs.Good.{ownerOf, Ranged, idAt, ids}
+use Rattle.memory.specs.Layout.{ownerOf, Ranged}
+use Rattle.good.specs.Good.{idAt, ids}
 use Rattle.good.proofs.Framing.{slot-lt}
 
 -- ---- whose it is

@@ -25,7 +25,7 @@ use Rattle.frame.specs.declared.FrameType.{FrameType}
 use Rattle.frame.specs.declared.FrameType.the-variants as type
 use Rattle.end_points.specs.Runs.{isNew}
 use Rattle.end_points.specs.declared.EndPoint.{EndPoint}
-use Rattle.arrive_data.specs.Receiving.{resetAfter, taken, repeated, dataAfter, urgentAfter as receivedUrgent}
+use Rattle.arrive_data.specs.Receiving.{resetAfter, firstTime, repeated, dataAfter, urgentAfter as receivedUrgent}
 use Rattle.units.specs.Refusals.{pick}
 use Rattle.call_arrive.specs.Arriving.{takenInAfter}
 use Rattle.good.specs.Good.{Lists, Good}
@@ -79,7 +79,7 @@ data-long : (x : Lent) (i : ℕ) (e : EndPoint) (s : ℕ) (p : List ℕ) → len
 unfolding dataAfter
 data-long x i e s p = sides (isNew (acceptOf (e .run .window) s .found))
   where
-    sides : (t : Bool) → length (pick t (taken x i e s p) (repeated x i s) .store) ≡ length (x .store)
+    sides : (t : Bool) → length (pick t (firstTime x i e s p) (repeated x i s) .store) ≡ length (x .store)
     sides true = length-sets (x .store) _ p
     sides false = refl
 

@@ -32,7 +32,7 @@ use Rattle.end_points.specs.declared.Run.{Run}
 use Rattle.end_points.specs.declared.EndPoint.{EndPoint}
 use Rattle.slots.specs.Slots.{cell, past, lengthIn}
 use Rattle.arrive_data.specs.Receiving.{acknowledged, resetAfter, resetNode, withWindow, windowNode, putBook}
-use Rattle.arrive_data.specs.Receiving.{taken, repeated, dataAfter}
+use Rattle.arrive_data.specs.Receiving.{firstTime, repeated, dataAfter}
 use Rattle.arrive_data.proofs.Taking.{dataAfter-new, dataAfter-other}
 use Rattle.timing.specs.Timing.{clockIn, quietIn}
 use Rattle.good.specs.Good.{Lists, Filled, OpenReceiver, Entered, Timely, Owed, Good}
@@ -276,11 +276,11 @@ module _ (t : List ℕ) (x : Lent) (l : Lists) (g : Good t (x .node) (x .book) l
       let p = window-puts (acknowledged (x .node) i s) i long-acked small v in
       (apart-then i (x .node) (acknowledged (x .node) i s) _ apart-acked (p .apart), p .waits, p .acks)
 
-  taken-keeps : isNew (acceptOf w s .found) ≡ true → Kept t x (taken x i e s p) l i
+  taken-keeps : isNew (acceptOf w s .found) ≡ true → Kept t x (firstTime x i e s p) l i
   taken-keeps new = record {
     lists = l;
     good =
-        receiver-put t (x .node) (x .book) l g i li k (taken x i e s p .node) (data-puts .0)
+        receiver-put t (x .node) (x .book) l g i li k (firstTime x i e s p .node) (data-puts .0)
         (rw (data-puts .1) (push-ring (x .node) acks-ring (i * 256 + s) room .most))
         (λ m h. sides m (ℕ-discrete (m / 256) i)
         (acks-owed m (subst (λ (ws : List ℕ). List·Memᴰ m ws) (data-puts .2) h)))

@@ -33,7 +33,8 @@ use Rattle.end_points.specs.declared.EndPoint.{EndPoint}
 use Rattle.slots.specs.Slots.{slotFor, cell, spot, past, lengthIn, timerIn}
 use Rattle.call_send.specs.Sending.{sendTests, sendAnswer, nextNumber, sentRun, sentBook, sent, sendAfter}
 use Rattle.timing.specs.Timing.{clockIn, quietIn}
-use Rattle.good.specs.Good.{Lists, Lines, Ranged, mine, idAt, ids, Share, Resends, Filled, Sending, OpenSender, Entered, Timely, Good}
+use Rattle.memory.specs.Layout.{Ranged}
+use Rattle.good.specs.Good.{Lists, Lines, mine, idAt, ids, Share, Resends, Filled, Sending, OpenSender, Entered, Timely, Good}
 use Rattle.good.proofs.Members.{mine-all, mine-append, mine-own}
 use Rattle.good.proofs.Lined.{added, append-cells}
 use Rattle.good.proofs.Known.{is-open, stated-as, entered-as}

@@ -12,7 +12,7 @@ use lib.Seq.{sets, sets-eq, length-take-le, drop-append-le, drop-append-add, tak
 use Rattle.table.specs.Layout.{entryOf}
 use Rattle.table.specs.Areas.{slotsOf, placeOf, storeOf}
 use Rattle.table.specs.declared.Entry.{Entry}
-use Rattle.table.proofs.Places.{slot-of-window, slot-of-urgent, slots-apart, slot-inside, areas-apart, area-in-store}
+use Rattle.table.proofs.Places.{slot-of-window, slot-of-urgent, slots-apart, slot-inside, areas-apart, areas-inside}
 use Rattle.table.proofs.Good.{good-entry}
 use Rattle.end_points.specs.Ends.{loadEntry, loadRun, endOf}
 use Rattle.end_points.specs.Heads.{countIn}
@@ -100,7 +100,7 @@ module _ (t ws b : List ℕ) (l : Lists) (g : Good t ws b l) where
   pub slot-room : (i : ℕ) → i < countIn ws → (q : ℕ) → q < slotsAt i → at i q + endOf ws i .entry .largest ≤ storeOf t
   slot-room i h q m =
       rw (at-is i h q, end-entry i h)
-      (let a = area-in-store t i (omega (arith, g .tabled .count)) in let c = slot-inside (entryOf t i) q m in omega arith)
+      (let a = areas-inside t i (omega (arith, g .tabled .count)) in let c = slot-inside (entryOf t i) q m in omega arith)
 
   -- two slots do not overlap
   module _ (i j q r n : ℕ) (st p : List ℕ) (hi : i < countIn ws) (hj : j < countIn ws) (hq : q < slotsAt i) (hr : r < slotsAt j)

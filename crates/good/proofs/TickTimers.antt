@@ -88,10 +88,10 @@ module _ (i : ℕ) (low : i < 16) (e : EndPoint) (g : GoodWindow (e .run .window
         }
 
     failed-turn : OpenSender b l i e → timerIn b (at k) ≡ now
-        → Turn now b (set (idled i (e .run .window) (e .run .handed) (e .run .taken) (e .run .urgent) b) (timerAt (at k)) 0) (at k)
+        → Turn now b (set (idled i (e .run) b) (timerAt (at k)) 0) (at k)
     failed-turn o one =
         let z = idle b l i low L e g o in
-        set-turn (idled i (e .run .window) (e .run .handed) (e .run .taken) (e .run .urgent) b) (z .within .lines .long) one (z .cells)
+        set-turn (idled i (e .run) b) (z .within .lines .long) one (z .cells)
 
     expired-turn : (f : Bool) (c m : ℕ) → Lives f b l i e → timerIn b (at k) ≢ 0 → timerIn b (at k) ≡ now → Turn now b (expired i e (at k) (record { book = b; failing = f; running = c; least = m }) .book) (at k)
     expired-turn true c m o runs one = set-turn b (L .long) one (λ x a. refl)
@@ -99,7 +99,7 @@ module _ (i : ℕ) (low : i < 16) (e : EndPoint) (g : GoodWindow (e .run .window
       where
         sides : (t : Bool)
             → Turn now b (pick {A = Ticked} t (record { book = appended (set (set b (timerAt (at k)) 0) (retriesAt (at k)) (retriesIn b (at k) + 1)) resends (idAt i (e .run .window) k); failing = false; running = c; least = m })
-            (record { book = set (idled i (e .run .window) (e .run .handed) (e .run .taken) (e .run .urgent) b) (timerAt (at k)) 0; failing = true; running = c; least = m }) .book) (at k)
+            (record { book = set (idled i (e .run) b) (timerAt (at k)) 0; failing = true; running = c; least = m }) .book) (at k)
         sides true = resent-turn o runs one (retriesIn b (at k) + 1)
         sides false = failed-turn o one
 

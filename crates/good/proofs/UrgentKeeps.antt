@@ -30,7 +30,8 @@ use Rattle.end_points.specs.declared.EndPoint.{EndPoint}
 use Rattle.slots.specs.Slots.{cell, spot, past, lengthIn}
 use Rattle.call_send.specs.Sending.{urgentTests, urgentAnswer, urgentRun, urged, urgentAfter}
 use Rattle.timing.specs.Timing.{clockIn, quietIn}
-use Rattle.good.specs.Good.{Lists, Lines, Ranged, mine, Resends, Sending, OpenSender, Entered, Timely, Good}
+use Rattle.memory.specs.Layout.{Ranged}
+use Rattle.good.specs.Good.{Lists, Lines, mine, Resends, Sending, OpenSender, Entered, Timely, Good}
 use Rattle.good.proofs.Members.{mine-all, mine-append, mine-own}
 use Rattle.good.proofs.Lined.{added, append-cells}
 use Rattle.good.proofs.Known.{is-open, stated-as, entered-as}

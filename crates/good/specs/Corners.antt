@@ -7,7 +7,7 @@ use mathlib.Core.Bool.{true, _&&_}
 use mathlib.Core.List.{List, List·Memᴰ}
 use lib.ListN.{length}
 use lib.Dec.{ltb}
-use Rattle.memory.specs.Layout.{entryAt, prevAt, lengthAt, retriesAt}
+use Rattle.memory.specs.Layout.{entryLong, entryAt, ackPlaces, queues, prevAt, lengthAt, retriesAt}
 use Rattle.waiting.specs.Acks.{waitingOf}
 use Rattle.frame.specs.declared.FrameType.{FrameType}
 use Rattle.table.specs.Layout.{entryOf}
@@ -23,12 +23,12 @@ use Rattle.good.specs.Good.{Lists, Good}
 
 -- of a good node: none of these corners [S1, I2, O2]
 pub record NoCorner (t ws b : List ℕ) (l : Lists) : Type 0 where
-  -- an entry's words lie in the node; so do the acknowledgements, of which no more than 32 wait
-  pub words : (i : ℕ) → i < countIn ws → (k : ℕ) → k < 32 → entryAt i + k < length ws
-  pub acks : waitingOf ws ≤ 32
+  -- an entry's words lie in the node; so do the acknowledgements, of which no more wait than there are places
+  pub words : (i : ℕ) → i < countIn ws → (k : ℕ) → k < entryLong → entryAt i + k < length ws
+  pub acks : waitingOf ws ≤ ackPlaces
   -- what waits has its links in the book
-  pub links : (q : ℕ) → q < 4 → (x : ℕ) → List·Memᴰ x (l q) → prevAt x < lengthAt 0
-  -- every number's cell lies in the book, in its own entry's part
+  pub links : (q : ℕ) → q < queues → (x : ℕ) → List·Memᴰ x (l q) → prevAt x < lengthAt 0
+  -- every number's cell lies in the book, in its own entry's area
   pub cells : (i : ℕ) → i < countIn ws → (s : ℕ) → retriesAt (cell i (endOf ws i .run .window) s) < length b
   -- every slot lies in the store that is asked for
   pub slots : (i : ℕ) → i < countIn ws → (k : ℕ) → k < slotsOf (entryOf t i .kind) (entryOf t i .window)

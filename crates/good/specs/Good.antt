@@ -7,9 +7,10 @@ use mathlib.Core.Logic.{_≢_}
 use mathlib.Core.Bool.{Bool, true, false}
 use mathlib.Core.List.{List, [], _∷_, List·Memᴰ}
 use lib.ListN.{length}
-use lib.Dec.{eqb, ltb}
+use lib.Dec.{eqb}
 use Rattle.units.specs.Refusals.{pick}
-use Rattle.memory.specs.Layout.{resets, urgents, resends, datas, resetId, urgentId, cellId, nodeWords, bookHalves}
+use Rattle.memory.specs.Layout.{nodeWords, bookHalves, resets, urgents, resends, datas, queues, resetId, urgentId}
+use Rattle.memory.specs.Layout.{cellId, ownerOf, Ranged, ackPlaces}
 use Rattle.waiting.specs.Acks.{waitingOf}
 use Rattle.waiting.specs.Order.{Queue, acksIn}
 use Rattle.window.specs.Windows.{newOf, held, Good as GoodWindow}
@@ -26,7 +27,7 @@ use Rattle.end_points.specs.declared.Run.{Run}
 use Rattle.end_points.specs.declared.EndPoint.{EndPoint}
 use Rattle.arrive_lookup.specs.Lookup.{Indexed}
 use Rattle.slots.specs.Slots.{cell, past, lengthIn, timerIn}
-use Rattle.timing.specs.Timing.{clockIn, quietIn, leftOf}
+use Rattle.timing.specs.Timing.{round, clockIn, quietIn, leftOf}
 
 -- ---- what waits
 
@@ -37,19 +38,9 @@ Lists = ℕ → List ℕ
 -- the book holds four queues, and nothing waits in two of them
 pub record Lines (b : List ℕ) (l : Lists) : Type 0 where
   pub long : length b ≡ bookHalves
-  pub queue : (q : ℕ) → q < 4 → Queue b q (l q)
-  pub high : (q : ℕ) → q < 4 → (x : ℕ) → List·Memᴰ x (l q) → 4 ≤ x
-  pub apart : (q r : ℕ) → q < 4 → r < 4 → q ≢ r → (x : ℕ) → List·Memᴰ x (l q) → List·Memᴰ x (l r) → ⊥
-
--- whose a thing that waits is
-unfoldable pub ownerOf : ℕ → ℕ
-ownerOf x = pick (ltb x 32) (x - 16) (pick (ltb x 64) (x - 32) ((x - 64) / 128))
-
--- which things wait in which queue
-unfoldable pub Ranged : ℕ → ℕ → Type 0
-Ranged zero x = (16 ≤ x) × (x < 32)
-Ranged (suc zero) x = (32 ≤ x) × (x < 48)
-Ranged (suc (suc q)) x = (64 ≤ x) × (x < 2112)
+  pub queue : (q : ℕ) → q < queues → Queue b q (l q)
+  pub high : (q : ℕ) → q < queues → (x : ℕ) → List·Memᴰ x (l q) → 4 ≤ x
+  pub apart : (q r : ℕ) → q < queues → r < queues → q ≢ r → (x : ℕ) → List·Memᴰ x (l q) → List·Memᴰ x (l r) → ⊥
 
 -- entry i's share of a list
 abbrev pub mine : ℕ → List ℕ → List ℕ
@@ -166,15 +157,16 @@ pub record Entered (b : List ℕ) (l : Lists) (i : ℕ) (e : EndPoint) : Type 0 
 
 -- ---- timers
 
--- of a timer that runs out at tick d, after tick c more than q ticks are left
+-- after tick c, more than q ticks are left of a timer that ends at tick d
 abbrev pub Outlasts : ℕ → ℕ → ℕ → Type 0
-Outlasts c q d = d ≢ 0 → (d ≤ 65535) × (q < leftOf c d)
+Outlasts c q d = d ≢ 0 → (d ≤ round) × (q < leftOf c d)
 
--- of each of a run's that entry i handed out
+-- so for every number of entry i's run that was handed out
 abbrev pub Outlast : ℕ → ℕ → List ℕ → ℕ → Run → Type 0
 Outlast c q b i r = (k : ℕ) → k < r .handed → Outlasts c q (timerIn b (cell i (r .window) (past (r .window) k)))
 
--- of each of entry i's; and a failing end with none running is recovered by the next tick, before which none may pass
+-- so for every timer of entry i; where a Failing end has none running no tick may pass before the entries are gone
+-- through, since the next one recovers it
 abbrev pub Timely : ℕ → ℕ → List ℕ → ℕ → EndPoint → State → Type 0
 Timely c q b i e Closed = Unit {0}
 Timely c q b i e (Enabled d sent) = Outlasts c q d
@@ -204,9 +196,9 @@ pub record Good (t ws b : List ℕ) (l : Lists) : Type 0 where
   pub table : goodTable t ≡ true
   pub long : length ws ≡ nodeWords
   pub tabled : Tabled ws t
-  pub acks : waitingOf ws ≤ 32
+  pub acks : waitingOf ws ≤ ackPlaces
   pub owed : (w : ℕ) → List·Memᴰ w (acksIn ws) → Owed ws w
   pub lines : Lines b l
-  pub known : (q : ℕ) → q < 4 → (x : ℕ) → List·Memᴰ x (l q) → (ownerOf x < countIn ws) × Ranged q x
+  pub known : (q : ℕ) → q < queues → (x : ℕ) → List·Memᴰ x (l q) → (ownerOf x < countIn ws) × Ranged q x
   pub entered : (i : ℕ) → i < countIn ws → Entered b l i (endOf ws i)
   pub timely : (i : ℕ) → i < countIn ws → Timely (clockIn ws) (quietIn ws) b i (endOf ws i) (endOf ws i .state)

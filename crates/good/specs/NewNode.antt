@@ -7,7 +7,7 @@ use lib.ListN.{replicate}
 use lib.Dec.{eqb}
 use Rattle.units.specs.Refusals.{pick}
 use Rattle.memory.specs.Layout.{nodeWords, bookHalves}
-use Rattle.timing.specs.Timing.{later, passed}
+use Rattle.timing.specs.Timing.{round, later, passed}
 use Rattle.good.specs.Calls.{Memory, after}
 use Rattle.machine.specs.Calls.{Call, opens, closes, counts, sends, urges, arrives, hands-out, ticks}
 
@@ -29,10 +29,10 @@ newAfter store c q (sends i p) = newAt store c q
 newAfter store c q (urges i p) = newAt store c q
 newAfter store c q (arrives block f) = newAt store c q
 newAfter store c q (hands-out buffer) = newAt store c q
-newAfter store c q ticks = newAt store (later c 1) (pick (eqb q 0) 65534 (q - 1))
+newAfter store c q ticks = newAt store (later c 1) (pick (eqb q 0) (round - 1) (q - 1))
 
 -- so after any calls but setup [N1]
 pub record NewStays : Type 0 where
   pub begins : (store : List ℕ) → newNode store ≡ newAt store 0 0
-  pub stays : (store : List ℕ) (c q : ℕ) → c ≤ 65535 → (k : Call) → after (newAt store c q) k ≡ newAfter store c q k
-  pub small : (c : ℕ) → c ≤ 65535 → later c 1 ≤ 65535
+  pub stays : (store : List ℕ) (c q : ℕ) → c ≤ round → (k : Call) → after (newAt store c q) k ≡ newAfter store c q k
+  pub small : (c : ℕ) → c ≤ round → later c 1 ≤ round

@@ -13,7 +13,7 @@ use Rattle.end_points.specs.declared.State.{State}
 use Rattle.end_points.specs.declared.State.the-variants.{Closed, Enabled, Open, Failing}
 use Rattle.end_points.specs.declared.answers.Was.the-variants as was
 use Rattle.machine.specs.Calls.{arrives}
-use Rattle.machine.specs.Machine.{Number, End, Sort, Machine, number, stated, counted, turned, notAgain, anew, offset, numberAt, ackedRun, running, passing, told, acked, acking, taken, step}
+use Rattle.machine.specs.Machine.{Number, End, Sort, Machine, number, stated, counted, turned, notAgain, anew, offset, numberAt, ackedRun, running, passing, told, acked, acking, takenIn, step}
 use Rattle.machine.specs.Sound.{Sound}
 use Rattle.machine.specs.Laws.{Is, answer, after}
 use Rattle.machine.specs.LawsArriving.{Comes, Opens, AckOpens, Ignored, EnabledIgnores, Runs, stopped, stateAfter, Confirms, AckConfirms, OtherIgnored}
@@ -29,7 +29,7 @@ ack-may m e p block up =
 
 ack-is : (t : List ℕ) (m : Machine) → Sound t m → (i : ℕ) (e : End) (s : ℕ) (p block f : List ℕ) → Comes m f i e type.Acknowledge s p
     → (z : State) → e .state ≡ z → isClosed z ≡ false → step m (arrives block f) ≡ acking m block i e s z
-unfolding taken
+unfolding takenIn
 ack-is t m S i e s p block f c z h up =
     come-is t m S f i e type.Acknowledge s p block c (ack-may m e p block (ap isClosed h ∙ up)) ∙ ap (acking m block i e s) h
 

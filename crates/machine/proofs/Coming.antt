@@ -30,7 +30,7 @@ use Rattle.end_points.specs.declared.State.{State}
 use Rattle.end_points.specs.declared.State.the-variants.{Open}
 use Rattle.arrive_lookup.specs.Fitting.{same, fits}
 use Rattle.machine.specs.Calls.{arrives}
-use Rattle.machine.specs.Machine.{End, acks, Machine, placeOf, entryFor, isOurs, mostAcks, blockRoom, taken, reading, arriving, step}
+use Rattle.machine.specs.Machine.{End, acks, Machine, placeOf, entryFor, isOurs, mostAcks, blockRoom, takenIn, reading, arriving, step}
 use Rattle.machine.specs.Sound.{Sound}
 use Rattle.machine.specs.Laws.{Is}
 use Rattle.machine.specs.LawsArriving.{Comes, fieldsFor, WrittenComes}
@@ -137,7 +137,7 @@ pub record May (m : Machine) (e : End) (q : FrameType) (p out : List ℕ) : Type
 
 -- it is taken in
 pub come-is : (t : List ℕ) (m : Machine) → Sound t m → (f : List ℕ) (i : ℕ) (e : End) (q : FrameType) (s : ℕ) (p out : List ℕ)
-    → Comes m f i e q s p → May m e q p out → step m (arrives out f) ≡ taken m out i e q s p
+    → Comes m f i e q s p → May m e q p out → step m (arrives out f) ≡ takenIn m out i e q s p
 unfolding step arriving reading
 come-is t m S f i e q s p out c y =
     let h = c .header in

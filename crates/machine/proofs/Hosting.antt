@@ -8,6 +8,7 @@ use mathlib.Core.List.{List, [], _∷_, _++_}
 use native.Mathlib.Omega.{arith}
 use lib.ListN.{length, set}
 use borrow.Author.Tests.{eq-eqb, ne-eqb, eqb-false, le-ltb, ltb-false, lt-leb, leb-false, not-false}
+use Rattle.units.specs.Limits.{mostAccepted}
 use Rattle.units.specs.Refusals.{pick}
 use Rattle.units.specs.declared.refusals.Refusal.{Refusal}
 use Rattle.units.specs.declared.refusals.Refusal.the-variants as refusal
@@ -18,7 +19,7 @@ use Rattle.end_points.specs.declared.State.{State}
 use Rattle.end_points.specs.declared.State.the-variants.{Closed, Enabled, Open, Failing}
 use Rattle.end_points.specs.declared.answers.Counted.the-variants.{Counts}
 use Rattle.machine.specs.Calls.{counts, sends}
-use Rattle.machine.specs.Machine.{End, resets, urgents, datas, Machine, Outcome, turned, waits, silent, past, anew, enabled, answers, done, tooShort, opening, closing, counting, senderTests, sendTests, taking, sending, isSome, urging, urgentSending, mostAccepted, step}
+use Rattle.machine.specs.Machine.{End, resets, urgents, datas, Machine, Outcome, turned, waits, silent, past, anew, enabled, answers, done, tooShort, opening, closing, counting, senderTests, sendTests, taking, sending, isSome, urging, urgentSending, step}
 use Rattle.machine.specs.Laws.{Is, answer, Anew, ofEntry}
 use Rattle.machine.specs.LawsCalls.{OpenGoes, Enables, OpenEnables, CloseGoes, Closes, CloseCloses, CountsGo, CountsTell, MaySend, SendGoes, Takes, SendTakes, MayUrge, UrgentGoes, Urges, UrgentTakes}
 use Rattle.machine.proofs.Entries.{elem-lt, elem-set-same}

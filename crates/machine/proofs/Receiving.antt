@@ -20,9 +20,9 @@ use Rattle.end_points.specs.declared.answers.Arrived.the-variants as arrived
 use Rattle.blocks.specs.Blocks.{blockOf}
 use Rattle.blocks.specs.Reading.{readBlock}
 use Rattle.blocks.proofs.Appending.{length-one}
-use Rattle.blocks.proofs.Reading.{read-written}
+use Rattle.blocks.proofs.Reading.{reads-back}
 use Rattle.machine.specs.Calls.{Answer, arrives}
-use Rattle.machine.specs.Machine.{End, acks, Machine, Outcome, node, turned, waits, holding, handing-on, anew, offset, heldRun, blockRoom, delivering, receiving, resetting, taken, step}
+use Rattle.machine.specs.Machine.{End, acks, Machine, Outcome, node, turned, waits, holding, handing-on, anew, offset, heldRun, blockRoom, delivering, receiving, resetting, takenIn, step}
 use Rattle.machine.specs.Sound.{Sound}
 use Rattle.machine.specs.Laws.{Is, answer, after, Free}
 use Rattle.machine.specs.LawsArriving.{Comes, Ready, Told, Delivers, StartDelivers, Holds, LaterHeld, OtherAcked, Begins, ResetBegins, UrgentDelivers}
@@ -52,7 +52,7 @@ ready m e p block r =
 tells : (m : Machine) (es : List End) (i s : ℕ) (ps : List (List ℕ)) (block : List ℕ) → length (blockOf ps) ≤ length block
     → Told m (waits acks i s (node m es (m .waiting))) (record { numbers = arrivedOf (arrived.At i (was.Data (length (blockOf ps)))); out = sets block 0 (blockOf ps) }) i s ps block
 tells m es i s ps block h =
-    record { numbers = refl; holds = read-written block ps h; beyond = beyond-stays block (blockOf ps) h; behind = waits-last m es acks i s }
+    record { numbers = refl; holds = reads-back block ps h; beyond = beyond-stays block (blockOf ps) h; behind = waits-last m es acks i s }
 
 module _ (t : List ℕ) (m : Machine) (S : Sound t m) (i : ℕ) (e : End) (s : ℕ) (p block f : List ℕ) (c : Comes m f i e type.Data s p) (r : Ready m e p block) where
   held-short : (k : ℕ) (q : List ℕ) → getElem? (e .places) k ≡ some (some q) → length q ≤ e .entry .largest
@@ -81,7 +81,7 @@ module _ (t : List ℕ) (m : Machine) (S : Sound t m) (i : ℕ) (e : End) (s : �
     e′ = handing-on (length (heldRun ps)) ps e
 
     new-is : step m (arrives block f) ≡ delivering i was.Data (heldRun ps) block (waits acks i s (turned i e′ m))
-    unfolding receiving taken
+    unfolding receiving takenIn
     new-is = come-is t m S f i e type.Data s p block c (ready m e p block r) ∙ rw (new-there (e .places) (offset e s) new)
 
     new-end : Is (waits acks i s (turned i e′ m)) i e′
@@ -135,7 +135,7 @@ module _ (t : List ℕ) (m : Machine) (S : Sound t m) (i : ℕ) (e : End) (s : �
   -- not new
   repeats : getElem? (e .places) (offset e s) ≢ some none
       → Told m (after m (arrives block f)) (answer m (arrives block f)) i s [] block × (after m (arrives block f) .ends ≡ m .ends)
-  unfolding receiving taken
+  unfolding receiving takenIn
   repeats old =
       carry (λ m′ a. Told m m′ a i s [] block × (m′ .ends ≡ m .ends))
       (come-is t m S f i e type.Data s p block c (ready m e p block r) ∙ rw (not-new (e .places) (offset e s) old))
@@ -162,7 +162,7 @@ other-acked t m S i e s p block f c r old = repeats t m S i e s p block f c r ol
 -- ---- a Reset and an Urgent
 
 pub reset-begins : ResetBegins
-unfolding ResetBegins resetting taken
+unfolding ResetBegins resetting takenIn
 reset-begins t m S i e s p block f c up few =
     carry (λ m′ a. Begins m m′ a i e × (a .out ≡ block))
     (come-is t m S f i e type.Reset s p block c
@@ -180,13 +180,13 @@ reset-begins t m S i e s p block f c up few =
     )
 
 pub urgent-delivers : UrgentDelivers
-unfolding UrgentDelivers taken
+unfolding UrgentDelivers takenIn
 urgent-delivers t m S i e s p block f c opened short room =
     carry (λ m′ a. (a .numbers ≡ 0 ∷ 5 ∷ i ∷ (10 + length p) ∷ []) × (readBlock (a .out) ≡ p ∷ []) × (drop (10 + length p) (a .out) ≡ drop (10 + length p) block) × (m′ ≡ m))
     (come-is t m S f i e type.Urgent s p block c
     (record { up = ap isClosed opened; opened = λ d. opened; short = λ d. short; few = λ d. absurd (false≢true d); room = λ d. room })) (
       rw (length-one p),
-      read-written block (p ∷ []) fit,
+      reads-back block (p ∷ []) fit,
       subst (λ (n : ℕ). drop n (sets block 0 (blockOf (p ∷ []))) ≡ drop n block) (length-one p) (beyond-stays block (blockOf (p ∷ [])) fit),
       refl,
     )

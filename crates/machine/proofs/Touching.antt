@@ -22,7 +22,7 @@ use Rattle.end_points.specs.declared.State.{State}
 use Rattle.end_points.specs.declared.State.the-variants.{Closed, Enabled, Open, Failing}
 use Rattle.end_points.specs.declared.answers.Was.the-variants as was
 use Rattle.end_points.specs.States.{isSends}
-use Rattle.machine.specs.Machine.{Number, End, Sort, acks, resets, urgents, datas, Machine, Outcome, stated, counted, turned, waits, silent, notAgain, past, taking, urging, anew, enabled, answers, unless, onEntry, offset, numberAt, timed, ackedRun, running, passing, told, acked, acking, heldRun, delivering, handing-on, isNew, receiving, resetting, taken, entryTests, entryFor, reading, isOurs}
+use Rattle.machine.specs.Machine.{Number, End, Sort, acks, resets, urgents, datas, Machine, Outcome, stated, counted, turned, waits, silent, notAgain, past, taking, urging, anew, enabled, answers, unless, onEntry, offset, numberAt, timed, ackedRun, running, passing, told, acked, acking, heldRun, delivering, handing-on, isNew, receiving, resetting, takenIn, entryTests, entryFor, reading, isOurs}
 use Rattle.machine.specs.Laws.{Is, Free}
 use Rattle.machine.proofs.Entries.{not-none}
 use Rattle.machine.proofs.Blocks.{Places}
@@ -107,8 +107,8 @@ module _ (P : Outcome → Type 0) (m : Machine) (out : List ℕ) (i : ℕ) (e : 
   by-state s Open = by-acked s (λ d. notAgain i s (turned i d m)) (λ n ns. stopped s (turns e (passing n ns e) here (same-follows e refl refl) as-was))
   by-state s (Failing n) = by-acked s (λ d. turned i (stated (Failing (running (d .numbers))) d) m) (λ n ns. turns e (stated (Failing (running (drop n ns))) (passing n ns e)) here (same-follows e refl refl) as-was)
 
-  by-taken : (q : FrameType) (s : ℕ) (p : List ℕ) → P (taken m out i e q s p)
-  unfolding taken receiving resetting
+  by-taken : (q : FrameType) (s : ℕ) (p : List ℕ) → P (takenIn m out i e q s p)
+  unfolding takenIn receiving resetting
   by-taken type.Data s p =
       let ps = set (e .places) (offset e s) (some p) in
       let e′ = handing-on (length (heldRun ps)) ps e in
@@ -126,7 +126,7 @@ module _ (P : Outcome → Type 0) (m : Machine) (out : List ℕ) (refused : (w :
   by-read (read.Refused w) p t = refused w
   by-read (read.Frame h) p t =
       by-entry P m (entryFor m h) _ _ (refused refusal.NoEndPoint)
-      (λ e z. by-verdict P (entryTests m e (h .kind) (h .length) (length out)) out m (taken m out (entryFor m h) e (h .kind) (h .seq .0) p) refused
+      (λ e z. by-verdict P (entryTests m e (h .kind) (h .length) (length out)) out m (takenIn m out (entryFor m h) e (h .kind) (h .seq .0) p) refused
       (λ v. by-taken P m out (entryFor m h) e z (t h refl) (h .kind) (h .seq .0) p))
 
 abbrev pub arrivalTests : Machine → List ℕ → List (Bool × Refusal)

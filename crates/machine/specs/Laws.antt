@@ -90,7 +90,8 @@ pub record Standing (m m′ : Machine) : Type 0 where
   pub count : length (m′ .ends) ≡ length (m .ends)
   pub entry : (i : ℕ) (e d : End) → Is m i e → Is m′ i d → d .entry ≡ e .entry
 
--- address, protocol ID, store and table stay: setup decides them [T17]
+-- address, protocol ID, the store that is asked for and the table stay: setup decides them. How long a store is lent
+-- comes with the call, and no call alters that either. [T17]
 unfoldable pub TableStays : Type 0
 TableStays = (m : Machine) (c : Call) → Standing m (after m c)
 

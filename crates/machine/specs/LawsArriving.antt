@@ -77,7 +77,7 @@ pub record Ready (m : Machine) (e : End) (p block : List ℕ) : Type 0 where
   pub room : blockRoom (e .entry) ≤ length block
 
 -- the answer is Data, the block holds these payloads and beyond its end nothing altered, and an acknowledgement of s
--- waits behind all others [A1, B1, B3, B4]
+-- waits behind all others [A1, B1, B3, B4, O8]
 pub record Told (m m′ : Machine) (a : Answer) (i s : ℕ) (ps : List (List ℕ)) (block : List ℕ) : Type 0 where
   pub numbers : a .numbers ≡ 0 ∷ 4 ∷ i ∷ length (blockOf ps) ∷ []
   pub holds : readBlock (a .out) ≡ ps
@@ -126,7 +126,7 @@ OtherAcked = (t : List ℕ) (m : Machine) → Sound t m → (i : ℕ) (e : End) 
 -- ---- a Reset and an Urgent
 
 -- Open, start 1, nothing held; the answer says how many were held; the entry's waiting acknowledgements go, and
--- acknowledgement 0 waits behind all others' [E11, E12, E13]
+-- acknowledgement 0 waits behind all others' [E11, E12, E13, O8]
 pub record Begins (m m′ : Machine) (a : Answer) (i : ℕ) (e : End) : Type 0 where
   pub numbers : a .numbers ≡ 0 ∷ 3 ∷ i ∷ heldCount (e .places) ∷ []
   pub end : End
@@ -145,7 +145,7 @@ ResetBegins = (t : List ℕ) (m : Machine) → Sound t m → (i : ℕ) (e : End)
     × (answer m (arrives block f) .out ≡ block)
 
 -- rules out the one that delivers only Data: an Urgent that comes at Open is delivered, is not acknowledged, and alters
--- nothing [E16, B1, B2, B3, B4]
+-- nothing [E16, B1, B2, B3, B4, O8]
 unfoldable pub UrgentDelivers : Type 0
 UrgentDelivers = (t : List ℕ) (m : Machine) → Sound t m → (i : ℕ) (e : End) (s : ℕ) (p block f : List ℕ)
     → Comes m f i e type.Urgent s p → e .state ≡ Open → length p ≤ e .entry .largest
@@ -167,14 +167,14 @@ pub record Opens (m m′ : Machine) (i : ℕ) (e : End) : Type 0 where
   pub waiting : (q : Sort) → m′ .waiting q ≡ without (ofEntry i) (m .waiting q)
 
 -- rules out the one that always answers "ignored": acknowledgement 0 after a Reset handed out opens a sender
--- [E9, E10, O4]
+-- [E9, E10, O4, O8]
 unfoldable pub AckOpens : Type 0
 AckOpens = (t : List ℕ) (m : Machine) → Sound t m → (i : ℕ) (e : End) (timer : ℕ) (p block f : List ℕ)
     → Comes m f i e type.Acknowledge 0 p → e .state ≡ Enabled timer true
     → (answer m (arrives block f) .numbers ≡ 0 ∷ 2 ∷ i ∷ []) × (answer m (arrives block f) .out ≡ block)
     × Opens m (after m (arrives block f)) i e
 
--- ignored: so it is answered, and nothing alters [A5]
+-- ignored: so it is answered, and nothing alters [A5, O8]
 pub record Ignored (m m′ : Machine) (a : Answer) (i : ℕ) (block : List ℕ) : Type 0 where
   pub numbers : a .numbers ≡ 0 ∷ 0 ∷ i ∷ []
   pub out : a .out ≡ block
@@ -210,7 +210,7 @@ stateAfter (Failing n) ns = Failing (running ns)
 
 -- an acknowledgement of s, which is x, that counts. Of the numbers with s acknowledged and its timer stopped, the start
 -- passes those acknowledged without a gap: all that it passes are, and the next is not or there is none. As many are
--- answered and confirmed; the retransmission of s, if it waits, goes. [W8, A3, A4]
+-- answered and confirmed; the retransmission of s, if it waits, goes. [W8, A3, A4, O8]
 pub record Confirms (m m′ : Machine) (a : Answer) (i : ℕ) (e : End) (s : ℕ) (x : Number) : Type 0 where
   pub passed : ℕ
   pub numbers : a .numbers ≡ 0 ∷ 1 ∷ i ∷ passed ∷ []

@@ -8,6 +8,7 @@ use mathlib.Core.Bool.{true, false}
 use mathlib.Core.Option.{none, some}
 use mathlib.Core.List.{List, [], _∷_, _++_}
 use lib.ListN.{length, replicate}
+use Rattle.units.specs.Limits.{mostAccepted}
 use Rattle.table.specs.Layout.{countOf, ownOf, protocolOf, entryOf}
 use Rattle.table.specs.Areas.{storeOf}
 use Rattle.table.specs.Rules.{goodTable}
@@ -15,7 +16,7 @@ use Rattle.end_points.specs.States.{isSends}
 use Rattle.end_points.specs.declared.State.the-variants.{Closed, Enabled, Open}
 use Rattle.machine.specs.Calls.{opens, closes, counts, sends, urges}
 use Rattle.machine.specs.Machine.{End, Sort, resets, urgents, datas, Machine}
-use Rattle.machine.specs.Machine.{number, end, urging, without, past, mostAccepted, setting}
+use Rattle.machine.specs.Machine.{number, end, urging, without, past, setting}
 use Rattle.machine.specs.Laws.{Is, answer, after, shareOf, WaitsLast, Anew, SameCounts, ofEntry}
 
 -- ---- setup

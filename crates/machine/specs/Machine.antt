@@ -10,6 +10,7 @@ use mathlib.Core.List.{List, [], _∷_, _++_}
 use lib.ListN.{length, drop, getD, getElem?, set, replicate}
 use lib.Seq.{sets}
 use lib.Dec.{eqb, leb, ltb}
+use Rattle.units.specs.Limits.{mostAccepted}
 use Rattle.units.specs.Refusals.{pick, verdict}
 use Rattle.units.specs.declared.Address.{Address}
 use Rattle.units.specs.declared.refusals.Refusal.{Refusal}
@@ -21,7 +22,7 @@ use Rattle.table.specs.Layout.{countOf, ownOf, protocolOf, entryOf}
 use Rattle.table.specs.Areas.{storeOf}
 use Rattle.table.specs.Rules.{goodTable}
 use Rattle.table.specs.declared.Entry.{Entry}
-use Rattle.frame.specs.Layout.{payloadOf, frameBytes}
+use Rattle.frame.specs.Layout.{destinationByte, protocolByte, payloadOf, frameBytes}
 use Rattle.frame.specs.Types.{typeNumber, carries, answered, forSender}
 use Rattle.frame.specs.Reading.{soundOf, headerOf}
 use Rattle.frame.specs.declared.Header.{Header}
@@ -302,10 +303,6 @@ senderTests e p =
     ∷ (ltb (e .entry .largest) (length p), refusal.PayloadLength)
     ∷ []
 
--- the most payloads that one run accepts [R8]
-abbrev pub mostAccepted : ℕ
-mostAccepted = 4294967295
-
 -- and then 8, 7, 6 [W3, R7, R8, R35]
 abbrev pub sendTests : Machine → End → List ℕ → List (Bool × Refusal)
 sendTests m e p =
@@ -360,7 +357,7 @@ unfoldable pub running : List Number → ℕ
 running [] = 0
 running (x ∷ xs) = pick (eqb (x .timer) 0) (running xs) (suc (running xs))
 
--- the start passes n of the numbers ns; confirmed is the number passed [W8, A4]
+-- the start passes n of the numbers ns, and confirmed grows by n [W8, A4]
 abbrev pub passing : ℕ → List Number → End → End
 passing n ns e = counted (e .accepted) (e .confirmed + n) (numbered (past e n) (drop n ns) e)
 
@@ -430,11 +427,11 @@ resetting m out i e =
 
 -- taken in by entry i, which is e: a frame of number s with payload p; an Urgent is delivered and not acknowledged
 -- [F16, E16]
-unfoldable pub taken : Machine → List ℕ → ℕ → End → FrameType → ℕ → List ℕ → Outcome
-taken m out i e type.Data s p = receiving m out i e s p
-taken m out i e type.Acknowledge s p = acking m out i e s (e .state)
-taken m out i e type.Reset s p = resetting m out i e
-taken m out i e type.Urgent s p = delivering i was.Urgent (p ∷ []) out m
+unfoldable pub takenIn : Machine → List ℕ → ℕ → End → FrameType → ℕ → List ℕ → Outcome
+takenIn m out i e type.Data s p = receiving m out i e s p
+takenIn m out i e type.Acknowledge s p = acking m out i e s (e .state)
+takenIn m out i e type.Reset s p = resetting m out i e
+takenIn m out i e type.Urgent s p = delivering i was.Urgent (p ∷ []) out m
 
 -- ---- an arrival
 
@@ -473,11 +470,11 @@ reading m out (read.Refused w) p = answers (answerOf (Refused w)) out m
 reading m out (read.Frame h) p =
     let i = entryFor m h in
     at m i (answers (answerOf (Refused refusal.NoEndPoint)) out m) λ e.
-    unless (entryTests m e (h .kind) (h .length) (length out)) out m (taken m out i e (h .kind) (h .seq .0) p)
+    unless (entryTests m e (h .kind) (h .length) (length out)) out m (takenIn m out i e (h .kind) (h .seq .0) p)
 
 -- destination and protocol ID are ours [F2, F3, R11]
 abbrev pub isOurs : Machine → List ℕ → Bool
-isOurs m f = eqb (getD f 0 0) (m .own .0) && eqb (getD f 1 0) (m .protocol)
+isOurs m f = eqb (getD f destinationByte 0) (m .own .0) && eqb (getD f protocolByte 0) (m .protocol)
 
 -- 10, 11 [R10, R11, R37]
 unfoldable pub arriving : Machine → List ℕ → List ℕ → Outcome

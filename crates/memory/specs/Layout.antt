@@ -1,6 +1,10 @@
--- What lies where in the node (words of 64 bits) and in the book (words of 16 bits). One field a word, nothing packed
--- but the index. Cited by whatever reads or writes either. All zeros is a new node. Assumes nothing.
-use Prim.Native.Nat.{ℕ, _+_, _-_, _*_, _/_, _%_}
+-- What lies where in the node (words of 64 bits) and in the book (half words of 16 bits). One field a word; only the
+-- index and a waiting acknowledgement pack more into one. Cited by whatever reads or writes either. All zeros is a new
+-- node. Assumes nothing.
+use Prim.Native.Nat.{ℕ, zero, suc, _+_, _-_, _*_, _/_, _%_, _≤_, _<_}
+use lib.Dec.{ltb}
+use Rattle.units.specs.Refusals.{pick}
+use Rattle.units.specs.Limits.{mostEntries}
 
 -- ---- the node
 
@@ -34,6 +38,16 @@ ackAt k = 32 + k
 abbrev pub ackPlaces : ℕ
 ackPlaces = 32
 
+-- the word of an acknowledgement of number s for entry i; and of such a word the entry and the number
+abbrev pub ackWord : ℕ → ℕ → ℕ
+ackWord i s = i * 256 + s
+
+abbrev pub ackEntry : ℕ → ℕ
+ackEntry w = w / 256 % 256
+
+abbrev pub ackNumber : ℕ → ℕ
+ackNumber w = w % 256
+
 -- the number of the last tick, and how many more pass before a timer can run out (crates/timing)
 abbrev pub clockAt : ℕ
 clockAt = 6
@@ -45,14 +59,14 @@ quietAt = 7
 abbrev pub rowAt : ℕ → ℕ
 rowAt v = 64 + v
 
--- entry i, of 32 words
+-- how many words an entry has, and where entry i begins
+abbrev pub entryLong : ℕ
+entryLong = 32
+
 abbrev pub entryAt : ℕ → ℕ
-entryAt i = 320 + 32 * i
+entryAt i = 320 + entryLong * i
 
--- an entry's words: what the table says of it, and where its part of the store begins
-abbrev pub kindWord : ℕ
-kindWord = 0
-
+-- an entry's words: its kind stands first; what else the table says of it, and where its area of the store begins
 abbrev pub remoteWord : ℕ
 remoteWord = 1
 
@@ -151,7 +165,7 @@ cellId g = 64 + g
 abbrev pub idCell : ℕ → ℕ
 idCell x = x - 64
 
--- the cell of slot k of entry i, and whose cell and which slot of its x is
+-- the cell of slot k of entry i; and of a payload that waits as x, its entry and its slot
 abbrev pub cellOf : ℕ → ℕ → ℕ
 cellOf i k = 128 * i + k
 
@@ -160,6 +174,21 @@ idEntry x = idCell x / 128 % 256
 
 abbrev pub idSlot : ℕ → ℕ
 idSlot x = idCell x % 128
+
+-- the entry that owns x, whatever waits as x [H3]
+unfoldable pub ownerOf : ℕ → ℕ
+ownerOf x =
+    pick (ltb x (urgentId 0)) (x - resetId 0) (pick (ltb x (cellId 0)) (x - urgentId 0) (idCell x / cellOf 1 0))
+
+-- which things wait in which queue: Resets, Urgents, and in the other two payloads [H3]
+unfoldable pub Ranged : ℕ → ℕ → Type 0
+Ranged zero x = (resetId 0 ≤ x) × (x < resetId mostEntries)
+Ranged (suc zero) x = (urgentId 0 ≤ x) × (x < urgentId mostEntries)
+Ranged (suc (suc q)) x = (cellId 0 ≤ x) × (x < cellId (cellOf mostEntries 0))
+
+-- what can wait has a number below this [H3]
+abbrev pub idsEnd : ℕ
+idsEnd = cellId (cellOf mostEntries 0)
 
 -- the links of what waits: what is behind it, and what before it
 abbrev pub nextAt : ℕ → ℕ

@@ -36,7 +36,7 @@ pub const ENTRY_AT: usize = 320;
 
 pub const ENTRY_WORDS: usize = 32;
 
-// an entry's words: what the table says of it, where its part of the store begins
+// an entry's words: what the table says of it, where its area of the store begins
 pub const KIND: usize = 0;
 
 pub const REMOTE: usize = 1;

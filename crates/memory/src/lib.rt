@@ -46,7 +46,8 @@ pub fn put_half(hs: &mut [u16], i: usize, h: u16)
     }
 }
 
-// Words stored one after the other, as many as there is room for.
+// Words stored one after the other, as many as there is room for. `put_all` (crates/units) does the same for bytes: the
+// language has no functions over any type.
 pub fn put_words(ws: &mut [u64], i: usize, words: &[u64])
     ensures { λ _. ⌜ now (ws .exit) ≡ sets (now (ws .entry)) i (now (words .entry)) ⌝ }
 {

@@ -29,7 +29,7 @@ use Rattle.end_points.specs.States.{isSends}
 use Rattle.end_points.specs.declared.State.{State}
 use Rattle.end_points.specs.declared.State.the-variants.{Closed, Enabled, Open, Failing}
 use Rattle.arrive_lookup.proofs.Found.{Fitting}
-use Rattle.machine.specs.Machine.{End, Machine, Outcome, found, judged, answers, isOurs, entryTests, entryFor, isNew, numberAt, acking, receiving, resetting, taken, reading, arriving, step}
+use Rattle.machine.specs.Machine.{End, Machine, Outcome, found, judged, answers, isOurs, entryTests, entryFor, isNew, numberAt, acking, receiving, resetting, takenIn, reading, arriving, step}
 use Rattle.machine.specs.Calls.{arrives}
 use Rattle.machine.specs.Sound.{Sound}
 use Rattle.machine.specs.Laws.{On}
@@ -51,7 +51,7 @@ pub record Taken (m : Machine) (block f : List ℕ) : Type 0 where
   pub there : getElem? (m .ends) (entryFor m header) ≡ some end
   pub fit : Fitting (end .entry) (forSender (header .kind)) (header .source .0) (header .channel .0)
   pub clear : Clear (entryTests m end (header .kind) (header .length) (length block))
-  pub is : arriving m block f ≡ taken m block (entryFor m header) end (header .kind) (header .seq .0) (payloadOf f)
+  pub is : arriving m block f ≡ takenIn m block (entryFor m header) end (header .kind) (header .seq .0) (payloadOf f)
 
 whole-read : (f : List ℕ) (h : Header) → soundOf f ≡ true → headerOf f ≡ read.Frame h → readOf f ≡ read.Frame h
 unfolding headerOf readOf
@@ -68,7 +68,7 @@ module _ (m : Machine) (block f : List ℕ) where
   abbrev entered : Header → Option End → Outcome
   entered h z =
       found z (answers (numberOf refusal.NoEndPoint ∷ []) block m)
-      (λ e. judged (verdict (tests h e)) block m (taken m block (entryFor m h) e (h .kind) (h .seq .0) (payloadOf f)))
+      (λ e. judged (verdict (tests h e)) block m (takenIn m block (entryFor m h) e (h .kind) (h .seq .0) (payloadOf f)))
 
   by-header : arriving m block f ≡ judged (verdict frameTests) block m (reading m block (headerOf f) (payloadOf f))
   unfolding arriving
@@ -146,8 +146,8 @@ module _ (m : Machine) (out : List ℕ) (k : ℕ) (x : End) (s : ℕ) (p : List 
   ack-done Open = either (numberAt x s .handed && not (numberAt x s .acked)) _ _ refl refl
   ack-done (Failing n) = either (numberAt x s .handed && not (numberAt x s .acked)) _ _ refl refl
 
-  taken-done : (q : FrameType) → Done (taken m out k x q s p)
-  unfolding taken receiving resetting
+  taken-done : (q : FrameType) → Done (takenIn m out k x q s p)
+  unfolding takenIn receiving resetting
   taken-done type.Data = either (isNew x s) _ _ refl refl
   taken-done type.Acknowledge = ack-done (x .state)
   taken-done type.Reset = refl
@@ -174,7 +174,7 @@ module _ (K : Watch) (t : List ℕ) (m : Machine) (S : Sound t m) (i : ℕ) (e :
     s = a .header .seq .0
 
     abbrev pub o : Outcome
-    o = taken m block k (a .end) q s (payloadOf f)
+    o = takenIn m block k (a .end) q s (payloadOf f)
 
     -- what is seen of it
     abbrev came : K .Seen
@@ -182,7 +182,7 @@ module _ (K : Watch) (t : List ℕ) (m : Machine) (S : Sound t m) (i : ℕ) (e :
 
     arrives-is : step m (arrives block f) ≡ o
     unfolding step
-    arrives-is = a .is ∙ ap (λ (z : FrameType). taken m block k (a .end) z s (payloadOf f)) kind
+    arrives-is = a .is ∙ ap (λ (z : FrameType). takenIn m block k (a .end) z s (payloadOf f)) kind
 
     pub seen : K .seen (arrives block f) (o .answer) ≡ came
     seen = K .comes block f (o .answer) ∙ rw (taken-done m block k (a .end) s (payloadOf f) q, a .read)
@@ -208,7 +208,7 @@ module _ (K : Watch) (t : List ℕ) (m : Machine) (S : Sound t m) (i : ℕ) (e :
     pub named : (own : Outcome → K .Seen) → isSends (e .entry .kind) ≡ forSender q
         → came ≡ pick (names (entryOf t i) (a .header .source .0) (a .header .channel .0)) (own o) (K .quiet)
         → (Clear (entryTests m e q (a .header .length) (length block))
-        → Follows K i m e (own (taken m block i e q s (payloadOf f))) (taken m block i e q s (payloadOf f)))
+        → Follows K i m e (own (takenIn m block i e q s (payloadOf f))) (takenIn m block i e q s (payloadOf f)))
         → Comes o
     named own b z here = sides (ℕ-discrete i k)
       where
@@ -223,10 +223,10 @@ module _ (K : Watch) (t : List ℕ) (m : Machine) (S : Sound t m) (i : ℕ) (e :
         tests : i ≡ k → Clear (entryTests m e q (a .header .length) (length block))
         tests c = rw (kind, same c) at (a .clear)
 
-        is : i ≡ k → taken m block i e q s (payloadOf f) ≡ o
+        is : i ≡ k → takenIn m block i e q s (payloadOf f) ≡ o
         is c =
-            ap (λ (j : ℕ). taken m block j e q s (payloadOf f)) c
-            ∙ ap (λ (x : End). taken m block k x q s (payloadOf f)) (sym (same c))
+            ap (λ (j : ℕ). takenIn m block j e q s (payloadOf f)) c
+            ∙ ap (λ (x : End). takenIn m block k x q s (payloadOf f)) (sym (same c))
 
         sides : Dec (i ≡ k) → Comes o
         sides (yes c) =

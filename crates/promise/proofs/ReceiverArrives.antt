@@ -22,11 +22,11 @@ use Rattle.end_points.specs.declared.State.{State}
 use Rattle.end_points.specs.declared.State.the-variants.{Closed, Enabled, Open, Failing}
 use Rattle.blocks.specs.Blocks.{blockOf}
 use Rattle.blocks.specs.Reading.{readBlock}
-use Rattle.blocks.proofs.Reading.{read-written}
+use Rattle.blocks.proofs.Reading.{reads-back}
 use Rattle.good.proofs.Arrivals.{payload-size}
 use Rattle.good.proofs.Known.{is-open}
 use Rattle.machine.specs.Calls.{arrives}
-use Rattle.machine.specs.Machine.{End, acks, Machine, Outcome, anew, offset, isNew, heldRun, handing-on, blockRoom, receiving, entryTests, resetting, taken, step, without}
+use Rattle.machine.specs.Machine.{End, acks, Machine, Outcome, anew, offset, isNew, heldRun, handing-on, blockRoom, receiving, entryTests, resetting, takenIn, step, without}
 use Rattle.machine.specs.Sound.{Sound}
 use Rattle.machine.proofs.Blocks.{Places, run-fits, block-fits, put-short}
 use Rattle.machine.proofs.Entries.{not-none, elem-lt, elem-set-same, elem-in}
@@ -70,12 +70,12 @@ module _ (t : List ℕ) (m : Machine) (S : Sound t m) (j : ℕ) (e : End) (there
         let held = put-short (e .places) (entryOf t j .largest) (offset e s) p
         (λ k q h. S .bounded j e there .held q (elem-in (e .places) k h) .most) short in
         let fits = run-fits (entryOf t j) ps (length-set (e .places) (offset e s) (some p) ∙ wide) held in
-        read-written out (heldRun ps) (omega (arith, fits, room))
+        reads-back out (heldRun ps) (omega (arith, fits, room))
 
     none-reads : readBlock (sets out 0 (blockOf [])) ≡ []
     none-reads =
         let fits = block-fits (entryOf t j) [] (omega arith) (λ k q h. not-none h) in
-        read-written out [] (omega (arith, fits, room))
+        reads-back out [] (omega (arith, fits, room))
 
     abbrev Takes : Outcome → Type 0
     Takes o = Follows K j m e (r-takes s p (readBlock (o .answer .out))) o
@@ -145,7 +145,7 @@ module _ (t : List ℕ) (m : Machine) (S : Sound t m) (j : ℕ) (e : End) (there
 
       comes : (a : Taken m block f) (q : FrameType) (kind : a .header .kind ≡ q)
           → RStep t m j e (arrives block f) (o K t m S j e there block f a q kind)
-      unfolding taken
+      unfolding takenIn
       comes a type.Data kind =
           named K t m S j e there block f a type.Data kind
           (λ v. r-takes (a .header .seq .0) (payloadOf f) (readBlock (v .answer .out))) receives

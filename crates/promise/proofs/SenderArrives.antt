@@ -15,7 +15,7 @@ use Rattle.end_points.specs.States.{isSends}
 use Rattle.end_points.specs.declared.State.{State}
 use Rattle.end_points.specs.declared.State.the-variants.{Closed, Enabled, Open, Failing}
 use Rattle.machine.specs.Calls.{arrives}
-use Rattle.machine.specs.Machine.{End, Number, Machine, Outcome, turned, notAgain, counted, anew, stated, offset, numberAt, timed, ackedRun, running, passing, acked, acking, taken, step}
+use Rattle.machine.specs.Machine.{End, Number, Machine, Outcome, turned, notAgain, counted, anew, stated, offset, numberAt, timed, ackedRun, running, passing, acked, acking, takenIn, step}
 use Rattle.machine.specs.Sound.{Sound}
 use Rattle.machine.proofs.Entries.{elem-lt, elem-set-same}
 use Rattle.promise.specs.History.{s-hears}
@@ -89,7 +89,7 @@ module _ (t : List ℕ) (m : Machine) (S : Sound t m) (i : ℕ) (e : End) (there
   module _ (sends : isSends (e .entry .kind) ≡ true) (block f : List ℕ) where
     comes : (a : Taken m block f) (q : FrameType) (kind : a .header .kind ≡ q)
         → SStep t m i e (arrives block f) (o K t m S i e there block f a q kind)
-    unfolding taken
+    unfolding takenIn
     comes a type.Acknowledge kind =
         named K t m S i e there block f a type.Acknowledge kind (λ v. s-hears (a .header .seq .0)) sends (rw kind)
         (λ c. hears block (a .header .seq .0) (e .state) refl)

@@ -50,7 +50,7 @@ unfolding machine.without machine.enabled machine.listed machine.begun machine.o
 calls = tt
 
 coming : Unit {0}
-unfolding fitting.fits machine.placeOf machine.arriving machine.reading machine.taken machine.acking machine.ackedRun machine.receiving machine.resetting machine.heldRun machine.heldCount
+unfolding fitting.fits machine.placeOf machine.arriving machine.reading machine.takenIn machine.acking machine.ackedRun machine.receiving machine.resetting machine.heldRun machine.heldCount
 coming = tt
 
 computes : Unit {0}

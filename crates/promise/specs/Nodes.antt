@@ -1,11 +1,12 @@
 -- DEMAND 3 of two nodes and their public calls: the promise of Link.antt, with what the calls' contracts say in the
 -- machine's place. Assumes nothing.
-use Prim.Native.Nat.{ℕ, _/_, _%_, _≤_}
+use Prim.Native.Nat.{ℕ, _≤_}
 use mathlib.Core.Path.{_≡_}
 use mathlib.Core.List.{List, [], _∷_}
 use lib.ListN.{length}
 use lib.Dec.{eqb}
 use Rattle.units.specs.Refusals.{pick}
+use Rattle.memory.specs.Layout.{ackEntry, ackNumber}
 use Rattle.waiting.specs.Order.{acksIn}
 use Rattle.table.specs.Areas.{storeOf}
 use Rattle.table.specs.Layout.{entryOf}
@@ -46,7 +47,7 @@ sender t i =
 -- the sequence bytes of the acknowledgements that wait for entry j
 abbrev pub owedIn : ℕ → List ℕ → List ℕ
 owedIn j [] = []
-owedIn j (w ∷ ws) = pick (eqb (w / 256 % 256) j) (w % 256 ∷ owedIn j ws) (owedIn j ws)
+owedIn j (w ∷ ws) = pick (eqb (ackEntry w) j) (ackNumber w ∷ owedIn j ws) (owedIn j ws)
 
 abbrev pub receiver : List ℕ → ℕ → RSide
 receiver u j =

@@ -38,8 +38,9 @@ use Rattle.timing.specs.Timing.{clockIn, roused}
 use Rattle.timing.proofs.Falling.{left-zero}
 use Rattle.arrive_ack.specs.Acking as memory
 use Rattle.arrive_ack.specs.Acking.{ackAnswer, countedNode, ackNode, ackBook, ackAfter, stopped}
+use Rattle.memory.specs.Layout.{ownerOf}
 use Rattle.good.specs.Good as good
-use Rattle.good.specs.Good.{Lists, Lines, Sending, OpenSender, FailingSender, Good, ownerOf, mine, idAt}
+use Rattle.good.specs.Good.{Lists, Lines, Sending, OpenSender, FailingSender, Good, mine, idAt}
 use Rattle.good.specs.Calls.{Memory, lent, kept}
 use Rattle.good.proofs.Members as members
 use Rattle.good.proofs.Members.{mine-all, mine-in, mem-out, without-out}

@@ -51,7 +51,7 @@ use Rattle.good.proofs.Framing.{count-low}
 use Rattle.good.proofs.Arrivals.{payload-size, header-byte}
 use Rattle.good.proofs.NoCorners.{no-corner}
 use Rattle.machine.specs.Machine as machine
-use Rattle.machine.specs.Machine.{End, acks, Machine, Outcome, answers, judged, found, placeOf, reading, arriving, taken, step}
+use Rattle.machine.specs.Machine.{End, acks, Machine, Outcome, answers, judged, found, placeOf, reading, arriving, takenIn, step}
 use Rattle.refinement.specs.Standing.{readAt, endFor, endAt, ackItem, waitingFor, standsFor, Follows}
 use Rattle.machine.proofs.Listed.{length-listed, getD-listed, elem-listed, elem-none}
 use Rattle.refinement.proofs.Following.{closed-for, open-for, size-is}
@@ -162,12 +162,12 @@ module _ (t : List ℕ) (n : Memory) (l : Lists) (g : Good t (n .node) (n .book)
     e = endOf (n .node) i
 
     abbrev TakesAs : FrameType → Type 0
-    TakesAs q = Takes t (taken M block i (endAt n i) q (h .seq .0) p) (arrived.At i (takenInAnswer x i e q (h .seq .0) p)) (takenInAfter x i e q (h .seq .0) p)
+    TakesAs q = Takes t (takenIn M block i (endAt n i) q (h .seq .0) p) (arrived.At i (takenInAnswer x i e q (h .seq .0) p)) (takenInAfter x i e q (h .seq .0) p)
 
     took : (q : FrameType) → isSends (e .entry .kind) ≡ forSender q → (carries q ≡ true → e .state ≡ Open)
         → (carries q ≡ true → length p ≤ e .entry .largest) → (carries q ≡ true → 1 ≤ length p)
         → (answered q ≡ true → waitingOf (n .node) < 32) → (carries q ≡ true → memory.blockRoom e ≤ length block) → TakesAs q
-    unfolding taken takenInAnswer takenInAfter
+    unfolding takenIn takenInAnswer takenInAfter
     took type.Data k o m s f r = data-takes t n l g room i li k block (o refl) (h .seq .0) hs p (s refl) (m refl) (f refl) (r refl)
     took type.Acknowledge k o m s f r = ack-takes t n l g room i li k (h .seq .0) hs block
     took type.Reset k o m s f r = reset-takes t n l g room i li k block (f refl) (h .seq .0) p
@@ -193,7 +193,7 @@ module _ (t : List ℕ) (n : Memory) (l : Lists) (g : Good t (n .node) (n .book)
         (λ d. ltb-false _ _ (and-false (carries (h .kind)) _ (c .1 .1 .1 .1 .1 .1 .0) d))
 
     at-entry : Takes t (judged (verdict (machine.entryTests M (endAt n i) (h .kind) (h .length) (length block))) block M
-        (taken M block i (endAt n i) (h .kind) (h .seq .0) p))
+        (takenIn M block i (endAt n i) (h .kind) (h .seq .0) p))
         (entryAnswer x i h p) (entryAfter x i h p)
     unfolding entryAnswer entryAfter
     at-entry = rw same (judge (entryVerdict x i h) _ _ _ passed)

@@ -47,7 +47,8 @@ use Rattle.call_hand_out.specs.Handing.{urgentFrame, dataFrame, frameOut, fitte
 use Rattle.call_hand_out.specs.Handing.{handedOut, handOutAfter, urgentPayload}
 use Rattle.call_hand_out.specs.declared.Next.{Next}
 use Rattle.call_hand_out.specs.declared.Next.the-variants as next
-use Rattle.good.specs.Good.{Lists, Lines, OpenSender, Good, ownerOf}
+use Rattle.memory.specs.Layout.{ownerOf}
+use Rattle.good.specs.Good.{Lists, Lines, OpenSender, Good}
 use Rattle.good.specs.Calls.{Memory, lent, kept, answer, after}
 use Rattle.machine.specs.Calls.{Call, hands-out}
 use Rattle.good.proofs.Lined.{less, unlink-lines, unlink-cells, set-lines}

@@ -54,7 +54,7 @@ use Rattle.good.proofs.Stores.{end-entry, slot-low}
 use Rattle.good.proofs.Payloads.{payload-apart, r-filled, Stored, unaltered, put}
 use Rattle.machine.specs.Machine as machine
 use Rattle.machine.specs.Machine.{End, Sort, acks, Machine, Outcome, listed, anew, turned, waits, silent, heldRun}
-use Rattle.machine.specs.Machine.{delivering, handing-on, receiving, taken}
+use Rattle.machine.specs.Machine.{delivering, handing-on, receiving, takenIn}
 use Rattle.refinement.specs.Standing.{readAt, payloadFor, endFor, endAt, ackItem, waitingFor, standsFor, Stands}
 use Rattle.machine.proofs.Listed.{length-listed, elem-listed}
 use Rattle.machine.proofs.Entries.{not-none, elem-in}
@@ -163,8 +163,8 @@ module _ (t : List ℕ) (n : Memory) (l : Lists) (g : Good t (n .node) (n .book)
         (ap (map ackItem) acks-then ∙ map-append ackItem (notOf i (acksIn (n .node))) ((i * 256 + 0) ∷ [])
         ∙ rw (not-map i (acksIn (n .node)), ack-item i 0 low (omega arith)))
 
-    pub reset-takes : (s : ℕ) (p : List ℕ) → Takes t (taken M block i (endAt n i) type.Reset s p) (At i (resetAnswer e)) (resetAfter x i e)
-    unfolding taken machine.resetting resetAnswer resetAfter
+    pub reset-takes : (s : ℕ) (p : List ℕ) → Takes t (takenIn M block i (endAt n i) type.Reset s p) (At i (resetAnswer e)) (resetAfter x i e)
+    unfolding takenIn machine.resetting resetAnswer resetAfter
     reset-takes s p =
         record {
           numbers = ap (λ (k : ℕ). 0 ∷ 3 ∷ i ∷ k ∷ []) (count-is (readAt n) (n .store) (n .book) i e kind window (size-is g li));
@@ -220,7 +220,7 @@ module _ (t : List ℕ) (n : Memory) (l : Lists) (g : Good t (n .node) (n .book)
 
     -- in the window and new
     module _ (new : isNew (acceptOf w s .found) ≡ true) where
-      now-new : now-d ≡ memory.taken x i e s p
+      now-new : now-d ≡ memory.firstTime x i e s p
       unfolding dataAfter
       now-new = rw new
 

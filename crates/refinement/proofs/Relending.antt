@@ -1,36 +1,40 @@
--- Another store: a memory stands for the same machine where it has the same bytes in the entries' parts, or where no end
+-- Another store: a memory stands for the same machine where it has the same bytes in the entries' areas, or where no end
 -- point has a payload. Assumes nothing.
 use Prim.Native.Nat.{ℕ, zero, suc, _+_, _≤_, _<_}
 use mathlib.Core.Path.{_≡_, refl, sym, ap, subst, _∙_}
 use mathlib.Core.Bool.{Bool, true, false, not, _&&_}
 use mathlib.Core.Option.{Option, none, some}
-use mathlib.Core.List.{List, [], _∷_, List·Memᴰ}
+use mathlib.Core.List.{List, [], _∷_, List·Memᴰ, List·Memᴰ·head, List·Memᴰ·tail}
 use native.Mathlib.Omega.{arith}
-use lib.ListN.{length, take, drop, getElem?}
+use lib.ListN.{length, take, drop, replicate, getElem?}
 use lib.Dec.{eqb}
-use borrow.Author.Tests.{eqb-true}
+use borrow.Author.Tests.{eqb-true, eq-eqb}
 use Rattle.units.specs.Refusals.{pick}
 use Rattle.window.specs.Windows.{held}
+use Rattle.window.specs.declared.Window.{Window}
+use Rattle.window.proofs.Resetting.{new-held}
 use Rattle.window.proofs.Holding.{held-below}
 use Rattle.table.specs.Layout.{countOf, entryOf}
 use Rattle.table.specs.Areas.{storeOf, slotsOf}
 use Rattle.end_points.specs.Ends.{endOf}
 use Rattle.end_points.specs.Heads.{countIn}
 use Rattle.end_points.specs.States.{isSends}
+use Rattle.end_points.specs.declared.State.{State}
+use Rattle.end_points.specs.declared.State.the-variants.{Closed, Enabled, Open, Failing}
 use Rattle.end_points.specs.declared.EndPoint.{EndPoint}
 use Rattle.slots.specs.Slots.{slotFor, cell, spot, past, lengthIn}
 use Rattle.call_hand_out.specs.Handing.{urgentPayload}
-use Rattle.good.specs.Good.{Lists, Good, Filled}
+use Rattle.good.specs.Good.{Lists, Fresh, Stated, Good, Filled}
 use Rattle.good.specs.Calls.{Memory, relent}
 use Rattle.good.proofs.Stores.{slot-low, slot-room, urgent-low}
 use Rattle.good.proofs.Payloads.{s-filled, r-filled}
 use Rattle.machine.specs.Machine.{End, Machine, listed, lending}
 use Rattle.machine.proofs.Listed.{listed-ext, elem-listed, length-listed}
-use Rattle.machine.proofs.Entries.{not-none, elem-in}
-use Rattle.refinement.specs.Standing.{readAt, payloadFor, numberFor, placeFor, endFor, endAt, standsFor, Stands}
-use Rattle.refinement.specs.Standing.{Relends, Empty, RelendsAny}
-use Rattle.refinement.proofs.Elsewhere.{numbers-same, end-same, no-urgent, none-taken, urgent-most}
-use Rattle.refinement.proofs.Following.{size-is}
+use Rattle.machine.proofs.Entries.{not-none, elem-lt, elem-in}
+use Rattle.refinement.specs.Standing.{Reading, readAt, payloadFor, numberFor, placeFor, stateFor, endFor, endAt, standsFor, Stands}
+use Rattle.refinement.specs.Standing.{Relends, Empty, Idle, IdleIsEmpty, RelendsAny}
+use Rattle.refinement.proofs.Elsewhere.{numbers-same, end-same, none-held, no-urgent, none-taken, urgent-most}
+use Rattle.refinement.proofs.Following.{stated-at, size-is}
 
 -- ---- bytes of two lists that begin alike
 
@@ -84,7 +88,7 @@ module _ (t : List ℕ) (n : Memory) (l : Lists) (g : Good t (n .node) (n .book)
       (λ k h. numbers-same (readAt n) (n .store) s (n .book) (n .book) i e k (taken k h) refl refl)
       places urgent (no-urgent g li)
 
-  -- ---- the same bytes in the entries' parts
+  -- ---- the same bytes in the entries' areas
 
   module _ (alike : take (storeOf t) s ≡ take (storeOf t) (n .store)) where
     filled-same : (k : ℕ) → Filled (n .book) i (e .run .window) (e .entry .largest) k → Same k
@@ -138,6 +142,56 @@ module _ (t : List ℕ) (n : Memory) (l : Lists) (g : Good t (n .node) (n .book)
     end-empty : endAt (relent s n) i ≡ endAt n i
     end-empty =
         end-as (λ k h. absurd (omega (arith, none-taken-here))) (λ k q h. absurd (none-held-here k q h)) (λ q. rw none-urgent)
+
+-- ---- Closed and Enabled end points have no payload
+
+fresh-empty : (L : Reading) (st b : List ℕ) (i : ℕ) (e : EndPoint) → Fresh (e .run) → Empty (endFor L st b i e)
+unfolding endFor listed
+fresh-empty L st b i e f =
+    record {
+      numbers = rw (f .taken) refl;
+      places = λ p m.
+          no-some (e .entry .window) p
+          (subst (List·Memᴰ (some p))
+          (none-held st b i e (λ k. ap (λ (w : Window). held w k) (f .window) ∙ new-held (e .run .window .size) k)) m);
+      urgent = rw (eq-eqb (e .run .urgent) 0 (f .urgent)) refl;
+    }
+  where
+    no-some : (n : ℕ) (p : List ℕ) → List·Memᴰ (some p) (replicate n none) → ⊥
+    no-some (suc n) p (List·Memᴰ·head h) = not-none (sym h)
+    no-some (suc n) p (List·Memᴰ·tail h) = no-some n p h
+
+-- a run of such a state is fresh, of a sender and of a receiver
+fresh-idle : (b : List ℕ) (l : Lists) (i : ℕ) (e : EndPoint) (k : Bool) (s : State) → Stated b l i e k s → (L : Reading)
+    → Idle (stateFor L s) → Fresh (e .run)
+fresh-idle b l i e true Closed a L h = a .fresh
+fresh-idle b l i e false Closed a L h = a .fresh
+fresh-idle b l i e true (Enabled d sent) a L h = a .fresh
+fresh-idle b l i e false (Enabled d sent) a L h = a .0 .fresh
+fresh-idle b l i e k Open a L h = absurd h
+fresh-idle b l i e k (Failing timers) a L h = absurd h
+
+pub idle-is-empty : IdleIsEmpty
+unfolding IdleIsEmpty endFor
+idle-is-empty t n m S i e here idle =
+    subst Empty is
+    (fresh-empty (readAt n) (n .store) (n .book) i (endOf (n .node) i)
+    (fresh-idle (n .book) (S .lists) i (endOf (n .node) i) (isSends (endOf (n .node) i .entry .kind)) (endOf (n .node) i .state)
+    (stated-at (S .good) li (isSends (endOf (n .node) i .entry .kind)) refl (endOf (n .node) i .state) refl) (readAt n)
+    (subst (λ (d : End). Idle (d .state)) (sym is) idle)))
+  where
+    there : getElem? (listed (countOf t) (endAt n)) i ≡ some e
+    there = ap (λ (y : Machine). getElem? (y .ends) i) (S .is) ∙ here
+
+    li : i < countIn (n .node)
+    li =
+        let l = elem-lt (listed (countOf t) (endAt n)) i there in
+        omega (arith, l, length-listed (countOf t) (endAt n), S .good .tabled .count)
+
+    is : endAt n i ≡ e
+    is =
+        let same = sym (elem-listed (countOf t) (endAt n) i (omega (arith, li, S .good .tabled .count))) ∙ there in
+        cc (same)
 
 pub relends : Relends
 unfolding Relends

@@ -34,7 +34,8 @@ use Rattle.slots.specs.Slots.{slotFor, cell, past, timerIn, retriesIn, spot}
 use Rattle.call_hand_out.specs.Handing.{urgentPayload}
 use Rattle.call_send.specs.Sending as memory
 use Rattle.call_send.specs.Sending.{nextNumber, sentRun, sentBook, sendAnswer, sendAfter, urgentRun, urgentAnswer, urgentAfter}
-use Rattle.good.specs.Good.{Lists, OpenSender, Good, Ranged}
+use Rattle.memory.specs.Layout.{Ranged}
+use Rattle.good.specs.Good.{Lists, OpenSender, Good}
 use Rattle.good.specs.Calls.{Memory, lent, kept, answer, after}
 use Rattle.machine.specs.Calls.{sends, urges}
 use Rattle.good.proofs.Lined.{append-cells, append-lines}

@@ -32,7 +32,8 @@ use Rattle.end_points.specs.declared.State.the-variants.{Closed, Enabled, Open,
 use Rattle.end_points.specs.declared.EndPoint.{EndPoint}
 use Rattle.slots.specs.Slots.{slotFor, cell, past, spot, lengthIn}
 use Rattle.call_hand_out.specs.Handing.{urgentPayload}
-use Rattle.good.specs.Good.{Lists, Good, Stated, Filled, mine, ownerOf, idAt}
+use Rattle.memory.specs.Layout.{ownerOf}
+use Rattle.good.specs.Good.{Lists, Good, Stated, Filled, mine, idAt}
 use Rattle.good.specs.Calls.{Memory}
 use Rattle.good.proofs.Known.{stated-as, receiver-silent, silent-out}
 use Rattle.good.proofs.Members.{mine-all}

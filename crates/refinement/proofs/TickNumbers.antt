@@ -340,7 +340,7 @@ module _ (st b : List ℕ) (l : Lists) (L : Lines b l) (i : ℕ) (low : i < 16) 
     by-end : d ≢ 0 → d ≡ now → (a : Bool) → t .failing ≡ a → (c : Bool) → ltb r₁ M ≡ c
         → Next (pick a (come-to timer-book true (t .running) (t .least))
         (pick c (come-to (appended tried-book layout.resends (cellId (at k))) false (t .running) (t .least))
-        (come-to (set (idled i w (e .run .handed) (e .run .taken) (e .run .urgent) (t .book)) (timerAt (at k)) 0) true (t .running) (t .least))))
+        (come-to (set (idled i (e .run) (t .book)) (timerAt (at k)) 0) true (t .running) (t .least))))
     by-end n z true h c q = fails z (on-next ∙ rw (good-is true h)) (t .book) (λ u h. refl) long (t .running) (t .least)
     by-end n z false h true q = tries n z (good-is false h) (lt-leb M r (let y = ltb-true r₁ M q in let u = r-here in omega arith)) (t .running) (t .least)
     by-end n z false h false q =
@@ -348,7 +348,7 @@ module _ (st b : List ℕ) (l : Lists) (L : Lines b l) (i : ℕ) (low : i < 16) 
         let s : leb M r ≡ true = le-leb M r (omega (arith, r-here)) in
         let I = idle (t .book) (S .lists) i low (S .within .lines) e g (open-now (good-is false h)) in
         fails z (on-next ∙ rw (good-is false h, s, due-one n z))
-        (idled i w (e .run .handed) (e .run .taken) (e .run .urgent) (t .book)) (I .cells) (I .within .lines .long) (t .running) (t .least)
+        (idled i (e .run) (t .book)) (I .cells) (I .within .lines .long) (t .running) (t .least)
 
     by-timer : (a : Bool) → eqb n₁ 0 ≡ a → (c : Bool) → eqb n₁ now ≡ c
         → Next (pick a t (pick c (expired i e (at k) t) (come-to (t .book) (t .failing) (t .running + 1) (soonest (t .least) now n₁))))

@@ -19,7 +19,8 @@ use Rattle.end_points.specs.Ends.{endOf}
 use Rattle.end_points.specs.declared.EndPoint.{EndPoint}
 use Rattle.end_points.specs.Heads.{countIn}
 use Rattle.end_points.specs.States.{isSends}
-use Rattle.good.specs.Good.{Lists, Lines, Silent, ownerOf, Good, mine}
+use Rattle.memory.specs.Layout.{ownerOf}
+use Rattle.good.specs.Good.{Lists, Lines, Silent, Good, mine}
 use Rattle.good.specs.Calls.{Memory}
 use Rattle.good.proofs.Members as members
 use Rattle.good.proofs.Members.{without-out, rest, rest-all, rest-in}

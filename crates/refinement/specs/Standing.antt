@@ -1,7 +1,7 @@
 -- Which machine a node's memory stands for, and the whole theorem: setup stands for the machine begun, and each call
 -- on what stands for a machine answers as the machine and leaves what stands for the machine afterwards. Assumes
 -- nothing.
-use Prim.Native.Nat.{ℕ, _/_, _%_, _≤_}
+use Prim.Native.Nat.{ℕ, _≤_}
 use mathlib.Core.Path.{_≡_}
 use mathlib.Core.Bool.{not, _&&_}
 use mathlib.Core.Option.{Option, none, some}
@@ -28,7 +28,8 @@ use Rattle.call_open.specs.Opening.{stateAnswer}
 use Rattle.blocks.specs.Payloads.{payloadAt}
 use Rattle.call_hand_out.specs.Handing.{urgentPayload}
 use Rattle.memory.specs.Layout.{idSlot}
-use Rattle.good.specs.Good.{Lists, Good, ownerOf}
+use Rattle.memory.specs.Layout.{ownerOf}
+use Rattle.good.specs.Good.{Lists, Good}
 use Rattle.good.specs.Calls.{Memory, answer, after, SetUp, relent, Reach}
 use Rattle.good.specs.NewNode.{newAt}
 use Rattle.machine.specs.Calls.{Call, Fed}
@@ -42,7 +43,7 @@ use Rattle.machine.specs.Machine.{Machine, lending, listed, begun, blank, setup
 abbrev pub payloadFor : List ℕ → List ℕ → ℕ → EndPoint → ℕ → List ℕ
 payloadFor st b i e k = payloadAt st b i (e .place) (e .entry .largest) (e .run .window) k
 
--- how the number of the tick at which a timer runs out reads: what is left of it
+-- what the number of a tick, kept as a timer, means: the ticks that are left
 abbrev pub Reading : Type 0
 Reading = ℕ → ℕ
 
@@ -91,7 +92,7 @@ endAt n i = endFor (readAt n) (n .store) (n .book) i (endOf (n .node) i)
 -- ---- what waits
 
 abbrev pub ackItem : ℕ → Item
-ackItem w = record { entry = w / 256 % 256; number = w % 256 }
+ackItem w = record { entry = layout.ackEntry w; number = layout.ackNumber w }
 
 abbrev pub plainItem : ℕ → Item
 plainItem x = record { entry = ownerOf x; number = 0 }
@@ -165,7 +166,19 @@ pub record Empty (e : End) : Type 0 where
   pub places : (p : List ℕ) → List·Memᴰ (some p) (e .places) → ⊥
   pub urgent : e .urgent ≡ none
 
--- where no end point has one, so with a store of any content: outside every run a host may lend another [P11]
+-- so where it is Closed or Enabled [E8]
+abbrev pub Idle : State → Type 0
+Idle Closed = Unit {0}
+Idle (Enabled timer sent) = Unit {0}
+Idle Open = ⊥
+Idle (Failing timers) = ⊥
+
+unfoldable pub IdleIsEmpty : Type 0
+IdleIsEmpty = (t : List ℕ) (n : Memory) (m : Machine) → Stands t n m
+    → (i : ℕ) (e : End) → getElem? (m .ends) i ≡ some e → Idle (e .state) → Empty e
+
+-- where no end point has one, so with a store of any content: a host may lend another while all are Closed or Enabled
+-- [P11]
 unfoldable pub RelendsAny : Type 0
 RelendsAny = (t : List ℕ) (n : Memory) (m : Machine) → Stands t n m
     → ((i : ℕ) (e : End) → getElem? (m .ends) i ≡ some e → Empty e) → (s : List ℕ) → storeOf t ≤ length s

@@ -11,6 +11,7 @@ use Rattle.waiting.specs.Queues.{unlinked}
 use Rattle.window.specs.Numbers.{distanceOf, byteOf}
 use Rattle.window.specs.Windows.{held}
 use Rattle.window.specs.declared.Window.{Window}
+use Rattle.end_points.specs.declared.Run.{Run}
 
 -- sequence s uses slot s mod W [S3]
 abbrev pub slotFor : Window → ℕ → ℕ
@@ -20,7 +21,7 @@ slotFor w s = pick (eqb (w .size) 0) 0 (s % w .size)
 abbrev pub cell : ℕ → Window → ℕ → ℕ
 cell i w s = cellOf i (slotFor w s)
 
--- where a slot begins in the store: the entry's part begins at a place and has slots of P bytes [S2, S5]
+-- where a slot begins in the store: the entry's area begins at a place and has slots of P bytes [S2, S5]
 abbrev pub spot : ℕ → ℕ → ℕ → ℕ
 spot place largest slot = place + slot * largest
 
@@ -58,5 +59,6 @@ dropSlots i w handed (suc n) b = dropSlot i w handed n (dropSlots i w handed n b
 
 -- nothing of an open sender waits any more: its Urgent, where one of some length does, its data and retransmissions
 -- [E7, D8]
-unfoldable pub idled : ℕ → Window → ℕ → ℕ → ℕ → List ℕ → List ℕ
-idled i w handed taken urgent b = dropSlots i w handed taken (pick (eqb urgent 0) b (unlinked b (urgentId i)))
+unfoldable pub idled : ℕ → Run → List ℕ → List ℕ
+idled i r b =
+    dropSlots i (r .window) (r .handed) (r .taken) (pick (eqb (r .urgent) 0) b (unlinked b (urgentId i)))

@@ -5,7 +5,7 @@ use memory::put_half;
 ghost use mathlib.Core.Path.{_≡_};
 ghost use lib.ListN.{set};
 ghost use Rattle.memory.specs.Layout.{lengthAt, timerAt, retriesAt};
-ghost use Rattle.slots.specs.Slots.{lengthIn, timerIn, retriesIn};
+ghost use Rattle.slots.specs.Slots.{lengthIn, timerIn};
 
 // The length of the payload in cell g.
 pub fn length(book: &[u16], g: u16) -> u16
@@ -33,13 +33,6 @@ pub fn put_timer(book: &mut [u16], g: u16, d: u16)
     ensures { λ _. ⌜ now (book .exit) ≡ set (now (book .entry)) (timerAt g) d ⌝ }
 {
     put_half(book, layout::TIMER_AT + g as usize, d)
-}
-
-// How often the payload in cell g was sent again.
-pub fn retries(book: &[u16], g: u16) -> u16
-    ensures { λ r. ⌜ r ≡ retriesIn (now (book .entry)) g ⌝ }
-{
-    half_at(book, layout::RETRIES_AT + g as usize)
 }
 
 // The payload in cell g was sent again n times.

@@ -2,6 +2,7 @@
 // Proved: each function is the definition of specs/Slots.antt that it cites, for every memory.
 pub mod cells; // cells.rt: what the book says of a cell
 
+use end_points::Run;
 use memory::layout;
 use units::Seq;
 use waiting::queues;
@@ -9,7 +10,6 @@ use window::Window;
 use window::advance;
 use window::distance;
 ghost use mathlib.Core.Path.{_≡_};
-ghost use Prim.Native.Nat.{_+_, _*_};
 ghost use lib.ListN.{take, drop};
 ghost use Rattle.slots.specs.Slots.{slotFor, cell, spot, waitsIn, dropSlot, dropSlots, idled, numberIn};
 
@@ -109,13 +109,13 @@ pub fn drop_slots(book: &mut [u16], i: u8, w: Window, taken: u8, handed: u8)
 }
 
 // Nothing of an open sender waits any more.
-pub fn idle(book: &mut [u16], i: u8, w: Window, taken: u8, handed: u8, urgent: u16)
-    ensures { λ _. ⌜ now (book .exit) ≡ idled i w handed taken urgent (now (book .entry)) ⌝ }
+pub fn idle(book: &mut [u16], i: u8, r: Run)
+    ensures { λ _. ⌜ now (book .exit) ≡ idled i r (now (book .entry)) ⌝ }
 {
-    if urgent == 0 {
-        drop_slots(book, i, w, taken, handed);
+    if r.urgent == 0 {
+        drop_slots(book, i, r.window, r.taken, r.handed);
         return;
     }
     queues::unlink(book, layout::URGENT_ID + i as u16);
-    drop_slots(book, i, w, taken, handed)
+    drop_slots(book, i, r.window, r.taken, r.handed)
 }

@@ -150,8 +150,8 @@ module _ (t : List ℕ) (g : goodTable t ≡ true) (i : ℕ) (l : i < countOf t)
 
 -- The store
 
-pub good-store : (t : List ℕ) → goodTable t ≡ true → storeOf t ≤ 32768
-good-store t g = groups t g .1 .1
+pub store-fits : StoreFits
+store-fits t g = groups t g .1 .1
 
 -- One entry for a kind, a remote address and a channel
 
@@ -167,8 +167,7 @@ earlier t g i j l m = not-true _ (every-at j (λ k. not (agree (entryOf t j) (en
 clash : (b : Bool) → b ≡ true → b ≡ false → ⊥
 clash b p q = let z : _≡_ {A = ℕ} 0 1 = cc in omega arith
 
-pub one-entry : (t : List ℕ) → goodTable t ≡ true → (i j : ℕ) → i < countOf t → j < countOf t
-    → entryOf t i .kind ≡ entryOf t j .kind → entryOf t i .remote .0 ≡ entryOf t j .remote .0 → entryOf t i .channel .0 ≡ entryOf t j .channel .0 → i ≡ j
+pub one-entry : OneEntry
 one-entry t g i j li lj k r c = sides (decLt i j) (decLt j i)
   where
     sides : Dec (i < j) → Dec (j < i) → i ≡ j
@@ -177,11 +176,3 @@ one-entry t g i j li lj k r c = sides (decLt i j) (decLt j i)
     sides (no p) (no q) = omega arith
 
 -- as specs/Laws.antt states them
-
-pub the-one-entry : OneEntry
-unfolding OneEntry
-the-one-entry = one-entry
-
-pub the-store-fits : StoreFits
-unfolding StoreFits
-the-store-fits = good-store

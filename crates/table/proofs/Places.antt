@@ -11,7 +11,7 @@ use Rattle.table.specs.declared.Kind.the-variants.{Sends, Receives}
 use Rattle.table.specs.declared.Entry.{Entry}
 use Rattle.table.specs.Layout.{countOf, entryOf}
 use Rattle.table.specs.Areas.{slotsOf, areaOf, placeOf, storeOf}
-use Rattle.table.specs.Laws.{PartsApart, PartsInside}
+use Rattle.table.specs.Laws.{AreasApart, AreasInside}
 
 -- Slots in an area
 
@@ -55,7 +55,7 @@ unfolding placeOf
 place-next t k = refl
 
 -- no area reaches past the place of a later entry
-pub areas-apart : (t : List ℕ) (i j : ℕ) → i < j → placeOf t i + areaOf (entryOf t i) ≤ placeOf t j
+pub areas-apart : AreasApart
 unfolding placeOf
 areas-apart t i zero l = absurd (omega arith)
 areas-apart t i (suc j) l = sides (areas-apart t i j) (decLt i j)
@@ -65,20 +65,12 @@ areas-apart t i (suc j) l = sides (areas-apart t i j) (decLt i j)
     sides below (no p) = let e : i ≡ j = omega arith in rw e (omega arith)
 
 -- nor past the store
-pub area-in-store : (t : List ℕ) (i : ℕ) → i < countOf t → placeOf t i + areaOf (entryOf t i) ≤ storeOf t
+pub areas-inside : AreasInside
 unfolding storeOf
-area-in-store t i l = areas-apart t i (countOf t) l
+areas-inside t i l = areas-apart t i (countOf t) l
 
 pub slot-in-store : (t : List ℕ) (i k : ℕ) → i < countOf t → k < slotsOf (entryOf t i .kind) (entryOf t i .window)
     → placeOf t i + k * entryOf t i .largest + entryOf t i .largest ≤ storeOf t
-slot-in-store t i k l m = omega (arith, area-in-store t i l, slot-inside (entryOf t i) k m)
+slot-in-store t i k l m = omega (arith, areas-inside t i l, slot-inside (entryOf t i) k m)
 
 -- ---- as specs/Laws.antt states them
-
-pub parts-apart : PartsApart
-unfolding PartsApart
-parts-apart = areas-apart
-
-pub parts-inside : PartsInside
-unfolding PartsInside
-parts-inside = area-in-store

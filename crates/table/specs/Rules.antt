@@ -5,6 +5,7 @@ use mathlib.Core.List.{List}
 use lib.ListN.{length}
 use lib.Dec.{eqb, leb}
 use Rattle.units.specs.Sizes.{mayWrite}
+use Rattle.units.specs.Limits.{mostEntries, mostStore}
 use Rattle.units.specs.declared.Address.{Address}
 use Rattle.table.specs.declared.Kind.{Kind}
 use Rattle.table.specs.declared.Kind.the-variants.{Sends, Receives}
@@ -26,7 +27,7 @@ isAddress a = leb 32 (a .0) && leb (a .0) 254
 -- a byte keeps to 255 [T1, T4, T7, T8, T9]
 unfoldable pub headGood : List ℕ → Bool
 headGood t =
-    leb (countOf t) 16
+    leb (countOf t) mostEntries
     && eqb (length t) (startOf (countOf t))
     && eqb (firstOf t) headSize
     && isAddress (ownOf t)
@@ -41,7 +42,7 @@ timed Receives timeout retries = eqb timeout 0 && eqb retries 0
 
 -- an entry's own numbers: remote address, largest payload, timeout and retries [T8, T12, T13, T14]
 unfoldable pub numbersGood : Entry → Bool
-numbersGood e = isAddress (e .remote) && leb 1 (e .largest) && leb (e .largest) 32768
+numbersGood e = isAddress (e .remote) && leb 1 (e .largest) && leb (e .largest) mostStore
     && timed (e .kind) (e .timeout) (e .retries)
 
 -- the bytes of entry i: a kind that there is, a window that may be written, two zeros, its numbers [T5, T6, T10]
@@ -67,7 +68,7 @@ entryGood t i = formGood t i && apart t i
 
 -- the areas come to at most 32,768 bytes [T16]
 unfoldable pub fits : List ℕ → Bool
-fits t = leb (storeOf t) 32768
+fits t = leb (storeOf t) mostStore
 
 -- a table that breaks no rule [R1]
 unfoldable pub goodTable : List ℕ → Bool

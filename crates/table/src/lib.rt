@@ -1,8 +1,8 @@
 // The channel table: what its bytes say, which tables are good, and which area of the lent store each
 // entry owns.
 // Proved: each function is the definition of specs/ that it cites, for every slice; none asks anything of
-// its caller. specs/Rules.antt says which tables are good, specs/Areas.antt where the areas lie. Laws for
-// whoever uses a good table are in proofs/Good.antt, of the areas in proofs/Places.antt.
+// its caller. specs/Rules.antt says which tables are good, specs/Areas.antt where the areas lie, specs/Laws.antt
+// what holds of good tables.
 mod layout; // layout.rt: reading the bytes
 mod areas; // areas.rt: the entries' areas of the lent store
 mod rules; // rules.rt: which tables are good

@@ -16,6 +16,7 @@ use crate::layout::window_from;
 use crate::layout::zeros_from;
 use units::Address;
 use units::bytes::byte_at;
+use units::limits;
 use units::sizes::is_size;
 ghost use mathlib.Core.Path.{_≡_};
 ghost use Prim.Native.Nat.{_<_};
@@ -28,7 +29,7 @@ ghost use Rattle.table.specs.Rules.{entryGood, agree as Rules·agree, ap
 pub fn is_good(table: &[u8]) -> bool
     ensures { λ r. ⌜ r ≡ goodTable (now (table .entry)) ⌝ }
 {
-    head_good(table) && entries_good(table) && store_need(table) <= 32768
+    head_good(table) && entries_good(table) && store_need(table) <= limits::STORE
 }
 
 // Whether the head keeps its rules, and the length is the count's.
@@ -36,7 +37,7 @@ fn head_good(table: &[u8]) -> bool
     ensures { λ r. ⌜ r ≡ headGood (now (table .entry)) ⌝ }
 {
     let n = count(table) as usize;
-    n <= 16
+    n <= limits::ENTRIES as usize
         && table.len() == HEAD + ENTRY * n
         && first(table) as usize == HEAD
         && is_address(own(table))
@@ -99,7 +100,7 @@ fn numbers_good(e: Entry) -> bool
     let kind = e.kind;
     is_address(e.remote)
         && 1 <= e.largest
-        && e.largest <= 32768
+        && e.largest <= limits::PAYLOAD
         && timed(kind, e.timeout, e.retries)
 }
 

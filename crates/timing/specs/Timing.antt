@@ -17,13 +17,17 @@ clockIn ws = getD ws clockAt 0 % 65536
 abbrev pub quietIn : List ℕ → ℕ
 quietIn ws = getD ws quietAt 0
 
+-- ticks are numbered from 1 to this and round again, so that the longest timer takes one whole round
+abbrev pub round : ℕ
+round = 65535
+
 -- the number of the tick n ticks after tick c
 abbrev pub later : ℕ → ℕ → ℕ
-later c n = pick (leb (c + n) 65535) (c + n) (c + n - 65535)
+later c n = pick (leb (c + n) round) (c + n) (c + n - round)
 
 -- what is left after tick c of a timer that runs out at tick d: 1 to 65,535 where it runs [D3]
 abbrev pub leftOf : ℕ → ℕ → ℕ
-leftOf c d = pick (eqb d 0) 0 (pick (ltb c d) (d - c) (d + (65535 - c)))
+leftOf c d = pick (eqb d 0) 0 (pick (ltb c d) (d - c) (d + (round - c)))
 
 -- the least of what is left of the timers that run, one more of which was looked at
 abbrev pub soonest : ℕ → ℕ → ℕ → ℕ

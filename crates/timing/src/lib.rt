@@ -50,7 +50,7 @@ pub fn left(c: u16, d: u16) -> u16
     d + (ROUND - c)
 }
 
-// The less of what was left at least so far and what is left of a timer that runs out at tick d.
+// The smaller of `least` and what is left, after tick c, of a timer that runs out at tick d.
 pub fn soonest(least: u16, c: u16, d: u16) -> u16
     ensures { λ r. ⌜ r ≡ soonestOf least c d ⌝ }
 {
@@ -71,7 +71,7 @@ pub fn one_less(n: u16) -> u64
     (n - 1) as u64
 }
 
-// Tick c has passed, and so many more may.
+// Tick c has passed; `quiet` more may pass before the entries have to be gone through.
 pub fn pass(node: &mut [u64], c: u16, quiet: u64)
     ensures { λ _. ⌜ now (node .exit) ≡ passed (now (node .entry)) c quiet ⌝ }
 {
@@ -89,7 +89,7 @@ fn less(a: u64, b: u64) -> u64
     b
 }
 
-// A timer starts at t.
+// A timer of t ticks starts: fewer than t may pass before the entries are gone through.
 pub fn heed(node: &mut [u64], t: u16)
     ensures { λ _. ⌜ now (node .exit) ≡ heeded (now (node .entry)) t ⌝ }
 {

@@ -1,3 +1,4 @@
 pub mod Refusals
 pub mod Bytes
 pub mod Sizes
+pub mod Limits

@@ -3,6 +3,7 @@
 // Proved: each function is the definition of specs/ that it cites, for every input; none asks anything
 // of its caller. A read past the end gives 0, a store past the end alters nothing.
 pub mod bytes; // bytes.rt: reading and writing lent bytes
+pub mod limits; // limits.rt: the protocol's limits
 pub mod sizes; // sizes.rt: which numbers are window sizes, and the default
 pub mod refusals; // refusals.rt: why a call is refused, and what it answers then
 

@@ -1,11 +1,11 @@
 -- The waiting acknowledgements: a ring of 32 words in the node, each an entry and a sequence number. Cited by arrival,
 -- handing out and close. Assumes nothing.
-use Prim.Native.Nat.{ℕ, zero, suc, _+_, _*_, _/_, _%_}
+use Prim.Native.Nat.{ℕ, zero, suc, _+_, _%_}
 use mathlib.Core.List.{List}
 use lib.ListN.{getD, set}
 use lib.Dec.{eqb}
 use Rattle.units.specs.Refusals.{pick}
-use Rattle.memory.specs.Layout.{oldestAt, acksAt, ackAt, ackPlaces}
+use Rattle.memory.specs.Layout.{oldestAt, acksAt, ackAt, ackPlaces, ackEntry, ackNumber}
 use Rattle.waiting.specs.declared.acks.Ack.{Ack}
 
 -- where the oldest stands, and how many wait
@@ -19,7 +19,7 @@ abbrev pub oldestOf : List ℕ → ℕ
 oldestOf ws = getD ws (ackAt (placeOf ws)) 0
 
 abbrev pub ackOf : ℕ → Ack
-ackOf w = record { entry = w / 256 % 256; seq = record { 0 = w % 256 } }
+ackOf w = record { entry = ackEntry w; seq = record { 0 = ackNumber w } }
 
 -- one more, the last [H3, I2]
 unfoldable pub pushed : List ℕ → ℕ → List ℕ
@@ -31,7 +31,7 @@ popped ws = set (set ws oldestAt ((placeOf ws + 1) % ackPlaces)) acksAt ((waitin
 
 -- the oldest goes, and to the end where it is not entry i's; a full turn leaves those of the others, in their order
 unfoldable pub turned : ℕ → List ℕ → List ℕ
-turned i ws = pick (eqb (oldestOf ws / 256 % 256) i) (popped ws) (pushed (popped ws) (oldestOf ws))
+turned i ws = pick (eqb (ackEntry (oldestOf ws)) i) (popped ws) (pushed (popped ws) (oldestOf ws))
 
 unfoldable pub turns : ℕ → ℕ → List ℕ → List ℕ
 turns i zero ws = ws

@@ -1,13 +1,13 @@
 -- What waits, as lists: a queue of the book that holds some numbers in order, and the acknowledgements of the node,
 -- oldest first. Cited by what is proved of nodes that setup and calls can give. Assumes nothing.
-use Prim.Native.Nat.{ℕ, zero, suc, _+_, _/_, _%_, _<_}
+use Prim.Native.Nat.{ℕ, zero, suc, _+_, _%_, _<_}
 use mathlib.Core.Path.{_≡_}
 use mathlib.Core.Logic.{_≢_}
 use mathlib.Core.List.{List, [], _∷_}
 use lib.ListN.{getD}
 use lib.Dec.{eqb}
 use Rattle.units.specs.Refusals.{pick}
-use Rattle.memory.specs.Layout.{ackAt}
+use Rattle.memory.specs.Layout.{idsEnd, ackAt, ackPlaces, ackEntry}
 use Rattle.waiting.specs.Queues.{nextOf, prevOf}
 use Rattle.waiting.specs.Acks.{placeOf, waitingOf}
 
@@ -38,12 +38,12 @@ Below n (y ∷ ys) = (y < n) × Below n ys
 pub record Queue (b : List ℕ) (q : ℕ) (items : List ℕ) : Type 0 where
   pub chain : Chain b q items q
   pub distinct : Distinct (q ∷ items)
-  pub below : Below 2112 (q ∷ items)
+  pub below : Below idsEnd (q ∷ items)
 
 -- n words of the ring from a place on
 unfoldable pub from : List ℕ → ℕ → ℕ → List ℕ
 from ws k zero = []
-from ws k (suc n) = getD ws (ackAt k) 0 ∷ from ws ((k + 1) % 32) n
+from ws k (suc n) = getD ws (ackAt k) 0 ∷ from ws ((k + 1) % ackPlaces) n
 
 -- the acknowledgements that wait
 abbrev pub acksIn : List ℕ → List ℕ
@@ -52,4 +52,4 @@ acksIn ws = from ws (placeOf ws) (waitingOf ws)
 -- those of a list that are not entry i's
 abbrev pub notOf : ℕ → List ℕ → List ℕ
 notOf i [] = []
-notOf i (w ∷ ws) = pick (eqb (w / 256 % 256) i) (notOf i ws) (w ∷ notOf i ws)
+notOf i (w ∷ ws) = pick (eqb (ackEntry w) i) (notOf i ws) (w ∷ notOf i ws)

@@ -4,10 +4,12 @@ use memory::put_word;
 use memory::word_at;
 use units::Seq;
 ghost use mathlib.Core.Path.{_≡_};
-ghost use Prim.Native.Nat.{_+_, _*_, _<_};
-ghost use Rattle.waiting.specs.Acks.{waitingOf, oldestOf, ackOf, pushed, popped, turned, turns, dropped};
+ghost use Prim.Native.Nat.{_+_, _*_};
+ghost use Rattle.waiting.specs.Acks.{waitingOf, oldestOf, ackOf, pushed, popped, turned, dropped};
 
-// How many wait is read modulo this, so that no content of the memory makes a turn through them long.
+// The most that may wait: there are as many places.
+pub const MOST: u8 = 32;
+// The count is read modulo this, so that damaged memory cannot make the loop in `drop` long.
 const COUNTS: u64 = 64;
 // What takes one away, modulo `COUNTS`.
 const ONE_FEWER: u64 = 63;
@@ -76,7 +78,7 @@ pub fn pop(node: &mut [u64])
     put_word(node, layout::ACKS_AT, (n + ONE_FEWER) % COUNTS);
 }
 
-// The oldest goes, and to the end where it is not entry i's.
+// Takes the oldest out, and puts it back at the end unless it is entry i's.
 fn turn(node: &mut [u64], i: u8)
     ensures { λ _. ⌜ now (node .exit) ≡ turned i (now (node .entry)) ⌝ }
 {

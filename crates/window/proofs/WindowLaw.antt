@@ -24,8 +24,7 @@ pub distance-back : (start s : ℕ) → start < 256 → s < 256 → byteOf (star
 distance-back start s hs h = omega arith
 
 -- a count less than W after the start, or at most 256 - W before it, is in the window of bytes exactly when it is not before the start
-pub window-law : (W start n : ℕ) → W ≤ 256 → n < start + W → start ≤ n + (256 - W)
-    → (distanceOf (byteOf start) (byteOf n) < W) ↔ (start ≤ n)
+pub window-law : WindowLaw
 window-law W start n small front back = (
   (λ (l : distanceOf (byteOf start) (byteOf n) < W). by-cases (decLe start n) (λ h. h) (λ h. absurd (omega arith))),
   (λ h. omega arith),
@@ -61,8 +60,7 @@ slot-at : (W start s : ℕ) → isSize W ≡ true → start < 256 → s < 256 �
 slot-at W start s v hs h = ap (slotOf W) (sym (distance-back start s hs h)) ∙ slot-byte W (start + distanceOf start s) v
 
 -- so two different numbers of one window have different slots
-pub slots-differ : (W start a b : ℕ) → isSize W ≡ true → start < 256 → a < 256 → b < 256
-    → distanceOf start a < W → distanceOf start b < W → slotOf W a ≡ slotOf W b → a ≡ b
+pub slots-differ : SlotsDiffer
 slots-differ W start a b v hs ha hb ia ib e =
     let same : slotOf W (start + distanceOf start a) ≡ slotOf W (start + distanceOf start b) =
     sym (slot-at W start a v hs ha) ∙ e ∙ slot-at W start b v hs hb in
@@ -74,11 +72,3 @@ slots-differ W start a b v hs ha hb ia ib e =
     (λ q. omega arith))
 
 -- ---- as specs/Law.antt states them
-
-pub the-window-law : WindowLaw
-unfolding WindowLaw
-the-window-law = window-law
-
-pub the-slots-differ : SlotsDiffer
-unfolding SlotsDiffer
-the-slots-differ = slots-differ

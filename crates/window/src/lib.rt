@@ -1,7 +1,7 @@
 // A sliding window of sequence numbers: where it starts, how many numbers it takes in, which of them are held.
 // Every step takes the window by value and gives it back as it stands afterwards.
 // Proved: each function is the definition of specs/ that it cites, for every input; none asks anything of its
-// caller. proofs/ has what callers cite of the steps, and the window law, once over W.
+// caller. specs/Law.antt has the window law, once over W; proofs/ what callers cite of the steps.
 ghost use mathlib.Core.Path.{_≡_};
 ghost use Prim.Native.Nat.{_+_};
 ghost use Rattle.window.specs.Numbers.{distanceOf, seqOf};

@@ -11,10 +11,11 @@ use Rattle.blocks.proofs.put_block.Statement.{statement}
 use Rattle.blocks.proofs.put_block.Tie as tie
 
 abbrev Inv-loop : tie.InvT-loop
-Inv-loop out₀ store book i place largest w k end₀ j₀ out end j = (j ≤ k) × Begun (6 + 4 * k) (payloads store book i place largest w j) out₀ out end j
+Inv-loop out₀ store book o k end₀ j₀ out end j =
+    (j ≤ k) × Begun (6 + 4 * k) (payloads store book (o .entry) (o .place) (o .largest) (o .window) j) out₀ out end j
 
 abbrev μ-loop : tie.MeasureT-loop
-μ-loop out₀ store book i place largest w k end₀ j₀ out end j = k - j
+μ-loop out₀ store book o k end₀ j₀ out end j = k - j
 
 put16-requires : tie.Need-put16-requires Inv-loop μ-loop
 put16-requires c κs = search needs

@@ -1,64 +1,46 @@
+-- `call_arrive::take` meets its contract. Assumes nothing.
 use Rattle.call_arrive.specs.Arriving.{takenInAnswer, takenInAfter}
 use Rattle.arrive_data.specs.Receiving.{resetAfter, urgentAfter}
 use borrow.Author.Needs.{needs}
 use Rattle.call_arrive.proofs.take.Statement.{statement}
 use Rattle.call_arrive.proofs.take.Tie as tie
-use Rattle.call_arrive.proofs.take.Reads as reads
-use Rattle.call_arrive.proofs.take.Lts as lts
-use Rattle.arrive_ack.proofs.acknowledge.Reads as acknowledge-reads
-use Rattle.arrive_data.proofs.take_data.Reads as take-data-reads
-use Rattle.arrive_data.proofs.take_reset.Reads as take-reset-reads
-use Rattle.arrive_data.proofs.take_urgent.Reads as take-urgent-reads
 
--- src/lib.rt:61:38
 enum-told : tie.Need-enum-told
 enum-told c = search needs
 
--- src/lib.rt:61:28
 take-data-requires : tie.Need-take-data-requires
 take-data-requires c κs = search needs
 
--- src/lib.rt:62:47
 enum-told-2 : tie.Need-enum-told-2
 enum-told-2 c = search needs
 
--- src/lib.rt:62:35
 acknowledge-requires : tie.Need-acknowledge-requires
 acknowledge-requires c κs = search needs
 
--- src/lib.rt:63:40
 enum-told-3 : tie.Need-enum-told-3
 enum-told-3 c = search needs
 
--- src/lib.rt:63:29
 take-reset-requires : tie.Need-take-reset-requires
 take-reset-requires c κs = search needs
 
--- src/lib.rt:64:42
 enum-told-4 : tie.Need-enum-told-4
 enum-told-4 c = search needs
 
--- src/lib.rt:64:30
 take-urgent-requires : tie.Need-take-urgent-requires
 take-urgent-requires c κs = search needs
 
--- src/lib.rt:44:1
 same-length : tie.Need-same-length
 same-length c = search needs
 
--- src/lib.rt:44:1
 same-length-2 : tie.Need-same-length-2
 same-length-2 c = search needs
 
--- src/lib.rt:44:1
 same-length-3 : tie.Need-same-length-3
 same-length-3 c = search needs
 
--- src/lib.rt:44:1
 same-length-4 : tie.Need-same-length-4
 same-length-4 c = search needs
 
--- src/lib.rt:44:1
 returns : tie.Need-returns
 unfolding takenInAnswer takenInAfter
 returns c =
@@ -66,15 +48,12 @@ returns c =
     let d = c .before .before .before .before .before .before .before .before .take-data .ensures in
     (rw q (d .0), rw q (d .1))
 
--- src/lib.rt:44:1
 same-length-5 : tie.Need-same-length-5
 same-length-5 c = search needs
 
--- src/lib.rt:44:1
 same-length-6 : tie.Need-same-length-6
 same-length-6 c = search needs
 
--- src/lib.rt:44:1
 returns-2 : tie.Need-returns-2
 unfolding takenInAnswer takenInAfter
 returns-2 c =
@@ -82,11 +61,9 @@ returns-2 c =
     let d = c .before .before .before .before .acknowledge .ensures in
     (rw q (d .0), rw (q, d .1 .0, d .1 .1))
 
--- src/lib.rt:44:1
 same-length-7 : tie.Need-same-length-7
 same-length-7 c = search needs
 
--- src/lib.rt:44:1
 returns-3 : tie.Need-returns-3
 unfolding takenInAnswer takenInAfter resetAfter
 returns-3 c =
@@ -94,11 +71,9 @@ returns-3 c =
     let d = c .before .before .take-reset .ensures in
     (rw q (d .0), rw (q, d .1))
 
--- src/lib.rt:44:1
 same-length-8 : tie.Need-same-length-8
 same-length-8 c = search needs
 
--- src/lib.rt:44:1
 returns-4 : tie.Need-returns-4
 unfolding takenInAnswer takenInAfter urgentAfter
 returns-4 c =

@@ -4,8 +4,8 @@ use borrow.Author.Needs.{needs}
 use Rattle.firmware.proofs.put_fields.Statement.{statement}
 use Rattle.firmware.proofs.put_fields.Tie as tie
 
-type-byte-requires : tie.Need-type-byte-requires
-type-byte-requires c κs = search needs
+type-number-requires : tie.Need-type-number-requires
+type-number-requires c κs = search needs
 
 slice-aggregate-put-all : tie.Need-slice-aggregate-put-all
 slice-aggregate-put-all c = search needs
@@ -18,9 +18,9 @@ same-length c = search needs
 
 returns : tie.Need-returns
 unfolding readFields
-returns c = rw (c .before .before .put-all .ensures, c .before .before .before .before .before .type-byte .ensures)
+returns c = rw (c .before .before .put-all .ensures, c .before .before .before .before .before .type-number .ensures)
 
 pub put-fields-spec : {M : Type 1} → statement M
 put-fields-spec =
     tie.close
-    (tie.spec type-byte-requires slice-aggregate-put-all put-all-requires same-length returns)
+    (tie.spec type-number-requires slice-aggregate-put-all put-all-requires same-length returns)

@@ -1,43 +1,32 @@
+-- `slots::idle` meets its contract. Assumes nothing.
 use borrow.Author.Tests.{eq-eqb, ne-eqb}
 use Rattle.slots.specs.Slots.{idled}
 use borrow.Author.Needs.{needs}
 use Rattle.slots.proofs.idle.Statement.{statement}
 use Rattle.slots.proofs.idle.Tie as tie
-use Rattle.slots.proofs.idle.Reads as reads
-use Rattle.slots.proofs.idle.Lts as lts
-use Rattle.slots.proofs.drop_slots.Reads as drop-slots-reads
-use Rattle.waiting.proofs.queues.unlink.Reads as unlink-reads
 
--- src/lib.rt:106:9
 drop-slots-requires : tie.Need-drop-slots-requires
 drop-slots-requires c κs = search needs
 
--- src/lib.rt:107:9
 same-length : tie.Need-same-length
 same-length c = search needs
 
--- src/lib.rt:107:9
 returns : tie.Need-returns
 unfolding idled
 returns c = simp (eq-eqb _ 0 (c .before .before .before .before .if1 .taken)) (c .before .before .drop-slots .ensures)
 
--- src/lib.rt:109:18
 add-unlink : tie.Need-add-unlink
 add-unlink c = search needs
 
--- src/lib.rt:109:5
 unlink-requires : tie.Need-unlink-requires
 unlink-requires c κs = search needs
 
--- src/lib.rt:110:5
 drop-slots-requires-2 : tie.Need-drop-slots-requires-2
 drop-slots-requires-2 c κs = search needs
 
--- src/lib.rt:102:1
 same-length-2 : tie.Need-same-length-2
 same-length-2 c = search needs
 
--- src/lib.rt:102:1
 returns-2 : tie.Need-returns-2
 unfolding idled
 returns-2 c = simp (ne-eqb _ 0 (c .before .before .before .before .before .before .before .before .if1 .left)) (rw (c .before .before .drop-slots2 .ensures, c .before .before .before .before .before .before .unlink .ensures))

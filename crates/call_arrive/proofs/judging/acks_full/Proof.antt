@@ -1,20 +1,15 @@
+-- `call_arrive::judging::acks_full` meets its contract. Assumes nothing.
 use mathlib.Core.Path.{_≡_, sym, _∙_}
 use borrow.Author.Needs.{needs}
 use Rattle.call_arrive.proofs.judging.acks_full.Statement.{statement}
 use Rattle.call_arrive.proofs.judging.acks_full.Tie as tie
-use Rattle.call_arrive.proofs.judging.acks_full.Reads as reads
-use Rattle.call_arrive.proofs.judging.acks_full.Lts as lts
-use Rattle.call_arrive.proofs.judging.is_answered.Reads as is-answered-reads
 
--- src/judging.rt:74:8
 is-answered-requires : tie.Need-is-answered-requires
 is-answered-requires c κs = search needs
 
--- src/judging.rt:75:9
 returns : tie.Need-returns
 returns c = rw (sym (c .before .is-answered .ensures) ∙ c .if1 .taken)
 
--- src/judging.rt:71:1
 returns-2 : tie.Need-returns-2
 returns-2 c = search needs
 

@@ -11,8 +11,8 @@ use lib.ListN.{length}
 use Rattle.table.specs.Layout.{countOf, entryOf}
 use Rattle.table.specs.Areas.{areaOf, placeOf}
 use Rattle.table.specs.declared.Entry.{Entry}
-use Rattle.table.proofs.Places.{place-next, area-in-store}
-use Rattle.table.proofs.Good.{good-head, good-store}
+use Rattle.table.proofs.Places.{place-next, areas-inside}
+use Rattle.table.proofs.Good.{good-head, store-fits}
 use Rattle.end_points.specs.Ends.{saved, savedEntry}
 use Rattle.end_points.specs.declared.State.the-variants.{Closed}
 use Rattle.arrive_lookup.specs.Lookup.{indexed}
@@ -64,7 +64,7 @@ inside c =
     let l = c .before .loop in
     let t = now (s .args .table) in
     let m : l .k < countOf t = omega (arith, c .loop-test .taken, l .inv .all) in
-    omega (arith, area-in-store t (l .k) m, good-store t (s .pre), l .inv .at)
+    omega (arith, areas-inside t (l .k) m, store-fits t (s .pre), l .inv .at)
 
 cast-put-entry : tie.Need-cast-put-entry Inv-loop μ-loop
 cast-put-entry c = omega (arith, inside (c .before .before))

@@ -1,11 +1,9 @@
+-- `end_points::states::without_urgent` meets its contract. Assumes nothing.
 use mathlib.Core.Path.{refl}
 use Rattle.end_points.specs.Runs.{urgentGone}
 use Rattle.end_points.proofs.states.without_urgent.Statement.{statement}
 use Rattle.end_points.proofs.states.without_urgent.Tie as tie
-use Rattle.end_points.proofs.states.without_urgent.Reads as reads
-use Rattle.end_points.proofs.states.without_urgent.Lts as lts
 
--- src/states.rt:68:1
 returns : tie.Need-returns
 unfolding urgentGone
 returns c = refl

@@ -20,6 +20,9 @@ count-requires c κs = search needs
 cast-n : tie.Need-cast-n
 cast-n c = search needs
 
+cast-if1 : tie.Need-cast-if1
+cast-if1 c = search needs
+
 mul-if2 : tie.Need-mul-if2
 mul-if2 c = search needs
 
@@ -99,6 +102,7 @@ head-good-spec =
     (tie.spec
     count-requires
     cast-n
+    cast-if1
     mul-if2
     add-if2
     first-requires

@@ -1,8 +1,8 @@
--- `call_hand_out::frames::fields_to` meets its contract. Assumes nothing.
+-- `call_hand_out::framing::fields_to` meets its contract. Assumes nothing.
 use Rattle.call_hand_out.specs.Handing.{fieldsTo}
 use borrow.Author.Needs.{needs}
-use Rattle.call_hand_out.proofs.frames.fields_to.Statement.{statement}
-use Rattle.call_hand_out.proofs.frames.fields_to.Tie as tie
+use Rattle.call_hand_out.proofs.framing.fields_to.Statement.{statement}
+use Rattle.call_hand_out.proofs.framing.fields_to.Tie as tie
 
 protocol-requires : tie.Need-protocol-requires
 protocol-requires c κs = search needs

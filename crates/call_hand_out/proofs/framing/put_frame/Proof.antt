@@ -1,10 +1,10 @@
--- `call_hand_out::frames::put_frame` meets its contract. Assumes nothing.
+-- `call_hand_out::framing::put_frame` meets its contract. Assumes nothing.
 use Rattle.call_hand_out.proofs.Outcomes.{too-short, long-enough}
 use denote.Ref.{now}
 use mathlib.Core.Path.{refl}
 use borrow.Author.Needs.{needs}
-use Rattle.call_hand_out.proofs.frames.put_frame.Statement.{statement}
-use Rattle.call_hand_out.proofs.frames.put_frame.Tie as tie
+use Rattle.call_hand_out.proofs.framing.put_frame.Statement.{statement}
+use Rattle.call_hand_out.proofs.framing.put_frame.Tie as tie
 
 add-n : tie.Need-add-n
 add-n c = search needs
