@@ -215,12 +215,18 @@ uint8_t shelugvar_window_test(uint8_t start, uint16_t size, uint8_t sequence);
  * header is not the archive's. */
 uint32_t shelugvar_version(void);
 
+/* For this header alone: where nothing is read or written, since the length is 0; any place but null will do. */
+#ifdef __cplusplus
+#define SHELUGVAR_ANY_(n) reinterpret_cast<uint8_t *>((n)->book)
+#else
+#define SHELUGVAR_ANY_(n) ((uint8_t *)(n)->book)
+#endif
+
 /* For this header alone: an answer of the archive as a refusal. */
 #define SHELUGVAR_REFUSAL_(answer) SHELUGVAR_AS_(enum shelugvar_refusal, answer)
 
-/* ---- The node's calls. `store` is the node's, `room` its bytes: the same store while an entry is Open or Failing. For
- * a pointer whose length is 0, which may be null, the archive gets the address of a byte that it then neither reads nor
- * writes. */
+/* ---- The node's calls. `store` is the node's, `room` its bytes: the same store while an entry is Open or Failing. A
+ * pointer may be null where its length is 0. */
 
 /* The bytes of store that a node with this table needs. Refuses 1. */
 static inline enum shelugvar_refusal shelugvar_node_store_need(const uint8_t *table, size_t length, size_t *need)
@@ -235,10 +241,8 @@ static inline enum shelugvar_refusal shelugvar_node_store_need(const uint8_t *ta
 static inline enum shelugvar_refusal shelugvar_node_setup(struct shelugvar_node *n, const uint8_t *store, size_t room,
                                                           const uint8_t *table, size_t length)
 {
-    const uint8_t none = 0;
-
-    return SHELUGVAR_REFUSAL_(shelugvar_setup(n->node, n->book, room != 0 ? store : &none, room,
-                                              length != 0 ? table : &none, length));
+    return SHELUGVAR_REFUSAL_(shelugvar_setup(n->node, n->book, room != 0 ? store : SHELUGVAR_ANY_(n), room,
+                                              length != 0 ? table : SHELUGVAR_ANY_(n), length));
 }
 
 /* Entry `index` becomes Enabled; a sender's Reset then waits. Refuses 2, 4. */
@@ -276,20 +280,16 @@ static inline enum shelugvar_refusal shelugvar_node_entry_state(const struct she
 static inline enum shelugvar_refusal shelugvar_node_send(struct shelugvar_node *n, uint8_t *store, size_t room,
                                                          size_t index, const uint8_t *payload, size_t length)
 {
-    uint8_t none = 0;
-
-    return SHELUGVAR_REFUSAL_(shelugvar_send(n->node, n->book, room != 0 ? store : &none, room, index,
-                                             length != 0 ? payload : &none, length));
+    return SHELUGVAR_REFUSAL_(shelugvar_send(n->node, n->book, room != 0 ? store : SHELUGVAR_ANY_(n), room, index,
+                                             length != 0 ? payload : SHELUGVAR_ANY_(n), length));
 }
 
 /* An Urgent waits; it is copied into the store. Refuses 2, 3, 4, 5, 9, 6. */
 static inline enum shelugvar_refusal shelugvar_node_urgent(struct shelugvar_node *n, uint8_t *store, size_t room,
                                                            size_t index, const uint8_t *payload, size_t length)
 {
-    uint8_t none = 0;
-
-    return SHELUGVAR_REFUSAL_(shelugvar_urgent(n->node, n->book, room != 0 ? store : &none, room, index,
-                                               length != 0 ? payload : &none, length));
+    return SHELUGVAR_REFUSAL_(shelugvar_urgent(n->node, n->book, room != 0 ? store : SHELUGVAR_ANY_(n), room, index,
+                                               length != 0 ? payload : SHELUGVAR_ANY_(n), length));
 }
 
 /* A frame has arrived. Data and Urgent write the block: count k (2 bytes), k + 1 offsets (4 bytes each) from the
@@ -299,11 +299,9 @@ static inline enum shelugvar_refusal shelugvar_node_arrival(struct shelugvar_nod
                                                             uint8_t *block, size_t block_room, const uint8_t *frame,
                                                             size_t length, struct shelugvar_arrived *arrived)
 {
-    uint8_t none = 0;
-
-    return SHELUGVAR_REFUSAL_(shelugvar_arrival(n->node, n->book, room != 0 ? store : &none, room,
-                                                block_room != 0 ? block : &none, block_room,
-                                                length != 0 ? frame : &none, length, arrived));
+    return SHELUGVAR_REFUSAL_(shelugvar_arrival(n->node, n->book, room != 0 ? store : SHELUGVAR_ANY_(n), room,
+                                                block_room != 0 ? block : SHELUGVAR_ANY_(n), block_room,
+                                                length != 0 ? frame : SHELUGVAR_ANY_(n), length, arrived));
 }
 
 /* What an arrival that was not refused was. */
@@ -318,10 +316,8 @@ static inline enum shelugvar_refusal shelugvar_node_hand_out(struct shelugvar_no
                                                              size_t room, uint8_t *frame, size_t frame_room,
                                                              size_t *length)
 {
-    uint8_t none = 0;
-
-    return SHELUGVAR_REFUSAL_(shelugvar_hand_out(n->node, n->book, room != 0 ? store : &none, room,
-                                                 frame_room != 0 ? frame : &none, frame_room, length));
+    return SHELUGVAR_REFUSAL_(shelugvar_hand_out(n->node, n->book, room != 0 ? store : SHELUGVAR_ANY_(n), room,
+                                                 frame_room != 0 ? frame : SHELUGVAR_ANY_(n), frame_room, length));
 }
 
 /* Every running timer falls by one. Answers the entries that became Enabled, entry 0 in the lowest bit: their runs have
