@@ -16,6 +16,7 @@ pub mod Hosting
 pub mod Handing
 pub mod Touching
 pub mod Apart
+pub mod Lending
 pub mod Standing
 pub mod Folding
 pub mod Vectors

@@ -2,7 +2,7 @@
 -- it was, and that a call on one entry leaves every other. The laws of single calls are in the other files
 -- Laws*.antt. In square brackets: the rules of docs/RULES.md that a law is about. Proved in proofs/Standing.antt and
 -- proofs/Apart.antt. Assumes nothing.
-use Prim.Native.Nat.{ℕ, _<_}
+use Prim.Native.Nat.{ℕ, _≤_, _<_}
 use mathlib.Core.Path.{_≡_}
 use mathlib.Core.Logic.{_≢_}
 use mathlib.Core.Bool.{Bool, not}
@@ -15,7 +15,7 @@ use Rattle.frame.specs.Reading.{headerOf}
 use Rattle.frame.specs.declared.Header.{Header}
 use Rattle.frame.specs.declared.Read.the-variants as read
 use Rattle.machine.specs.Calls.{Call, opens, closes, counts, sends, urges, arrives, hands-out, ticks, Answer}
-use Rattle.machine.specs.Machine.{End, Item, Sort, Machine, node, rank, without, past, offset}
+use Rattle.machine.specs.Machine.{End, Item, Sort, Machine, Outcome, node, lending, rank, without, past, offset}
 use Rattle.machine.specs.Machine.{begun, entryFor, step}
 use Rattle.machine.specs.Sound.{Sound}
 
@@ -100,6 +100,17 @@ TableStays = (m : Machine) (c : Call) → Standing m (after m c)
 pub record StartStaysFree : Type 0 where
   pub first : (t : List ℕ) (room : ℕ) → AllFree (begun t room)
   pub then : (m : Machine) (c : Call) → AllFree m → AllFree (after m c)
+
+-- ---- the store that is lent
+
+-- what is answered, and the machine then, lent another store
+abbrev pub relent : ℕ → Outcome → Outcome
+relent room o = record { answer = o .answer; machine = lending room (o .machine) }
+
+-- rules out the one that does more with a longer store: of its length a call asks only whether it is enough [R6, R42]
+unfoldable pub RoomIdle : Type 0
+RoomIdle = (m : Machine) (room : ℕ) (c : Call) → m .need ≤ m .room → m .need ≤ room
+    → step (lending room m) c ≡ relent room (step m c)
 
 -- ---- a refusal: all lent memory, the node included, is then the same as before
 
