@@ -26,21 +26,21 @@ def steps(text: str) -> list[tuple[str, str, str]]:
     return found
 
 
-def faults(edit: pathlib.Path) -> list[str]:
-    """What is wrong with an edit."""
+def made(edit: pathlib.Path, crate: pathlib.Path) -> tuple[dict[pathlib.Path, str], list[str]]:
+    """The crate's files that an edit alters, as they then are, and what is wrong with it."""
     texts: dict[pathlib.Path, str] = {}
     wrong = []
-    for name, old, new in steps(edit.read_text()):
-        path = edit.parent.parent / name
+    for name, old, new in steps(edit.read_text(encoding="utf-8")):
+        path = crate / name
         if not path.is_file():
             wrong.append(f"there is no {name}")
             continue
-        text = texts.get(path, path.read_text())
+        text = texts.get(path, path.read_text(encoding="utf-8"))
         times = text.count(old)
         if times != 1:
             wrong.append(f"stands {times} times in {name}: {old}")
         texts[path] = text.replace(old, new)
-    return wrong
+    return texts, wrong if texts else wrong + ["it has no 'old:' and 'new:' pair"]
 
 
 def main() -> int:
@@ -48,7 +48,7 @@ def main() -> int:
     edits = sorted(ROOT.glob("crates/*/must-fail*/*.edit"))
     bad = 0
     for edit in edits:
-        for fault in faults(edit):
+        for fault in made(edit, edit.parent.parent)[1]:
             print(f"{edit.relative_to(ROOT)}: {fault}")
             bad += 1
     print(f"{len(edits)} edits")

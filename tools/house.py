@@ -14,6 +14,7 @@ from html import escape
 from pathlib import Path
 from typing import NamedTuple
 
+sys.dont_write_bytecode = True  # the source tree stays as it is
 import drawn
 
 ROOT = Path(__file__).resolve().parent.parent
