@@ -34,7 +34,7 @@ use Rattle.good.proofs.Lined.{less}
 use Rattle.good.proofs.Known.{stated-as, receiver-silent}
 use Rattle.good.proofs.Framing.{Within, within-same, within-unlink, Apart, apart-then, apart-saved, framed, apart-count, apart-timely, entry-low}
 use Rattle.good.proofs.Offsets.{reset-owner}
-use Rattle.good.proofs.Turns.{run-fits, turnedTo, end-saved, anew-fits, anew-size, anew-fresh, anew-window, ring-of, owed-other, free-turn, sender-turn, drop-apart, drop-end, not-in, Kept, kept-same}
+use Rattle.good.proofs.Turns.{run-fits, turnedTo, end-saved, anew-fits, anew-size, anew-fresh, anew-window, ring-of, owed-other, free-turn, sender-turn, drop-apart, drop-end, not-in, Kept, kept-either}
 use Rattle.good.proofs.Senders.{reset-waited, reset-gone}
 use Rattle.good.proofs.Idling.{idle}
 
@@ -164,11 +164,9 @@ module _ (x : Lent) (i : ℕ) (t : List ℕ) (l : Lists) (g : Good t (x .node) (
 
 pub close-keeps : (t : List ℕ) (x : Lent) (l : Lists) (i : ℕ) → Good t (x .node) (x .book) l → i < countIn (x .node) → Kept t x (closeAfter x i (closeAnswer x i)) l i
 unfolding closeAfter
-close-keeps t x l i g li = sides (closeAnswer x i)
-  where
-    sides : (v : Verdict) → Kept t x (closeAfter x i v) l i
-    sides (Refused w) = kept-same t x l i g
-    sides Passed = closed-kept x i t l g li (isSends (endOf (x .node) i .entry .kind)) refl
+close-keeps t x l i g li =
+    kept-either t x l i g (closeAfter x i) (λ w. refl) (closeAnswer x i)
+    (λ h. closed-kept x i t l g li (isSends (endOf (x .node) i .entry .kind)) refl)
 
 -- no such entry: everything stays
 pub close-refused : (x : Lent) (i : ℕ) → countIn (x .node) ≤ i → closeAfter x i (closeAnswer x i) ≡ x

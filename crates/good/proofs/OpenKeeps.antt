@@ -27,7 +27,7 @@ use Rattle.good.specs.Good.{Lists, Silent, Anew, Entered, Good}
 use Rattle.good.proofs.Lined.{added}
 use Rattle.good.proofs.Known.{is-closed, stated-as, entered-as}
 use Rattle.good.proofs.Framing.{Within, within-same, apart-saved, entry-low}
-use Rattle.good.proofs.Turns.{run-fits, turnedTo, end-saved, anew-fits, anew-size, anew-fresh, anew-window, free-turn, not-owed, Kept, kept-same}
+use Rattle.good.proofs.Turns.{run-fits, turnedTo, end-saved, anew-fits, anew-size, anew-fresh, anew-window, free-turn, not-owed, Kept, kept-either}
 use Rattle.good.proofs.Senders.{reset-within, reset-silent, enabled-sender}
 
 -- ---- the entry: Enabled, and its Reset waits where it sends
@@ -101,11 +101,9 @@ module _ (x : Lent) (i : ℕ) where
 
 pub open-keeps : (t : List ℕ) (x : Lent) (l : Lists) (i : ℕ) → Good t (x .node) (x .book) l → i < countIn (x .node) → Kept t x (openAfter x i (openAnswer x i)) l i
 unfolding openAfter
-open-keeps t x l i g li = sides (openAnswer x i) refl
-  where
-    sides : (v : Verdict) → openAnswer x i ≡ v → Kept t x (openAfter x i v) l i
-    sides (Refused w) h = kept-same t x l i g
-    sides Passed h = enabled-kept x i t l g li (open-known x i h .1) (isSends (endOf (x .node) i .entry .kind)) refl
+open-keeps t x l i g li =
+    kept-either t x l i g (openAfter x i) (λ w. refl) (openAnswer x i)
+    (λ h. enabled-kept x i t l g li (open-known x i h .1) (isSends (endOf (x .node) i .entry .kind)) refl)
 
 -- no such entry: everything stays
 pub open-refused : (x : Lent) (i : ℕ) → countIn (x .node) ≤ i → openAfter x i (openAnswer x i) ≡ x

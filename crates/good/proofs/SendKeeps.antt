@@ -40,7 +40,7 @@ use Rattle.good.proofs.Lined.{added, append-cells}
 use Rattle.good.proofs.Known.{is-open, stated-as, entered-as}
 use Rattle.good.proofs.Framing.{Within, within-then, within-append, within-set, entry-low, cell-low, length-owner, retries-owner, timely-as, timely-fewer}
 use Rattle.good.proofs.Offsets.{id-high, id-owner, data-ranged, cell-inj, id-inj, ids-more, ids-in}
-use Rattle.good.proofs.Turns.{run-fits, turnedTo, sender-put, Kept, kept-same}
+use Rattle.good.proofs.Turns.{run-fits, turnedTo, sender-put, Kept, kept-either}
 use Rattle.good.proofs.RunSets.{sent-puts, sent-end}
 use Rattle.good.proofs.Senders.{resends-kept}
 
@@ -370,13 +370,9 @@ pub send-refused : (x : Lent) (i : ℕ) (p : List ℕ) → countIn (x .node) ≤
 unfolding sendAnswer sendAfter
 send-refused x i p h = rw (le-leb (countIn (x .node)) i h)
 
-either-kept : (t : List ℕ) (x : Lent) (l : Lists) (i : ℕ) (p : List ℕ) → Good t (x .node) (x .book) l → (v : Verdict) → sendAnswer x i p ≡ v
-    → Kept t x (sendAfter x i p v) l i
-unfolding sendAfter
-either-kept t x l i p g Passed h = sent-kept t x l i p g (tested x i p h)
-either-kept t x l i p g (Refused w) h = kept-same t x l i g
-
 -- Send keeps a good node good.
 pub send-keeps : (t : List ℕ) (x : Lent) (l : Lists) (i : ℕ) (p : List ℕ) → Good t (x .node) (x .book) l → i < countIn (x .node)
     → Kept t x (sendAfter x i p (sendAnswer x i p)) l i
-send-keeps t x l i p g h = either-kept t x l i p g (sendAnswer x i p) refl
+unfolding sendAfter
+send-keeps t x l i p g h =
+    kept-either t x l i g (sendAfter x i p) (λ w. refl) (sendAnswer x i p) (λ q. sent-kept t x l i p g (tested x i p q))

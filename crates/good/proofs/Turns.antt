@@ -13,6 +13,9 @@ use lib.Seq.{getD-set-other}
 use lib.Dec.{eqb}
 use borrow.Author.Tests.{eqb-false}
 use Rattle.units.specs.Refusals.{pick}
+use Rattle.units.specs.declared.refusals.Refusal.{Refusal}
+use Rattle.units.specs.declared.refusals.Verdict.{Verdict}
+use Rattle.units.specs.declared.refusals.Verdict.the-variants.{Passed, Refused}
 use Rattle.memory.specs.Layout.{oldestAt, acksAt, ackAt, clockAt, quietAt, nodeWords}
 use Rattle.waiting.specs.Acks.{placeOf, waitingOf, oldestOf, pushed, popped, turned, turns, dropped}
 use Rattle.waiting.specs.Order.{from, acksIn, notOf}
@@ -268,3 +271,9 @@ pub record Kept (t : List ℕ) (x x′ : Lent) (l : Lists) (i : ℕ) : Type 0 wh
 
 pub kept-same : (t : List ℕ) (x : Lent) (l : Lists) (i : ℕ) → Good t (x .node) (x .book) l → Kept t x x l i
 kept-same t x l i g = record { lists = l; good = g; apart = apart-same i (x .node); within = within-same i (x .book) l (g .lines) }
+
+-- a call that answers a verdict: refused, it leaves all as it was
+pub kept-either : (t : List ℕ) (x : Lent) (l : Lists) (i : ℕ) → Good t (x .node) (x .book) l → (after : Verdict → Lent)
+    → ((w : Refusal) → after (Refused w) ≡ x) → (v : Verdict) → (v ≡ Passed → Kept t x (after Passed) l i) → Kept t x (after v) l i
+kept-either t x l i g after same Passed h = h refl
+kept-either t x l i g after same (Refused w) h = subst (λ (y : Lent). Kept t x y l i) (sym (same w)) (kept-same t x l i g)

@@ -37,7 +37,7 @@ use Rattle.good.proofs.Lined.{added, append-cells}
 use Rattle.good.proofs.Known.{is-open, stated-as, entered-as}
 use Rattle.good.proofs.Framing.{Within, within-append, apart-saved, timely-as, entry-low}
 use Rattle.good.proofs.Offsets.{urgent-owner, urgent-ranged}
-use Rattle.good.proofs.Turns.{run-fits, state-fits, turnedTo, end-saved, sender-turn, Kept, kept-same}
+use Rattle.good.proofs.Turns.{run-fits, state-fits, turnedTo, end-saved, sender-turn, Kept, kept-either}
 use Rattle.good.proofs.Senders.{resends-kept}
 
 -- ---- what waits
@@ -247,13 +247,9 @@ pub urgent-refused : (x : Lent) (i : ℕ) (p : List ℕ) → countIn (x .node) �
 unfolding urgentAnswer urgentAfter
 urgent-refused x i p h = rw (le-leb (countIn (x .node)) i h)
 
-either-kept : (t : List ℕ) (x : Lent) (l : Lists) (i : ℕ) (p : List ℕ) → Good t (x .node) (x .book) l → (v : Verdict) → urgentAnswer x i p ≡ v
-    → Kept t x (urgentAfter x i p v) l i
-unfolding urgentAfter
-either-kept t x l i p g Passed h = urged-kept t x l i p g (tested x i p h)
-either-kept t x l i p g (Refused w) h = kept-same t x l i g
-
 -- Urgent keeps a good node good.
 pub urgent-keeps : (t : List ℕ) (x : Lent) (l : Lists) (i : ℕ) (p : List ℕ) → Good t (x .node) (x .book) l → i < countIn (x .node)
     → Kept t x (urgentAfter x i p (urgentAnswer x i p)) l i
-urgent-keeps t x l i p g h = either-kept t x l i p g (urgentAnswer x i p) refl
+unfolding urgentAfter
+urgent-keeps t x l i p g h =
+    kept-either t x l i g (urgentAfter x i p) (λ w. refl) (urgentAnswer x i p) (λ q. urged-kept t x l i p g (tested x i p q))
