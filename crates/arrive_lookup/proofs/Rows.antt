@@ -12,7 +12,7 @@ use lib.ListN.{length, getD, set, length-set}
 use lib.Seq.{getD-set-same, getD-set-other}
 use borrow.Author.Tests.{eq-eqb, ne-eqb, lt-ltb, ltb-true}
 use Rattle.units.specs.Refusals.{pick}
-use Rattle.memory.specs.Layout.{rowAt}
+use Rattle.memory.specs.Layout.{entryAt, rowAt}
 use Rattle.window.specs.Marks.{bit}
 use Rattle.window.proofs.Bits.{bit-or, bit-pow}
 use Rattle.table.specs.declared.Entry.{Entry}
@@ -37,7 +37,7 @@ row-zero ws u h = go (ltb u 256) refl
     go true e = h (ltb-true u 256 e)
     go false e = refl
 
-module _ (ws : List ℕ) (long : 320 ≤ length ws) (v : ℕ) (low : v < 256) (k : ℕ) where
+module _ (ws : List ℕ) (long : (entryAt 0) ≤ length ws) (v : ℕ) (low : v < 256) (k : ℕ) where
   mark-here : rowIn (marked ws v k) v ≡ bitOr (rowIn ws v) (2 ^ k)
   mark-here =
       ap (λ (b : Bool). pick b (getD (marked ws v k) (rowAt v) 0) 0) (lt-ltb v 256 low)
@@ -71,14 +71,14 @@ pub digit-low : (b : Bool) (i : ℕ) → i < 16 → channelDigit b i < 32
 digit-low true i h = omega arith
 digit-low false i h = omega arith
 
-module _ (ws : List ℕ) (long : 320 ≤ length ws) (i : ℕ) (low : i < 16) (e : Entry) (over : e .channel .0 < 256) (from : e .remote .0 < 256) where
+module _ (ws : List ℕ) (long : (entryAt 0) ≤ length ws) (i : ℕ) (low : i < 16) (e : Entry) (over : e .channel .0 < 256) (from : e .remote .0 < 256) where
   abbrev digit : ℕ
   digit = channelDigit (isSends (e .kind)) i
 
   abbrev half : List ℕ
   half = marked ws (e .channel .0) digit
 
-  half-long : 320 ≤ length half
+  half-long : (entryAt 0) ≤ length half
   half-long = rw (length-set ws (rowAt (e .channel .0)) (bitOr (rowIn ws (e .channel .0)) (2 ^ digit))) long
 
   indexed-digit : (u j : ℕ) → bit (rowIn (indexed ws i e) u) j ≡ (bit (rowIn ws u) j || (eqb u (e .channel .0) && eqb j digit)) || (eqb u (e .remote .0) && eqb j (remoteDigit i))
@@ -105,7 +105,7 @@ module _ (ws : List ℕ) (long : 320 ≤ length ws) (i : ℕ) (low : i < 16) (e 
       far (no n) = rw (ne-eqb j i n, ne-eqb (remoteDigit j) (remoteDigit i) (λ q. n (omega arith)))
 
   -- no word but the rows
-  pub indexed-word : (k : ℕ) → (k < 64) ⊎ (320 ≤ k) → getD (indexed ws i e) k 0 ≡ getD ws k 0
+  pub indexed-word : (k : ℕ) → (k < 64) ⊎ ((entryAt 0) ≤ k) → getD (indexed ws i e) k 0 ≡ getD ws k 0
   unfolding indexed
   indexed-word k (inl h) =
       getD-set-other half (rowAt (e .remote .0)) k (bitOr (rowIn half (e .remote .0)) (2 ^ remoteDigit i)) 0 (λ q. omega arith)

@@ -9,7 +9,7 @@ use lib.ListN.{getD, set}
 use lib.Dec.{eqb}
 use borrow.Author.Tests.{eqb-true, ltb-true}
 use Rattle.units.specs.Refusals.{pick}
-use Rattle.memory.specs.Layout.{resets, urgents, resends, datas, resetId, lengthAt, timerAt, quietAt}
+use Rattle.memory.specs.Layout.{allCells, cellsAt, resets, urgents, resends, datas, resetId, lengthAt, timerAt, quietAt}
 use Rattle.waiting.specs.Queues.{unlinked}
 use Rattle.window.specs.Windows.{offsetOf}
 use Rattle.window.proofs.Resetting.{reset-held, reset-good}
@@ -54,7 +54,7 @@ record Outcome (t ws b : List ℕ) (l : Lists) (ws′ b′ : List ℕ) (i s : �
   apart : Apart i ws ws′
   within : Within i b b′ l lists
   ends : Acked ws b ws′ b′ i s
-  lengths : (c : ℕ) → c < 2048 → lengthIn b′ c ≡ lengthIn b c
+  lengths : (c : ℕ) → c < allCells → lengthIn b′ c ≡ lengthIn b c
 
 -- ---- the states
 
@@ -256,7 +256,7 @@ module _ (t ws b : List ℕ) (l : Lists) (G : Good t ws b l) (i s : ℕ) (li : i
   fresh-fits =
       record { start = omega arith; taken = omega arith; handed = omega arith; accepted = omega arith; confirmed = omega arith; urgent = omega arith }
 
-  opened-outcome : (t₀ : ℕ) → endOf ws i .state ≡ Enabled t₀ true → s ≡ 0 → (b′ : List ℕ) (l′ : Lists) → Within i b b′ l l′ → ((c : ℕ) → 4224 ≤ c → getD b′ c 0 ≡ getD b c 0) → Silent l′ i []
+  opened-outcome : (t₀ : ℕ) → endOf ws i .state ≡ Enabled t₀ true → s ≡ 0 → (b′ : List ℕ) (l′ : Lists) → Within i b b′ l l′ → ((c : ℕ) → cellsAt ≤ c → getD b′ c 0 ≡ getD b c 0) → Silent l′ i []
       → Outcome t ws b l (saved ws i Open (openedRun (endOf ws i .run))) b′ i s
   unfolding openedRun
   opened-outcome t₀ q z b′ l′ v same h =
@@ -336,5 +336,5 @@ module _ (t : List ℕ) (x : Lent) (l : Lists) (i s : ℕ) (g : Good t (x .node)
   ack-ends = whole .ends
 
   -- the payloads' lengths are as they were
-  pub ack-lengths : (c : ℕ) → c < 2048 → lengthIn (ackAfter x i (endOf (x .node) i) (endOf (x .node) i .state) s .book) c ≡ lengthIn (x .book) c
+  pub ack-lengths : (c : ℕ) → c < allCells → lengthIn (ackAfter x i (endOf (x .node) i) (endOf (x .node) i .state) s .book) c ≡ lengthIn (x .book) c
   ack-lengths = whole .lengths

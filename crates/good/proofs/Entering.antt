@@ -172,11 +172,11 @@ module _ (t : List ℕ) (k : ℕ) (ws : List ℕ) where
     low : k < 16
     low = omega (arith, good-head t g .count)
 
-    room : 320 ≤ length closed
+    room : (entryAt 0) ≤ length closed
     room = omega (arith, closed-long)
 
     -- the index alters rows alone
-    row-only : (j : ℕ) → (j < 64) ⊎ (320 ≤ j) → getD (entered t k ws) j 0 ≡ getD closed j 0
+    row-only : (j : ℕ) → (j < 64) ⊎ ((entryAt 0) ≤ j) → getD (entered t k ws) j 0 ≡ getD closed j 0
     row-only = let f = entry-fits t g bytes k h in indexed-word closed room k low (entryOf t k) (f .channel) (f .remote)
 
     end-only : (j : ℕ) → endOf (entered t k ws) j ≡ endOf closed j

@@ -13,7 +13,7 @@ use lib.Seq.{getD-set-other, length-sets}
 use lib.Dec.{eqb}
 use borrow.Author.Tests.{ne-eqb}
 use Rattle.units.specs.Refusals.{pick}
-use Rattle.memory.specs.Layout.{resets, urgents, resends, datas, clockAt, quietAt, rowAt, entryAt, lengthAt, timerAt, retriesAt, cellOwner}
+use Rattle.memory.specs.Layout.{allCells, cellsAt, idsEnd, resets, urgents, resends, datas, clockAt, quietAt, rowAt, entryAt, lengthAt, timerAt, retriesAt, cellOwner}
 use Rattle.waiting.specs.Queues.{appended, unlinked}
 use Rattle.waiting.specs.Acks.{waitingOf}
 use Rattle.waiting.specs.Order.{acksIn}
@@ -42,7 +42,7 @@ use Rattle.good.proofs.Lined.{added, less, added-here, added-there, add
 
 pub record Within (i : ℕ) (b b′ : List ℕ) (l l′ : Lists) : Type 0 where
   pub lines : Lines b′ l′
-  pub cells : (k : ℕ) → 4224 ≤ k → cellOwner k ≢ i → getD b′ k 0 ≡ getD b k 0
+  pub cells : (k : ℕ) → cellsAt ≤ k → cellOwner k ≢ i → getD b′ k 0 ≡ getD b k 0
   pub shares : (j : ℕ) → j ≢ i → (q : ℕ) → q < 4 → mine j (l′ q) ≡ mine j (l q)
   pub known : (q : ℕ) → q < 4 → (x : ℕ) → List·Memᴰ x (l′ q) → List·Memᴰ x (l q) ⊎ ((ownerOf x ≡ i) × Ranged q x)
   -- what is not entry i's keeps its order
@@ -67,7 +67,7 @@ within-then i a b c k l m v w =
     sides q x f (inr o) = inr o
 
 -- one of entry i's more
-pub within-append : (i : ℕ) (b : List ℕ) (l : Lists) → Lines b l → (q x : ℕ) → q < 4 → 4 ≤ x → x < 2112 → ((r : ℕ) → r < 4 → List·Memᴰ x (l r) → ⊥)
+pub within-append : (i : ℕ) (b : List ℕ) (l : Lists) → Lines b l → (q x : ℕ) → q < 4 → 4 ≤ x → x < idsEnd → ((r : ℕ) → r < 4 → List·Memᴰ x (l r) → ⊥)
     → ownerOf x ≡ i → Ranged q x → Within i b (appended b q x) l (added l q x)
 within-append i b l L q x hq low hx none o g =
     record {
@@ -107,7 +107,7 @@ within-unlink i b l L q x hq m o =
     }
 
 -- a store in a cell of entry i's
-pub within-set : (i : ℕ) (b : List ℕ) (l : Lists) → Lines b l → (k v : ℕ) → 4224 ≤ k → cellOwner k ≡ i → Within i b (set b k v) l l
+pub within-set : (i : ℕ) (b : List ℕ) (l : Lists) → Lines b l → (k v : ℕ) → cellsAt ≤ k → cellOwner k ≡ i → Within i b (set b k v) l l
 within-set i b l L k v h o =
     record {
       lines = set-lines b l L k v h;
@@ -192,7 +192,7 @@ slot-lt w s g =
     rw (ne-eqb (w .size) 0 (λ e. omega arith)) (mod-lt s p)
 
 -- a cell is one of 2048
-pub cell-low : (i : ℕ) → i < 16 → (w : Window) → GoodWindow w → (s : ℕ) → cell i w s < 2048
+pub cell-low : (i : ℕ) → i < 16 → (w : Window) → GoodWindow w → (s : ℕ) → cell i w s < allCells
 cell-low i h w g s = omega (arith, slot-lt w s g, size-le (w .size) (g .sized))
 
 module _ (j : ℕ) (low : j < 16) (w : Window) (g : GoodWindow w) where
@@ -230,7 +230,7 @@ module _ (c q : ℕ) (b b′ : List ℕ) (i : ℕ) (e e′ : EndPoint) (w : e′
   timely-as (Failing m) h = (outlasts-as (h .0), h .1)
 
 module _ (j : ℕ) (low : j < 16) (b b′ : List ℕ) (l l′ : Lists)
-    (cells : (k : ℕ) → 4224 ≤ k → cellOwner k ≡ j → getD b′ k 0 ≡ getD b k 0)
+    (cells : (k : ℕ) → cellsAt ≤ k → cellOwner k ≡ j → getD b′ k 0 ≡ getD b k 0)
     (shares : (q : ℕ) → q < 4 → mine j (l′ q) ≡ mine j (l q)) where
   module _ (r : Run) (g : GoodWindow (r .window)) where
     same-length : (s : ℕ) → lengthIn b′ (cell j (r .window) s) ≡ lengthIn b (cell j (r .window) s)

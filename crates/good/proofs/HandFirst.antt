@@ -9,7 +9,7 @@ use native.Mathlib.Omega.{arith}
 use lib.Dec.{eqb, ltb, leb}
 use borrow.Author.Tests.{eqb-true, le-ltb, ltb-true, leb-true}
 use Rattle.units.specs.Refusals.{pick}
-use Rattle.memory.specs.Layout.{resets, urgents, resends, datas, resetId}
+use Rattle.memory.specs.Layout.{idsEnd, resets, urgents, resends, datas, resetId}
 use Rattle.waiting.specs.Queues.{nextOf}
 use Rattle.waiting.specs.Acks.{waitingOf, oldestOf, ackOf}
 use Rattle.waiting.proofs.Linked.{first, queue-first}
@@ -117,11 +117,11 @@ pub ranged-urgent : (n : ℕ) → Ranged 1 n → (32 ≤ n) × (n < 48)
 unfolding Ranged
 ranged-urgent n h = h
 
-pub ranged-slot : (q n : ℕ) → Ranged (suc (suc q)) n → (64 ≤ n) × (n < 2112)
+pub ranged-slot : (q n : ℕ) → Ranged (suc (suc q)) n → (64 ≤ n) × (n < idsEnd)
 unfolding Ranged
 ranged-slot q n h = h
 
-pub slot-owner : (n : ℕ) → 64 ≤ n → n < 2112 → ownerOf n ≡ idEntry n
+pub slot-owner : (n : ℕ) → 64 ≤ n → n < idsEnd → ownerOf n ≡ idEntry n
 unfolding ownerOf
 slot-owner n h k = rw (le-ltb n 32 (omega arith), le-ltb n 64 h) (omega arith)
 

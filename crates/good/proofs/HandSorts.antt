@@ -11,7 +11,7 @@ use lib.ListN.{length, getD}
 use lib.Dec.{eqb}
 use borrow.Author.Tests.{ne-eqb}
 use Rattle.units.specs.Refusals.{pick}
-use Rattle.memory.specs.Layout.{resets, urgents, resends, datas, resetId, urgentId, lengthAt, timerAt, quietAt, nodeWords}
+use Rattle.memory.specs.Layout.{cellsAt, resets, urgents, resends, datas, resetId, urgentId, lengthAt, timerAt, quietAt, nodeWords}
 use Rattle.waiting.specs.Queues.{unlinked}
 use Rattle.waiting.specs.Acks.{waitingOf, oldestOf, ackOf, popped}
 use Rattle.waiting.specs.Order.{acksIn}
@@ -232,7 +232,7 @@ module _ (t : List ℕ) (x : Lent) (l : Lists) (G : Good t (x .node) (x .book) l
     pub open-within : Within i (x .book) (unlinked (x .book) n) l (less l n)
     open-within = within-unlink i (x .book) l (G .lines) q n hq (w .waits) (w .own)
 
-    pub open-beyond : (k : ℕ) → 4224 ≤ k → getD (unlinked (x .book) n) k 0 ≡ getD (x .book) k 0
+    pub open-beyond : (k : ℕ) → cellsAt ≤ k → getD (unlinked (x .book) n) k 0 ≡ getD (x .book) k 0
     open-beyond = unlink-cells (x .book) l (G .lines) q n hq (w .waits)
 
     pub open-share : (r : ℕ) → r < 4 → r ≢ q → (xs : List ℕ) → mine i (l r) ≡ xs → mine i (less l n r) ≡ xs
@@ -269,7 +269,7 @@ module _ (t : List ℕ) (x : Lent) (l : Lists) (G : Good t (x .node) (x .book) l
     urgent-was =
         urgent-waited (urgentEntry n) (endOf (x .node) (urgentEntry n) .run .urgent) n (mine (urgentEntry n) (l urgents)) (urgent-sender .share .urgents) (urgent-whose .share)
 
-    urgent-beyond : (k : ℕ) → 4224 ≤ k → getD (unlinked (x .book) n) k 0 ≡ getD (x .book) k 0
+    urgent-beyond : (k : ℕ) → cellsAt ≤ k → getD (unlinked (x .book) n) k 0 ≡ getD (x .book) k 0
     urgent-beyond = open-beyond urgents (omega arith) (λ e. omega arith) n (urgentEntry n) urgent-whose
 
     urgent-then : OpenSender (unlinked (x .book) n) (less l n) (urgentEntry n) (turnedTo (endOf (x .node) (urgentEntry n)) Open (urgentGone (endOf (x .node) (urgentEntry n) .run)))

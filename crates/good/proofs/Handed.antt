@@ -7,7 +7,7 @@ use mathlib.Core.Bool.{Bool, true, false}
 use mathlib.Core.List.{List, _∷_}
 use lib.ListN.{length}
 use Rattle.units.specs.declared.refusals.Refusal.{Refusal}
-use Rattle.memory.specs.Layout.{resetId, urgentId}
+use Rattle.memory.specs.Layout.{allCells, resetId, urgentId}
 use Rattle.waiting.specs.Acks.{ackOf}
 use Rattle.waiting.specs.Order.{acksIn}
 use Rattle.window.specs.Windows.{held}
@@ -118,5 +118,5 @@ pub record HandKept (t : List ℕ) (x x′ : Lent) (l : Lists) : Type 0 where
   pub lists : Lists
   pub good : Good t (x′ .node) (x′ .book) lists
   pub store : x′ .store ≡ x .store
-  pub lengths : (c : ℕ) → c < 2048 → lengthIn (x′ .book) c ≡ lengthIn (x .book) c
+  pub lengths : (c : ℕ) → c < allCells → lengthIn (x′ .book) c ≡ lengthIn (x .book) c
   pub what : Handed x x′ l lists

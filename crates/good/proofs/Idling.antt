@@ -11,7 +11,7 @@ use lib.ListN.{getD}
 use lib.Dec.{eqb, leb}
 use borrow.Author.Tests.{eq-eqb, eqb-true, eqb-false, leb-true, leb-false}
 use Rattle.units.specs.Refusals.{pick}
-use Rattle.memory.specs.Layout.{resets, urgents, resends, datas, urgentId, timerAt}
+use Rattle.memory.specs.Layout.{cellsAt, resets, urgents, resends, datas, urgentId, timerAt}
 use Rattle.waiting.specs.Queues.{unlinked}
 use Rattle.window.specs.Windows.{held, Good as GoodWindow}
 use Rattle.window.specs.declared.Window.{Window}
@@ -39,13 +39,13 @@ less-nil i l q x h = mine-without i x (l q) ∙ ap (without x) h
 pub record Idled (i : ℕ) (b b′ : List ℕ) (l : Lists) : Type 0 where
   pub lists : Lists
   pub within : Within i b b′ l lists
-  pub cells : (k : ℕ) → 4224 ≤ k → getD b′ k 0 ≡ getD b k 0
+  pub cells : (k : ℕ) → cellsAt ≤ k → getD b′ k 0 ≡ getD b k 0
   pub silent : Silent lists i (mine i (l resets))
 
 record Dropped (i : ℕ) (w : Window) (n : ℕ) (b b′ : List ℕ) (l : Lists) : Type 0 where
   lists : Lists
   within : Within i b b′ l lists
-  cells : (k : ℕ) → 4224 ≤ k → getD b′ k 0 ≡ getD b k 0
+  cells : (k : ℕ) → cellsAt ≤ k → getD b′ k 0 ≡ getD b k 0
   reset : mine i (lists resets) ≡ []
   urgent : mine i (lists urgents) ≡ []
   fewer : (q x : ℕ) → List·Memᴰ x (lists q) → List·Memᴰ x (l q)
@@ -140,7 +140,7 @@ either-false false true d h = (refl, λ e. absurd (true≢false e))
 either-false false false d h = (refl, λ e. h)
 
 module _ (b : List ℕ) (l : Lists) (i : ℕ) (r : Run) where
-  waits-is : (b′ : List ℕ) → ((k : ℕ) → 4224 ≤ k → getD b′ k 0 ≡ getD b k 0) → (k : ℕ) → waitsIn b′ i (r .window) (r .handed) k ≡ waitsIn b i (r .window) (r .handed) k
+  waits-is : (b′ : List ℕ) → ((k : ℕ) → cellsAt ≤ k → getD b′ k 0 ≡ getD b k 0) → (k : ℕ) → waitsIn b′ i (r .window) (r .handed) k ≡ waitsIn b i (r .window) (r .handed) k
   unfolding waitsIn
   waits-is b′ cells k =
       ap (λ (t : ℕ). leb (r .handed) k || (not (held (r .window) k) && eqb t 0)) (cells (timerAt (cell i (r .window) (past (r .window) k))) (omega arith))

@@ -10,7 +10,7 @@ use lib.ListN.{length, getD, set, length-set}
 use lib.Dec.{eqb}
 use borrow.Author.Tests.{eq-eqb, ne-eqb, eqb-true}
 use Rattle.units.specs.Refusals.{pick}
-use Rattle.memory.specs.Layout.{nextAt, prevAt, bookHalves}
+use Rattle.memory.specs.Layout.{cellsAt, idsEnd, nextAt, prevAt, bookHalves}
 use Rattle.waiting.specs.Queues.{prevOf, nextOf, joined, appended, unlinked}
 use Rattle.waiting.specs.Order.{Queue, Out}
 use Rattle.waiting.proofs.Linked.{last, first, append-queue, append-other, append-beyond, unlink-queue, unlink-other, unlink-beyond, beyond-queue}
@@ -53,10 +53,10 @@ module _ (b : List ℕ) (l : Lists) (L : Lines b l) where
   apart-out q r hq hr n x (inr m) =
       (λ e. let h = L .high q hq x m in omega arith, mem-out x (l r) (λ k. L .apart q r hq hr n x m k))
 
-  pub waits-below : (q : ℕ) → q < 4 → (x : ℕ) → List·Memᴰ x (l q) → x < 2112
-  waits-below q h x m = below-mem 2112 x (l q) (L .queue q h .below .1) m
+  pub waits-below : (q : ℕ) → q < 4 → (x : ℕ) → List·Memᴰ x (l q) → x < idsEnd
+  waits-below q h x m = below-mem idsEnd x (l q) (L .queue q h .below .1) m
 
-  module _ (q x : ℕ) (hq : q < 4) (low : 4 ≤ x) (hx : x < 2112) (none : (r : ℕ) → r < 4 → List·Memᴰ x (l r) → ⊥) where
+  module _ (q x : ℕ) (hq : q < 4) (low : 4 ≤ x) (hx : x < idsEnd) (none : (r : ℕ) → r < 4 → List·Memᴰ x (l r) → ⊥) where
     alone : Out x (q ∷ l q)
     alone = (λ e. omega arith, mem-out x (l q) (none q hq))
 
@@ -104,7 +104,7 @@ module _ (b : List ℕ) (l : Lists) (L : Lines b l) where
         sides y h (inl m) = h m
         sides y h (inr e) = rw (e .1) low
 
-    pub append-cells : (k : ℕ) → 4224 ≤ k → getD (appended b q x) k 0 ≡ getD b k 0
+    pub append-cells : (k : ℕ) → cellsAt ≤ k → getD (appended b q x) k 0 ≡ getD b k 0
     append-cells k h = append-beyond b (L .long) q x (l q) (L .queue q hq) hx alone k h
 
   module _ (q x : ℕ) (hq : q < 4) (m : List·Memᴰ x (l q)) where
@@ -160,10 +160,10 @@ module _ (b : List ℕ) (l : Lists) (L : Lines b l) where
           apart = λ r t hr ht n y k j. L .apart r t hr ht n y (without-in x y (l r) k .0) (without-in x y (l t) j .0);
         }
 
-    pub unlink-cells : (k : ℕ) → 4224 ≤ k → getD (unlinked b x) k 0 ≡ getD b k 0
+    pub unlink-cells : (k : ℕ) → cellsAt ≤ k → getD (unlinked b x) k 0 ≡ getD b k 0
     unlink-cells k h = unlink-beyond b (L .long) q x (s .before) (s .after) w k h
 
-  pub set-lines : (k v : ℕ) → 4224 ≤ k → Lines (set b k v) l
+  pub set-lines : (k v : ℕ) → cellsAt ≤ k → Lines (set b k v) l
   set-lines k v h =
       record {
         long = length-set b k v ∙ L .long;

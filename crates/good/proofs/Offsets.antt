@@ -9,7 +9,7 @@ use native.Mathlib.Nat.{add-zero, add-suc, suc-add}
 use native.Mathlib.Omega.{arith}
 use borrow.Author.Tests.{ne-eqb, lt-ltb, le-ltb}
 use Rattle.units.specs.declared.Seq.{Seq}
-use Rattle.memory.specs.Layout.{resetId, urgentId}
+use Rattle.memory.specs.Layout.{idsEnd, resetId, urgentId}
 use Rattle.window.specs.Windows.{movedOf, acceptOf, passOf, runOf, Good as GoodWindow}
 use Rattle.window.specs.declared.Window.{Window}
 use Rattle.window.proofs.Accepting.{accept-start, accept-size}
@@ -45,7 +45,7 @@ module _ (i : ℕ) (low : i < 16) (w : Window) (g : GoodWindow w) where
   pub id-low : (k : ℕ) → 64 ≤ idAt i w k
   id-low k = omega arith
 
-  pub id-high : (k : ℕ) → idAt i w k < 2112
+  pub id-high : (k : ℕ) → idAt i w k < idsEnd
   id-high k = let h = slot-small (past w k) in omega arith
 
   pub id-owner : (k : ℕ) → ownerOf (idAt i w k) ≡ i

@@ -16,7 +16,7 @@ use Rattle.units.specs.declared.refusals.Refusal.the-variants as refusal
 use Rattle.units.specs.declared.refusals.Verdict.{Verdict}
 use Rattle.units.specs.declared.refusals.Verdict.the-variants.{Passed, Refused}
 use Rattle.units.proofs.Judging.{clear}
-use Rattle.memory.specs.Layout.{datas, urgentId, lengthAt, timerAt, retriesAt}
+use Rattle.memory.specs.Layout.{allCells, cellsAt, idsEnd, datas, urgentId, lengthAt, timerAt, retriesAt}
 use Rattle.waiting.specs.Queues.{appended}
 use Rattle.end_points.proofs.Kept.{RunFits}
 use Rattle.window.specs.Windows.{Good as GoodWindow}
@@ -88,7 +88,7 @@ module _ (b : List ℕ) (l : Lists) (L : Lines b l) (i : ℕ) (low : i < 16) (w 
   abbrev at : ℕ
   at = cell i w (past w taken)
 
-  small : (s : ℕ) → cell i w s < 2048
+  small : (s : ℕ) → cell i w s < allCells
   small = cell-low i low w g
 
   abbrev sized : List ℕ
@@ -108,7 +108,7 @@ module _ (b : List ℕ) (l : Lists) (L : Lines b l) (i : ℕ) (low : i < 16) (w 
   high : 4 ≤ idAt i w taken
   high = omega arith
 
-  below : idAt i w taken < 2112
+  below : idAt i w taken < idsEnd
   below = id-high i low w g taken
 
   sent-within : Within i b (sentBook b at n) l (added l datas (idAt i w taken))
@@ -117,7 +117,7 @@ module _ (b : List ℕ) (l : Lists) (L : Lines b l) (i : ℕ) (low : i < 16) (w 
       within-then i b stored (appended stored datas (idAt i w taken)) l l (added l datas (idAt i w taken)) within-stored
       (within-append i stored l (within-stored .lines) datas (idAt i w taken) (omega arith) high below none (id-owner i low w g taken) (data-ranged i low w g taken))
 
-  sent-cells : (k : ℕ) → 4224 ≤ k → getD (sentBook b at n) k 0 ≡ getD stored k 0
+  sent-cells : (k : ℕ) → cellsAt ≤ k → getD (sentBook b at n) k 0 ≡ getD stored k 0
   unfolding sentBook
   sent-cells k h = append-cells stored l (within-stored .lines) datas (idAt i w taken) (omega arith) high below none k h
 
@@ -128,13 +128,13 @@ module _ (b : List ℕ) (l : Lists) (L : Lines b l) (i : ℕ) (low : i < 16) (w 
       ∙ getD-set-other sized (retriesAt at) (lengthAt at) 0 0 (λ e. omega arith)
       ∙ getD-set-same b (lengthAt at) n 0 (omega (arith, L .long))
 
-  sent-there : (c : ℕ) → c < 2048 → c ≢ at → lengthIn (sentBook b at n) c ≡ lengthIn b c
+  sent-there : (c : ℕ) → c < allCells → c ≢ at → lengthIn (sentBook b at n) c ≡ lengthIn b c
   sent-there c h d =
       sent-cells (lengthAt c) (omega arith)
       ∙ getD-set-other sized (retriesAt at) (lengthAt c) 0 0 (λ e. omega arith)
       ∙ getD-set-other b (lengthAt at) (lengthAt c) n 0 (λ e. d (omega arith))
 
-  sent-timer : (c : ℕ) → c < 2048 → timerIn (sentBook b at n) c ≡ timerIn b c
+  sent-timer : (c : ℕ) → c < allCells → timerIn (sentBook b at n) c ≡ timerIn b c
   sent-timer c h =
       let a = small (past w taken) in
       sent-cells (timerAt c) (omega arith)

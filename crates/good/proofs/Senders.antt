@@ -13,7 +13,7 @@ use lib.Seq.{getD-set-same, getD-set-other}
 use lib.Dec.{eqb}
 use borrow.Author.Tests.{eq-eqb}
 use Rattle.units.specs.Refusals.{pick}
-use Rattle.memory.specs.Layout.{resets, urgents, resends, datas, resetId, lengthAt, timerAt, bookHalves}
+use Rattle.memory.specs.Layout.{allCells, cellsAt, retriesAt, resets, urgents, resends, datas, resetId, lengthAt, timerAt, bookHalves}
 use Rattle.waiting.specs.Queues.{appended}
 use Rattle.window.specs.Windows.{held, Good as GoodWindow}
 use Rattle.window.specs.declared.Window.{Window}
@@ -40,7 +40,7 @@ use Rattle.good.proofs.Turns.{turnedTo, anew-fresh, anew-window}
 
 -- the timer of the number k past the start is at v, and no other timer of the window and no length altered
 pub record Timed (b b′ : List ℕ) (i : ℕ) (w : Window) (k v : ℕ) : Type 0 where
-  pub lengths : (g : ℕ) → g < 2048 → lengthIn b′ g ≡ lengthIn b g
+  pub lengths : (g : ℕ) → g < allCells → lengthIn b′ g ≡ lengthIn b g
   pub here : timerIn b′ (cell i w (past w k)) ≡ v
   pub there : (j : ℕ) → j < w .size → j ≢ k → timerIn b′ (cell i w (past w j)) ≡ timerIn b (cell i w (past w j))
 
@@ -65,7 +65,7 @@ module _ (i : ℕ) (low : i < 16) (w : Window) (g : GoodWindow w) (k : ℕ) (hk 
       }
 
   -- after something that alters the links alone
-  pub timed-after : (b c b′ : List ℕ) → ((x : ℕ) → 4224 ≤ x → getD c x 0 ≡ getD b x 0) → Timed c b′ i w k v → Timed b b′ i w k v
+  pub timed-after : (b c b′ : List ℕ) → ((x : ℕ) → cellsAt ≤ x → getD c x 0 ≡ getD b x 0) → Timed c b′ i w k v → Timed b b′ i w k v
   timed-after b c b′ same d =
       record {
         lengths = λ x l. d .lengths x l ∙ same (lengthAt x) (omega arith);
@@ -74,7 +74,7 @@ module _ (i : ℕ) (low : i < 16) (w : Window) (g : GoodWindow w) (k : ℕ) (hk 
       }
 
   -- before something that alters what is beyond the timers
-  pub timed-then : (b c b′ : List ℕ) → Timed b c i w k v → ((x : ℕ) → 4224 ≤ x → x < 8320 → getD b′ x 0 ≡ getD c x 0) → Timed b b′ i w k v
+  pub timed-then : (b c b′ : List ℕ) → Timed b c i w k v → ((x : ℕ) → cellsAt ≤ x → x < (retriesAt 0) → getD b′ x 0 ≡ getD c x 0) → Timed b b′ i w k v
   timed-then b c b′ d same =
       record {
         lengths = λ x l. same (lengthAt x) (omega arith) (omega arith) ∙ d .lengths x l;
@@ -89,7 +89,7 @@ module _ (i : ℕ) (low : i < 16) (w : Window) (g : GoodWindow w) (k : ℕ) (hk 
 -- ---- what it sends
 
 -- where no length altered, nor the timer of an acknowledged number
-pub sending-kept : (b b′ : List ℕ) (i : ℕ) → i < 16 → (r : Run) → GoodWindow (r .window) → (largest : ℕ) → ((c : ℕ) → c < 2048 → lengthIn b′ c ≡ lengthIn b c)
+pub sending-kept : (b b′ : List ℕ) (i : ℕ) → i < 16 → (r : Run) → GoodWindow (r .window) → (largest : ℕ) → ((c : ℕ) → c < allCells → lengthIn b′ c ≡ lengthIn b c)
     → ((k : ℕ) → held (r .window) k ≡ true → timerIn b′ (cell i (r .window) (past (r .window) k)) ≡ timerIn b (cell i (r .window) (past (r .window) k)))
     → Sending b i r largest → Sending b′ i r largest
 sending-kept b b′ i low r g largest lengths timers s =
@@ -229,7 +229,7 @@ module _ (b : List ℕ) (l : Lists) (L : Lines b l) (i : ℕ) (low : i < 16) (s 
       within-append i b l L resets (resetId i) (omega arith) (omega arith) (omega arith)
       (silent-out l i s (resetId i) (reset-owner i low)) (reset-owner i low) (reset-ranged i low)
 
-  pub reset-cells : (k : ℕ) → 4224 ≤ k → getD (appended b resets (resetId i)) k 0 ≡ getD b k 0
+  pub reset-cells : (k : ℕ) → cellsAt ≤ k → getD (appended b resets (resetId i)) k 0 ≡ getD b k 0
   reset-cells k h =
       append-cells b l L resets (resetId i) (omega arith) (omega arith) (omega arith) (silent-out l i s (resetId i) (reset-owner i low)) k h
 

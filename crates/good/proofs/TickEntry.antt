@@ -9,7 +9,7 @@ use native.Mathlib.Omega.{arith}
 use lib.Dec.{eqb}
 use borrow.Author.Tests.{eq-eqb, eqb-true}
 use Rattle.units.specs.Refusals.{pick}
-use Rattle.memory.specs.Layout.{resets, resetId, lengthAt}
+use Rattle.memory.specs.Layout.{allCells, resets, resetId, lengthAt}
 use Rattle.waiting.specs.Queues.{appended}
 use Rattle.end_points.proofs.Kept.{StateFits, RunFits}
 use Rattle.window.specs.Windows.{Good as GoodWindow}
@@ -61,7 +61,7 @@ Bounds c m b i e (Failing n) = (k : ℕ) → k < e .run .handed → Bound c m (t
 pub record EntryTicked (t : List ℕ) (c : ℕ) (y y′ : Scanned) (l : Lists) (i : ℕ) : Type 0 where
   pub kept : Kept t (y .lent) (y′ .lent) l i
   pub ticks : Ticks (endOf (y .lent .node) i) (endOf (y′ .lent .node) i)
-  pub lengths : (g : ℕ) → g < 2048 → lengthIn (y′ .lent .book) g ≡ lengthIn (y .lent .book) g
+  pub lengths : (g : ℕ) → g < allCells → lengthIn (y′ .lent .book) g ≡ lengthIn (y .lent .book) g
   pub store : y′ .lent .store ≡ y .lent .store
   pub out : y′ .lent .out ≡ y .lent .out
   pub falls : y′ .least ≤ y .least
@@ -114,7 +114,7 @@ module _ (t : List ℕ) (c : ℕ) (y : Scanned) (l : Lists) (g : Good t (y .lent
 
   -- a sender is saved in another state
   saves : isSends (e .entry .kind) ≡ true → (s : State) (r : Run) → StateFits s → RunFits r → r .window .size ≡ e .run .window .size
-      → (b′ : List ℕ) (l′ : Lists) → Within i (x .book) b′ l l′ → ((d : ℕ) → d < 2048 → lengthIn b′ d ≡ lengthIn (x .book) d)
+      → (b′ : List ℕ) (l′ : Lists) → Within i (x .book) b′ l l′ → ((d : ℕ) → d < allCells → lengthIn b′ d ≡ lengthIn (x .book) d)
       → Entered b′ l′ i (turnedTo e s r) → Ticks e (turnedTo e s r) → (m : ℕ) → m ≤ y .least → Bounds c m b′ i (turnedTo e s r) s
       → Timely (clockIn (x .node)) (quietIn (x .node)) b′ i (turnedTo e s r) s
       → EntryTicked t c y (record { lent = both x (saved (x .node) i s r) b′; least = m }) l i

@@ -14,7 +14,7 @@ use lib.Dec.{eqb}
 use lib.Pow.{pow-pos, pow-add}
 use borrow.Author.Tests.{eqb-true, eqb-false}
 use Rattle.units.specs.Refusals.{pick}
-use Rattle.memory.specs.Layout.{resets, resetId, lengthAt, timerAt, clockAt, quietAt, cellOwner}
+use Rattle.memory.specs.Layout.{allCells, cellsAt, resets, resetId, lengthAt, timerAt, clockAt, quietAt, cellOwner}
 use Rattle.waiting.specs.Queues.{appended}
 use Rattle.waiting.specs.Order.{acksIn}
 use Rattle.end_points.proofs.Kept.{RunFits}
@@ -47,7 +47,7 @@ use Rattle.good.proofs.Timely.{falls-on, passes-over, found-on}
 -- ---- a bound stays while the entry's timers do, and where it is lowered
 
 module _ (c m m′ : ℕ) (down : m′ ≤ m) (b b′ : List ℕ) (j : ℕ) (low : j < 16) (e : EndPoint) (g : GoodWindow (e .run .window))
-    (cells : (k : ℕ) → 4224 ≤ k → cellOwner k ≡ j → getD b′ k 0 ≡ getD b k 0) where
+    (cells : (k : ℕ) → cellsAt ≤ k → cellOwner k ≡ j → getD b′ k 0 ≡ getD b k 0) where
   one-kept : (k : ℕ) → Bound c m (timerIn b (cell j (e .run .window) (past (e .run .window) k))) → Bound c m′ (timerIn b′ (cell j (e .run .window) (past (e .run .window) k)))
   one-kept k h =
       let w = e .run .window in
@@ -74,7 +74,7 @@ pub record Pass (t : List ℕ) (c : ℕ) (x : Lent) (y : Scanned) (n : ℕ) : Ty
   pub idle : quietIn (y .lent .node) ≡ 0
   pub ticks : (j : ℕ) → j < n → Ticks (endOf (x .node) j) (endOf (y .lent .node) j)
   pub later : (j : ℕ) → n ≤ j → endOf (y .lent .node) j ≡ endOf (x .node) j
-  pub lengths : (g : ℕ) → g < 2048 → lengthIn (y .lent .book) g ≡ lengthIn (x .book) g
+  pub lengths : (g : ℕ) → g < allCells → lengthIn (y .lent .book) g ≡ lengthIn (x .book) g
   pub store : y .lent .store ≡ x .store
   pub out : y .lent .out ≡ x .out
   pub heeds : (j : ℕ) → j < n → Bounded c (y .least) (y .lent) j
@@ -171,7 +171,7 @@ record Recovery (t : List ℕ) (r r′ : Recovered) (l : Lists) (i : ℕ) : Type
   fate : r .bits < 2 ^ i → Recovers (r′ .bits / 2 ^ i % 2) (endOf (r .lent .node) i) (endOf (r′ .lent .node) i)
   below : (j : ℕ) → j < i → r′ .bits / 2 ^ j % 2 ≡ r .bits / 2 ^ j % 2
   most : r .bits < 2 ^ i → r′ .bits < 2 ^ suc i
-  lengths : (c : ℕ) → c < 2048 → lengthIn (r′ .lent .book) c ≡ lengthIn (r .lent .book) c
+  lengths : (c : ℕ) → c < allCells → lengthIn (r′ .lent .book) c ≡ lengthIn (r .lent .book) c
   store : r′ .lent .store ≡ r .lent .store
   out : r′ .lent .out ≡ r .lent .out
   heeds : (c m : ℕ) → Bounded c m (r .lent) i → Bounded c m (r′ .lent) i
@@ -247,7 +247,7 @@ pub record Round (t : List ℕ) (y r : Recovered) (n : ℕ) : Type 0 where
   pub most : r .bits < 2 ^ n
   pub fate : (j : ℕ) → j < n → Recovers (r .bits / 2 ^ j % 2) (endOf (y .lent .node) j) (endOf (r .lent .node) j)
   pub later : (j : ℕ) → n ≤ j → endOf (r .lent .node) j ≡ endOf (y .lent .node) j
-  pub lengths : (c : ℕ) → c < 2048 → lengthIn (r .lent .book) c ≡ lengthIn (y .lent .book) c
+  pub lengths : (c : ℕ) → c < allCells → lengthIn (r .lent .book) c ≡ lengthIn (y .lent .book) c
   pub store : r .lent .store ≡ y .lent .store
   pub out : r .lent .out ≡ y .lent .out
   pub heeds : (c m j : ℕ) → j < countIn (y .lent .node) → Bounded c m (y .lent) j → Bounded c m (r .lent) j
@@ -342,7 +342,7 @@ pub record ScanKept (t : List ℕ) (c : ℕ) (x : Lent) : Type 0 where
   pub acks : acksIn (scanBoth c x .lent .node) ≡ acksIn (x .node)
   pub fate : (j : ℕ) → j < countIn (x .node) → Fate (scanBoth c x .bits / 2 ^ j % 2) (endOf (x .node) j) (endOf (scanBoth c x .lent .node) j)
   pub most : scanBoth c x .bits < 2 ^ countIn (x .node)
-  pub lengths : (g : ℕ) → g < 2048 → lengthIn (scanBoth c x .lent .book) g ≡ lengthIn (x .book) g
+  pub lengths : (g : ℕ) → g < allCells → lengthIn (scanBoth c x .lent .book) g ≡ lengthIn (x .book) g
   pub store : scanBoth c x .lent .store ≡ x .store
   pub out : scanBoth c x .lent .out ≡ x .out
   pub heeds : (j : ℕ) → j < countIn (x .node) → Bounded c (scanned c x .least) (scanBoth c x .lent) j
@@ -378,7 +378,7 @@ pub record TickKept (t : List ℕ) (x x′ : Lent) (bits : ℕ) : Type 0 where
   pub acks : acksIn (x′ .node) ≡ acksIn (x .node)
   pub fate : (j : ℕ) → j < countIn (x .node) → Fate (bits / 2 ^ j % 2) (endOf (x .node) j) (endOf (x′ .node) j)
   pub most : bits < 2 ^ countIn (x .node)
-  pub lengths : (g : ℕ) → g < 2048 → lengthIn (x′ .book) g ≡ lengthIn (x .book) g
+  pub lengths : (g : ℕ) → g < allCells → lengthIn (x′ .book) g ≡ lengthIn (x .book) g
   pub store : x′ .store ≡ x .store
   pub out : x′ .out ≡ x .out
 

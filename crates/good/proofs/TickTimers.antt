@@ -12,7 +12,7 @@ use lib.Seq.{getD-set-same, getD-set-other}
 use lib.Dec.{eqb, ltb}
 use borrow.Author.Tests.{eq-eqb, ne-eqb, eqb-true, eqb-false}
 use Rattle.units.specs.Refusals.{pick}
-use Rattle.memory.specs.Layout.{resends, timerAt, retriesAt, bookHalves}
+use Rattle.memory.specs.Layout.{allCells, cellsAt, resends, timerAt, retriesAt, bookHalves}
 use Rattle.waiting.specs.Queues.{appended}
 use Rattle.window.specs.Windows.{Good as GoodWindow}
 use Rattle.end_points.specs.declared.EndPoint.{EndPoint}
@@ -36,7 +36,7 @@ module _ (i : ℕ) (low : i < 16) (e : EndPoint) (g : GoodWindow (e .run .window
   abbrev at : ℕ → ℕ
   at k = cell i (e .run .window) (past (e .run .window) k)
 
-  at-low : (k : ℕ) → at k < 2048
+  at-low : (k : ℕ) → at k < allCells
   at-low k = cell-low i low (e .run .window) g (past (e .run .window) k)
 
   -- ---- one turn
@@ -47,14 +47,14 @@ module _ (i : ℕ) (low : i < 16) (e : EndPoint) (g : GoodWindow (e .run .window
 
   record Turn (now : ℕ) (b b′ : List ℕ) (c : ℕ) : Type 0 where
     here : timerIn b′ c ≡ stays now (timerIn b c)
-    there : (x : ℕ) → 4224 ≤ x → x ≢ timerAt c → x ≢ retriesAt c → getD b′ x 0 ≡ getD b x 0
+    there : (x : ℕ) → cellsAt ≤ x → x ≢ timerAt c → x ≢ retriesAt c → getD b′ x 0 ≡ getD b x 0
 
   module _ (now : ℕ) (b : List ℕ) (l : Lists) (L : Lines b l) (k : ℕ) (h : k < e .run .handed) where
     due-zero : timerIn b (at k) ≡ now → 0 ≡ stays now (timerIn b (at k))
     due-zero d = sym (rw (eq-eqb (timerIn b (at k)) now d))
 
     -- set to zero, where it is due
-    set-turn : (b′ : List ℕ) → length b′ ≡ bookHalves → timerIn b (at k) ≡ now → ((x : ℕ) → 4224 ≤ x → getD b′ x 0 ≡ getD b x 0)
+    set-turn : (b′ : List ℕ) → length b′ ≡ bookHalves → timerIn b (at k) ≡ now → ((x : ℕ) → cellsAt ≤ x → getD b′ x 0 ≡ getD b x 0)
         → Turn now b (set b′ (timerAt (at k)) 0) (at k)
     set-turn b′ long d same =
         record {

@@ -15,7 +15,7 @@ use Rattle.units.specs.declared.refusals.Refusal.the-variants as refusal
 use Rattle.units.specs.declared.refusals.Verdict.{Verdict}
 use Rattle.units.specs.declared.refusals.Verdict.the-variants.{Passed, Refused}
 use Rattle.units.proofs.Judging.{clear}
-use Rattle.memory.specs.Layout.{urgents, urgentId, lengthAt, timerAt}
+use Rattle.memory.specs.Layout.{cellsAt, urgents, urgentId, lengthAt, timerAt}
 use Rattle.waiting.specs.Queues.{appended}
 use Rattle.end_points.proofs.Kept.{RunFits}
 use Rattle.window.specs.declared.Window.{Window}
@@ -69,7 +69,7 @@ module _ (b : List ℕ) (l : Lists) (L : Lines b l) (i : ℕ) (low : i < 16) (e 
   abbrev lists : Lists
   lists = added l urgents (urgentId i)
 
-  cells : (k : ℕ) → 4224 ≤ k → getD book k 0 ≡ getD b k 0
+  cells : (k : ℕ) → cellsAt ≤ k → getD book k 0 ≡ getD b k 0
   cells k h = append-cells b l L urgents (urgentId i) (omega arith) (omega arith) (omega arith) none k h
 
   urged-within : Within i b book l lists

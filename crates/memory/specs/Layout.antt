@@ -197,9 +197,16 @@ nextAt x = x
 abbrev pub prevAt : ℕ → ℕ
 prevAt x = 2112 + x
 
+-- how many cells there are, and where what the book keeps of them begins
+abbrev pub allCells : ℕ
+allCells = cellOf mostEntries 0
+
+abbrev pub cellsAt : ℕ
+cellsAt = 4224
+
 -- cell g: the payload's length, its timer (the tick at which it runs out, crates/timing), its retries
 abbrev pub lengthAt : ℕ → ℕ
-lengthAt g = 4224 + g
+lengthAt g = cellsAt + g
 
 abbrev pub timerAt : ℕ → ℕ
 timerAt g = 6272 + g
@@ -209,4 +216,4 @@ retriesAt g = 8320 + g
 
 -- whose a word of the book beyond the links is: lengths, timers and retries lie by entry
 abbrev pub cellOwner : ℕ → ℕ
-cellOwner k = (k - 4224) % 2048 / 128
+cellOwner k = (k - cellsAt) % allCells / cellOf 1 0

@@ -12,7 +12,7 @@ use lib.Seq.{getD-set-other}
 use lib.Dec.{eqb}
 use borrow.Author.Tests.{eq-eqb, ne-eqb, eqb-true, eqb-false, ltb-true}
 use Rattle.units.specs.Refusals.{pick}
-use Rattle.memory.specs.Layout.{timerAt, retriesAt, cellId, quietAt}
+use Rattle.memory.specs.Layout.{allCells, timerAt, retriesAt, cellId, quietAt}
 use Rattle.waiting.specs.Queues.{unlinked}
 use Rattle.waiting.specs.Order.{acksIn}
 use Rattle.window.specs.Numbers.{byteOf}
@@ -151,7 +151,7 @@ module _ (t : List ℕ) (n : Memory) (l : Lists) (g : Good t (n .node) (n .book)
   number-here : past w at ≡ s
   number-here = distance-back (w .start .0) s (window .byte) hs
 
-  cell-small : c₀ < 2048
+  cell-small : c₀ < allCells
   cell-small = cell-low i low w window s
 
   same : Takes t (answers (0 ∷ 0 ∷ i ∷ []) block M) (At i Ignored) x
@@ -182,7 +182,7 @@ module _ (t : List ℕ) (n : Memory) (l : Lists) (g : Good t (n .node) (n .book)
 
     -- with a book b in which its timer stands
     module _ {b : List ℕ} (S : Sending (n .book) i (e .run) (e .entry .largest)) (T : Timed (n .book) b i w at 0)
-        (R : (k : ℕ) → k < 2048 → retriesIn b k ≡ retriesIn (n .book) k) where
+        (R : (k : ℕ) → k < allCells → retriesIn b k ≡ retriesIn (n .book) k) where
       acked-run-is : ackedRun noted ≡ p
       acked-run-is = run-is L zero-left (n .store) (n .book) i e s S window b low C T R
 
@@ -261,7 +261,7 @@ module _ (t : List ℕ) (n : Memory) (l : Lists) (g : Good t (n .node) (n .book)
         lines : Lines b′ lists
         resent : lists 2 ≡ members.without x₀ (l 2)
         others : (r : ℕ) → r < 4 → r ≢ 2 → lists r ≡ l r
-        retries : (k : ℕ) → k < 2048 → retriesIn b′ k ≡ retriesIn (n .book) k
+        retries : (k : ℕ) → k < allCells → retriesIn b′ k ≡ retriesIn (n .book) k
 
       book : Book (stopped (n .book) c₀)
       unfolding stopped
@@ -405,7 +405,7 @@ module _ (t : List ℕ) (n : Memory) (l : Lists) (g : Good t (n .node) (n .book)
           subst (λ (z : ℕ). Timed (n .book) (set (n .book) (timerAt (cell i w z)) 0) i w at 0) number-here
           (timed-set i low w window at (inside) 0 (n .book) (g .lines .long))
 
-      retries-f : (k : ℕ) → k < 2048 → retriesIn b-f k ≡ retriesIn (n .book) k
+      retries-f : (k : ℕ) → k < allCells → retriesIn b-f k ≡ retriesIn (n .book) k
       retries-f k h = getD-set-other (n .book) (timerAt c₀) (retriesAt k) 0 0 (λ y. let v = cell-small in omega arith)
 
       abbrev e-f : EndPoint

@@ -12,7 +12,7 @@ use lib.Dec.{eqb}
 use lib.Seq.{sets}
 use borrow.Author.Tests.{not-true, eq-eqb}
 use Rattle.units.specs.Refusals.{pick}
-use Rattle.memory.specs.Layout.{lengthAt, timerAt, retriesAt}
+use Rattle.memory.specs.Layout.{cellsAt, lengthAt, timerAt, retriesAt}
 use Rattle.window.specs.Windows.{held, Good as GoodWindow}
 use Rattle.table.specs.Layout.{countOf, entryOf}
 use Rattle.table.specs.Areas.{storeOf, slotsOf}
@@ -90,7 +90,7 @@ module _ (L : Reading) (st st′ b b′ : List ℕ) (i : ℕ) (e : EndPoint) whe
       )
 
 -- where only links alter
-pub cells-same : (L : Reading) (st b b′ : List ℕ) (i : ℕ) (e : EndPoint) → ((k : ℕ) → 4224 ≤ k → getD b′ k 0 ≡ getD b k 0)
+pub cells-same : (L : Reading) (st b b′ : List ℕ) (i : ℕ) (e : EndPoint) → ((k : ℕ) → cellsAt ≤ k → getD b′ k 0 ≡ getD b k 0)
     → endFor L st b′ i e ≡ endFor L st b i e
 unfolding endFor
 cells-same L st b b′ i e c =

@@ -14,7 +14,7 @@ use borrow.Author.Tests.{ne-eqb, leb-false, ltb-false, le-ltb, lt-ltb}
 use Rattle.units.specs.Refusals.{pick}
 use Rattle.units.specs.declared.refusals.Refusal.the-variants.{TooShort}
 use Rattle.units.specs.declared.refusals.Verdict.the-variants.{Refused}
-use Rattle.memory.specs.Layout.{timerAt, retriesAt}
+use Rattle.memory.specs.Layout.{allCells, cellsAt, timerAt, retriesAt}
 use Rattle.waiting.specs.Acks.{waitingOf, ackOf}
 use Rattle.waiting.specs.Queues.{nextOf, unlinked}
 use Rattle.waiting.specs.declared.acks.Ack.{Ack}
@@ -310,7 +310,7 @@ module _ (t : List ℕ) (n : Memory) (l : Lists) (g : Good t (n .node) (n .book)
     O : OpenSender (n .book) l i e
     O = stated-at g (S .alone .known) true (S .sends) Open (S .opened)
 
-    cells : (c : ℕ) → 4224 ≤ c → getD (unlinked (n .book) k) c 0 ≡ getD (n .book) c 0
+    cells : (c : ℕ) → cellsAt ≤ c → getD (unlinked (n .book) k) c 0 ≡ getD (n .book) c 0
     cells = unlink-cells (n .book) l (g .lines) v k hv (first-in k (l v) f)
 
     slot-lines : Lines slot-book (less l k)
@@ -333,7 +333,7 @@ module _ (t : List ℕ) (n : Memory) (l : Lists) (g : Good t (n .node) (n .book)
         (set (unlinked (n .book) k) (timerAt (cell i w (past w j))) (over i)) cells
         (timed-set i low w window j inside (over i) (unlinked (n .book) k) (plain-lines v k hv f .long)))
 
-    retries : (c : ℕ) → c < 2048 → retriesIn slot-book c ≡ retriesIn (n .book) c
+    retries : (c : ℕ) → c < allCells → retriesIn slot-book c ≡ retriesIn (n .book) c
     retries c h =
         ap (λ (b : List ℕ). retriesIn b c) book-is
         ∙ getD-set-other (unlinked (n .book) k) (timerAt (cell i w (past w j))) (retriesAt c) (over i) 0

@@ -8,7 +8,7 @@ use native.Mathlib.Decide.{decLt}
 use native.Mathlib.Omega.{arith}
 use lib.ListN.{getD, set, length-set}
 use lib.Seq.{getD-set-same, getD-set-other}
-use Rattle.memory.specs.Layout.{bookHalves}
+use Rattle.memory.specs.Layout.{cellsAt, idsEnd, bookHalves}
 use Rattle.waiting.specs.Queues.{appended}
 use Rattle.waiting.specs.Order.{Chain, Out, Queue}
 use Rattle.good.specs.Good.{Lists, Lines}
@@ -56,9 +56,9 @@ pub record Put (b b′ : List ℕ) (l : Lists) (c v d w q x : ℕ) : Type 0 wher
   pub lines : Lines b′ (added l q x)
   pub first : getD b′ c 0 ≡ v
   pub second : getD b′ d 0 ≡ w
-  pub others : (k : ℕ) → 4224 ≤ k → k ≢ c → k ≢ d → getD b′ k 0 ≡ getD b k 0
+  pub others : (k : ℕ) → cellsAt ≤ k → k ≢ c → k ≢ d → getD b′ k 0 ≡ getD b k 0
 
-pub put-both : {b : List ℕ} {l : Lists} → Lines b l → (c v d w q x : ℕ) → 4224 ≤ c → c < d → d < bookHalves → q < 4 → 4 ≤ x → x < 2112
+pub put-both : {b : List ℕ} {l : Lists} → Lines b l → (c v d w q x : ℕ) → cellsAt ≤ c → c < d → d < bookHalves → q < 4 → 4 ≤ x → x < idsEnd
     → ((r : ℕ) → r < 4 → List·Memᴰ x (l r) → ⊥) → Put b (appended (set (set b c v) d w) q x) l c v d w q x
 put-both {b} {l} L c v d w q x hc hd long hq hx low free =
     record {
@@ -71,5 +71,5 @@ put-both {b} {l} L c v d w q x hc hd long hq hx low free =
     both : Lines (set (set b c v) d w) l
     both = set-lines (set b c v) l (set-lines b l L c v hc) d w (omega arith)
 
-    cells : (k : ℕ) → 4224 ≤ k → getD (appended (set (set b c v) d w) q x) k 0 ≡ getD (set (set b c v) d w) k 0
+    cells : (k : ℕ) → cellsAt ≤ k → getD (appended (set (set b c v) d w) q x) k 0 ≡ getD (set (set b c v) d w) k 0
     cells = append-cells (set (set b c v) d w) l both q x hq hx low free

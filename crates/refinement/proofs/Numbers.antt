@@ -11,6 +11,7 @@ use lib.Seq.{ext-getD, getD-set-same, getD-set-other, getD-drop}
 use lib.Dec.{ltb, eqb}
 use borrow.Author.Tests.{lt-ltb, le-ltb, eqb-true}
 use Rattle.units.specs.Refusals.{pick}
+use Rattle.memory.specs.Layout.{allCells}
 use Rattle.window.specs.Windows.{offsetOf, held, acceptOf, withHeld, Good as GoodWindow}
 use Rattle.window.specs.declared.Found.the-variants.{New, Held}
 use Rattle.window.specs.declared.Window.{Window}
@@ -115,7 +116,7 @@ module _ (L : Reading) (zero-left : (d : ℕ) → eqb (L d) 0 ≡ eqb d 0) (st b
 
     -- in another book its timer starts at v, and no other number alters
     module _ (b′ : List ℕ) (low : i < 16) (sends : isSends (e .entry .kind) ≡ true) (h v d : ℕ) (starts : L d ≡ v) (T : Timed b b′ i w k d)
-        (R : (c : ℕ) → c < 2048 → retriesIn b′ c ≡ retriesIn b c) (out : k < h) (missing : held w k ≡ false)
+        (R : (c : ℕ) → c < allCells → retriesIn b′ c ≡ retriesIn b c) (out : k < h) (missing : held w k ≡ false)
         (others : (j : ℕ) → j ≢ k → ltb j h ≡ ltb j (r .handed)) where
       abbrev then : EndPoint
       then = handedTo e h
@@ -166,7 +167,7 @@ module _ (L : Reading) (zero-left : (d : ℕ) → eqb (L d) 0 ≡ eqb d 0) (st b
 
     -- of another book, where its timer stands and all else is as it was
     module _ (g : GoodWindow w) (b′ : List ℕ) (low : i < 16) (C : Counts r s) (T : Timed b b′ i w at 0)
-        (R : (c : ℕ) → c < 2048 → retriesIn b′ c ≡ retriesIn b c) where
+        (R : (c : ℕ) → c < allCells → retriesIn b′ c ≡ retriesIn b c) where
       abbrev p : ℕ
       p = acking.passing r s .run
 

@@ -17,7 +17,7 @@ use Rattle.units.specs.declared.refusals.Verdict.the-variants.{Passed}
 use Rattle.units.specs.declared.refusals.Refusal.{Refusal}
 use Rattle.units.specs.declared.refusals.Refusal.the-variants.{UrgentWaits}
 use Rattle.memory.specs.Layout as layout
-use Rattle.memory.specs.Layout.{lengthAt, timerAt, retriesAt, cellId}
+use Rattle.memory.specs.Layout.{cellsAt, lengthAt, timerAt, retriesAt, cellId}
 use Rattle.waiting.specs.Queues.{appended}
 use Rattle.waiting.specs.Order.{acksIn}
 use Rattle.window.specs.Windows.{Good as GoodWindow}
@@ -253,7 +253,7 @@ module _ (t : List ℕ) (n : Memory) (l : Lists) (g : Good t (n .node) (n .book)
         (mine-all i id (l 1) m (urgent-owner i low-u)))
     none-waits-u (suc (suc q)) hq m = let k = g .known (suc (suc q)) hq id m .1 in omega arith
 
-    cells-u : (k : ℕ) → 4224 ≤ k → getD (now-u .book) k 0 ≡ getD (n .book) k 0
+    cells-u : (k : ℕ) → cellsAt ≤ k → getD (now-u .book) k 0 ≡ getD (n .book) k 0
     cells-u k hk =
         ap (λ (b : List ℕ). getD b k 0) book-u
         ∙ append-cells (n .book) l (g .lines) layout.urgents id (omega arith) (omega arith) (omega arith) none-waits-u k hk

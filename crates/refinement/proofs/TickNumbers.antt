@@ -13,7 +13,7 @@ use lib.Dec.{eqb, leb, ltb}
 use borrow.Author.Tests.{lt-ltb, le-ltb, le-leb, lt-leb, eqb-true, eqb-false, eq-eqb, ne-eqb, ltb-true, ltb-false}
 use Rattle.units.specs.Refusals.{pick}
 use Rattle.memory.specs.Layout as layout
-use Rattle.memory.specs.Layout.{timerAt, retriesAt, cellId, bookHalves}
+use Rattle.memory.specs.Layout.{allCells, cellsAt, timerAt, retriesAt, cellId, bookHalves}
 use Rattle.waiting.specs.Queues.{appended}
 use Rattle.window.specs.Windows.{Good as GoodWindow}
 use Rattle.window.specs.declared.Window.{Window}
@@ -171,7 +171,7 @@ module _ (st b : List ℕ) (l : Lists) (L : Lines b l) (i : ℕ) (low : i < 16) 
     on-next : good-to (suc k) ≡ (good-to k && not (eqb v 1 && leb M r))
     on-next = on-more M (not f) N k ∙ rw (lt-ltb k (e .run .handed) hk)
 
-    at-small : (j : ℕ) → at j < 2048
+    at-small : (j : ℕ) → at j < allCells
     at-small j = cell-low i low w g (past w j)
 
     other : (j : ℕ) → j < w .size → j ≢ k → at j ≢ at k
@@ -211,7 +211,7 @@ module _ (st b : List ℕ) (l : Lists) (L : Lines b l) (i : ℕ) (low : i < 16) 
     quiet z = (on-next ∙ rw z (and-true (good-to k)), rw z, rw z (ap (λ (y : Bool). pick y (r + 1) r) (and-false (good-to (suc k)))))
 
     -- a timer put anew, and nothing else
-    timer-moved : (c : List ℕ) → ((x : ℕ) → 4224 ≤ x → getD c x 0 ≡ getD (t .book) x 0) → length c ≡ bookHalves → (y : ℕ) → y ≡ stays d
+    timer-moved : (c : List ℕ) → ((x : ℕ) → cellsAt ≤ x → getD c x 0 ≡ getD (t .book) x 0) → length c ≡ bookHalves → (y : ℕ) → y ≡ stays d
         → pick (good-to (suc k) && eqb v 1) (r + 1) r ≡ r → Moved (set c (timerAt (at k)) y)
     timer-moved c same c-long y is none =
         record {
@@ -257,7 +257,7 @@ module _ (st b : List ℕ) (l : Lists) (L : Lines b l) (i : ℕ) (low : i < 16) 
         (λ y. rw (q .1) (C .queued (sym (q .0) ∙ y)))
 
     -- it comes to zero, and the end is Failing then: nothing is tried again, in a book c that differs in links at most
-    fails : d ≡ now → good-to (suc k) ≡ false → (c : List ℕ) → ((x : ℕ) → 4224 ≤ x → getD c x 0 ≡ getD (t .book) x 0)
+    fails : d ≡ now → good-to (suc k) ≡ false → (c : List ℕ) → ((x : ℕ) → cellsAt ≤ x → getD c x 0 ≡ getD (t .book) x 0)
         → length c ≡ bookHalves → (x u : ℕ)
         → Next (come-to (set c (timerAt (at k)) 0) true x u)
     fails z o c same c-long x u =

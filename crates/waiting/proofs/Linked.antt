@@ -7,13 +7,13 @@ use mathlib.Core.List.{List, [], _∷_, _++_}
 use native.Mathlib.Omega.{arith}
 use lib.ListN.{length, getD, set, length-set}
 use lib.Seq.{getD-set-same, getD-set-other}
-use Rattle.memory.specs.Layout.{nextAt, prevAt, bookHalves}
+use Rattle.memory.specs.Layout.{cellsAt, idsEnd, nextAt, prevAt, bookHalves}
 use Rattle.waiting.specs.Queues.{nextOf, prevOf, joined, appended, unlinked}
 use Rattle.waiting.specs.Order.{Adjacent, Chain, Out, Distinct, Below, Queue}
 
 -- ---- one link
 
-module _ (b : List ℕ) (long : length b ≡ bookHalves) (x y : ℕ) (hx : x < 2112) (hy : y < 2112) where
+module _ (b : List ℕ) (long : length b ≡ bookHalves) (x y : ℕ) (hx : x < idsEnd) (hy : y < idsEnd) where
   -- the two that are joined stand next to each other
   pub joined-here : Adjacent (joined b x y) x y
   joined-here =
@@ -23,7 +23,7 @@ module _ (b : List ℕ) (long : length b ≡ bookHalves) (x y : ℕ) (hx : x < 2
       }
 
   -- two others that did, still do
-  pub joined-there : (u v : ℕ) → u < 2112 → v < 2112 → u ≢ x → v ≢ y → Adjacent b u v → Adjacent (joined b x y) u v
+  pub joined-there : (u v : ℕ) → u < idsEnd → v < idsEnd → u ≢ x → v ≢ y → Adjacent b u v → Adjacent (joined b x y) u v
   joined-there u v hu hv nu nv a =
       record {
         ahead =
@@ -37,7 +37,7 @@ module _ (b : List ℕ) (long : length b ≡ bookHalves) (x y : ℕ) (hx : x < 2
       }
 
   -- and the book beyond the links stays
-  pub joined-beyond : (k : ℕ) → 4224 ≤ k → getD (joined b x y) k 0 ≡ getD b k 0
+  pub joined-beyond : (k : ℕ) → cellsAt ≤ k → getD (joined b x y) k 0 ≡ getD b k 0
   joined-beyond k h =
       getD-set-other (set b (nextAt x) y) (prevAt y) k x 0 (λ e. omega arith) ∙ getD-set-other b (nextAt x) k y 0 (λ e. omega arith)
 
@@ -45,7 +45,7 @@ module _ (b : List ℕ) (long : length b ≡ bookHalves) (x y : ℕ) (hx : x < 2
   joined-long = length-set (set b (nextAt x) y) (prevAt y) x ∙ length-set b (nextAt x) y ∙ long
 
   -- a chain that neither leaves x nor comes to y stays
-  pub joined-chain : (u : ℕ) (us : List ℕ) (v : ℕ) → Below 2112 (u ∷ us) → v < 2112 → Out x (u ∷ us) → Out y us → y ≢ v → Chain b u us v → Chain (joined b x y) u us v
+  pub joined-chain : (u : ℕ) (us : List ℕ) (v : ℕ) → Below idsEnd (u ∷ us) → v < idsEnd → Out x (u ∷ us) → Out y us → y ≢ v → Chain b u us v → Chain (joined b x y) u us v
   joined-chain u [] v l hv ox oy nv c = joined-there u v (l .0) hv (λ e. ox .0 (sym e)) (λ e. nv (sym e)) c
   joined-chain u (w ∷ us) v l hv ox oy nv c = (
     joined-there u w (l .0) (l .1 .0) (λ e. ox .0 (sym e)) (λ e. oy .0 (sym e)) (c .0),
@@ -132,22 +132,22 @@ below-without n ys x zs l = below-append n ys zs (below-left n ys (x ∷ zs) l) 
 -- ---- appending
 
 -- from u by ys and x to q, where it went from u by ys to q
-append-chain : (b : List ℕ) → length b ≡ bookHalves → (q x : ℕ) → q < 2112 → x < 2112 → q ≢ x → (u : ℕ) (ys : List ℕ)
-    → Below 2112 (u ∷ ys) → Distinct (u ∷ ys) → Out x (u ∷ ys) → Out q ys → Chain b u ys q
+append-chain : (b : List ℕ) → length b ≡ bookHalves → (q x : ℕ) → q < idsEnd → x < idsEnd → q ≢ x → (u : ℕ) (ys : List ℕ)
+    → Below idsEnd (u ∷ ys) → Distinct (u ∷ ys) → Out x (u ∷ ys) → Out q ys → Chain b u ys q
     → Chain (joined (joined b (last u ys) x) x q) u (ys ++ (x ∷ [])) q
 append-chain b long q x hq hx nq u [] l d ox oq c =
     let a = joined-here b long u x (l .0) hx in
     let m = joined-long b long u x (l .0) hx in
     (joined-there (joined b u x) m x q hx hq u x (l .0) hx (λ e. ox .0 (sym e)) (λ e. nq (sym e)) a, joined-here (joined b u x) m x q hx hq)
 append-chain b long q x hq hx nq u (y ∷ ys) l d ox oq c =
-    let hl = last-below 2112 y ys (l .1) in
+    let hl = last-below idsEnd y ys (l .1) in
     let m = joined-long b long (last y ys) x hl hx in
     let a = joined-there b long (last y ys) x hl hx u y (l .0) (l .1 .0) (last-out u y ys (d .0)) (λ e. ox .1 .0 (sym e)) (c .0) in (
       joined-there (joined b (last y ys) x) m x q hx hq u y (l .0) (l .1 .0) (λ e. ox .0 (sym e)) (λ e. oq .0 (sym e)) a,
       append-chain b long q x hq hx nq y ys (l .1) (d .1) (ox .1) (oq .1) (c .1),
     )
 
-module _ (b : List ℕ) (long : length b ≡ bookHalves) (q x : ℕ) (items : List ℕ) (w : Queue b q items) (hx : x < 2112) (ox : Out x (q ∷ items)) where
+module _ (b : List ℕ) (long : length b ≡ bookHalves) (q x : ℕ) (items : List ℕ) (w : Queue b q items) (hx : x < idsEnd) (ox : Out x (q ∷ items)) where
   -- x is last
   pub append-queue : Queue (appended b q x) q (items ++ (x ∷ []))
   unfolding appended
@@ -156,7 +156,7 @@ module _ (b : List ℕ) (long : length b ≡ bookHalves) (q x : ℕ) (items : Li
       record {
         chain = rw e (append-chain b long q x (w .below .0) hx (λ e. ox .0 (sym e)) q items (w .below) (w .distinct) ox (w .distinct .0) (w .chain));
         distinct = (out-append q items (x ∷ []) (w .distinct .0) (λ e. ox .0 (sym e), tt), distinct-last x items (ox .1) (w .distinct .1));
-        below = (w .below .0, below-append 2112 items (x ∷ []) (w .below .1) (hx, tt));
+        below = (w .below .0, below-append idsEnd items (x ∷ []) (w .below .1) (hx, tt));
       }
 
   -- another queue that shares nothing with it stays
@@ -164,7 +164,7 @@ module _ (b : List ℕ) (long : length b ≡ bookHalves) (q x : ℕ) (items : Li
   unfolding appended
   append-other r others v oq o ol =
       let e : prevOf b q ≡ last q items = chain-last b q items q (w .chain) in
-      let hl = last-below 2112 q items (w .below) in
+      let hl = last-below idsEnd q items (w .below) in
       let m = joined-long b long (last q items) x hl hx in
       let c = joined-chain b long (last q items) x hl hx r others r (v .below) (v .below .0) ol (o .1) (o .0) (v .chain) in
       record {
@@ -173,11 +173,11 @@ module _ (b : List ℕ) (long : length b ≡ bookHalves) (q x : ℕ) (items : Li
         below = v .below;
       }
 
-  pub append-beyond : (k : ℕ) → 4224 ≤ k → getD (appended b q x) k 0 ≡ getD b k 0
+  pub append-beyond : (k : ℕ) → cellsAt ≤ k → getD (appended b q x) k 0 ≡ getD b k 0
   unfolding appended
   append-beyond k h =
       let e : prevOf b q ≡ last q items = chain-last b q items q (w .chain) in
-      let hl = last-below 2112 q items (w .below) in
+      let hl = last-below idsEnd q items (w .below) in
       rw e (joined-beyond (joined b (last q items) x) (joined-long b long (last q items) x hl hx) x q hx (w .below .0) k h ∙ joined-beyond b long (last q items) x hl hx k h)
 
 -- ---- unlinking
@@ -187,8 +187,8 @@ chain-split b u [] x zs z c = c
 chain-split b u (y ∷ ys) x zs z c = let r = chain-split b y ys x zs z (c .1) in ((c .0, r .0), r .1)
 
 -- from u by ys and then by zs to z, where x stood between
-unlink-chain : (b : List ℕ) → length b ≡ bookHalves → (x : ℕ) (zs : List ℕ) (z : ℕ) → Below 2112 zs → z < 2112 → Distinct zs → Out z zs → Chain b x zs z
-    → (u : ℕ) (ys : List ℕ) → Below 2112 (u ∷ ys) → Distinct (u ∷ (ys ++ zs)) → Out z ys → Chain b u ys x
+unlink-chain : (b : List ℕ) → length b ≡ bookHalves → (x : ℕ) (zs : List ℕ) (z : ℕ) → Below idsEnd zs → z < idsEnd → Distinct zs → Out z zs → Chain b x zs z
+    → (u : ℕ) (ys : List ℕ) → Below idsEnd (u ∷ ys) → Distinct (u ∷ (ys ++ zs)) → Out z ys → Chain b u ys x
     → Chain (joined b (last u ys) (first zs z)) u (ys ++ zs) z
 unlink-chain b long x [] z lz hz dz oz cz u [] l d o c = joined-here b long u z (l .0) hz
 unlink-chain b long x (w ∷ zs) z lz hz dz oz cz u [] l d o c = (
@@ -196,7 +196,7 @@ unlink-chain b long x (w ∷ zs) z lz hz dz oz cz u [] l d o c = (
   joined-chain b long u w (l .0) (lz .0) w zs z lz hz (d .0) (dz .0) (λ e. oz .0 (sym e)) (cz .1),
 )
 unlink-chain b long x zs z lz hz dz oz cz u (y ∷ ys) l d o c = (
-  joined-there b long (last y ys) (first zs z) (last-below 2112 y ys (l .1)) (first-below 2112 zs z lz hz) u y (l .0) (l .1 .0)
+  joined-there b long (last y ys) (first zs z) (last-below idsEnd y ys (l .1)) (first-below idsEnd zs z lz hz) u y (l .0) (l .1 .0)
       (last-out u y ys (d .0 .0, out-left u ys zs (d .0 .1)))
       (first-out y zs z (out-right y ys zs (d .1 .0)) (λ e. o .0 (sym e)))
       (c .0),
@@ -204,11 +204,11 @@ unlink-chain b long x zs z lz hz dz oz cz u (y ∷ ys) l d o c = (
 )
 
 module _ (b : List ℕ) (long : length b ≡ bookHalves) (q x : ℕ) (ys zs : List ℕ) (w : Queue b q (ys ++ (x ∷ zs))) where
-  before-below : Below 2112 (q ∷ ys)
-  before-below = (w .below .0, below-left 2112 ys (x ∷ zs) (w .below .1))
+  before-below : Below idsEnd (q ∷ ys)
+  before-below = (w .below .0, below-left idsEnd ys (x ∷ zs) (w .below .1))
 
-  after-below : Below 2112 zs
-  after-below = below-right 2112 ys (x ∷ zs) (w .below .1) .1
+  after-below : Below idsEnd zs
+  after-below = below-right idsEnd ys (x ∷ zs) (w .below .1) .1
 
   parts : Chain b q ys x × Chain b x zs q
   parts = chain-split b q ys x zs q (w .chain)
@@ -229,7 +229,7 @@ module _ (b : List ℕ) (long : length b ≡ bookHalves) (q x : ℕ) (ys zs : Li
             (out-append q ys zs (out-left q ys (x ∷ zs) (d .0)) (out-right q ys (x ∷ zs) (d .0) .1), distinct-without ys x zs (d .1))
             (out-left q ys (x ∷ zs) (d .0)) (parts .0));
         distinct = (out-append q ys zs (out-left q ys (x ∷ zs) (d .0)) (out-right q ys (x ∷ zs) (d .0) .1), distinct-without ys x zs (d .1));
-        below = (w .below .0, below-without 2112 ys x zs (w .below .1));
+        below = (w .below .0, below-without idsEnd ys x zs (w .below .1));
       }
 
   -- another queue that shares nothing with it stays
@@ -238,15 +238,15 @@ module _ (b : List ℕ) (long : length b ≡ bookHalves) (q x : ℕ) (ys zs : Li
       record {
         chain =
             rw around
-            (joined-chain b long (last q ys) (first zs q) (last-below 2112 q ys before-below) (first-below 2112 zs q after-below (w .below .0)) r others r (v .below) (v .below .0) ol
+            (joined-chain b long (last q ys) (first zs q) (last-below idsEnd q ys before-below) (first-below idsEnd zs q after-below (w .below .0)) r others r (v .below) (v .below .0) ol
             (of .1) (of .0) (v .chain));
         distinct = v .distinct;
         below = v .below;
       }
 
-  pub unlink-beyond : (k : ℕ) → 4224 ≤ k → getD (unlinked b x) k 0 ≡ getD b k 0
+  pub unlink-beyond : (k : ℕ) → cellsAt ≤ k → getD (unlinked b x) k 0 ≡ getD b k 0
   unlink-beyond k h =
-      rw around (joined-beyond b long (last q ys) (first zs q) (last-below 2112 q ys before-below) (first-below 2112 zs q after-below (w .below .0)) k h)
+      rw around (joined-beyond b long (last q ys) (first zs q) (last-below idsEnd q ys before-below) (first-below idsEnd zs q after-below (w .below .0)) k h)
 
 -- ---- what else is known of a queue
 
@@ -255,7 +255,7 @@ pub queue-first : (b : List ℕ) (q : ℕ) (items : List ℕ) → Queue b q item
 queue-first b q items w = chain-first b q items q (w .chain)
 
 -- a store beyond the links leaves every chain
-pub beyond-chain : (b : List ℕ) (k v u : ℕ) (us : List ℕ) (z : ℕ) → 4224 ≤ k → Below 2112 (u ∷ us) → z < 2112 → Chain b u us z → Chain (set b k v) u us z
+pub beyond-chain : (b : List ℕ) (k v u : ℕ) (us : List ℕ) (z : ℕ) → cellsAt ≤ k → Below idsEnd (u ∷ us) → z < idsEnd → Chain b u us z → Chain (set b k v) u us z
 beyond-chain b k v u [] z h l hz c =
     record { ahead = getD-set-other b k (nextAt u) v 0 (λ e. omega arith) ∙ c .ahead; back = getD-set-other b k (prevAt z) v 0 (λ e. omega arith) ∙ c .back }
 beyond-chain b k v u (w ∷ us) z h l hz c = (
@@ -266,6 +266,6 @@ beyond-chain b k v u (w ∷ us) z h l hz c = (
   beyond-chain b k v w us z h (l .1) hz (c .1),
 )
 
-pub beyond-queue : (b : List ℕ) (k v q : ℕ) (items : List ℕ) → 4224 ≤ k → Queue b q items → Queue (set b k v) q items
+pub beyond-queue : (b : List ℕ) (k v q : ℕ) (items : List ℕ) → cellsAt ≤ k → Queue b q items → Queue (set b k v) q items
 beyond-queue b k v q items h w =
     record { chain = beyond-chain b k v q items q h (w .below) (w .below .0) (w .chain); distinct = w .distinct; below = w .below }

@@ -7,6 +7,7 @@ use lib.ListN.{getD}
 use lib.Dec.{ltb}
 use borrow.Author.Tests.{lt-ltb, le-ltb}
 use borrow.Author.Needs.{needs}
+use Rattle.memory.specs.Layout.{retriesAt}
 use Rattle.call_tick.proofs.timers.expire.Statement.{statement}
 use Rattle.call_tick.proofs.timers.expire.Tie as tie
 
@@ -56,7 +57,7 @@ returns-2 : tie.Need-returns-2
 returns-2 c =
     let a = c .before .before .before .before .before .before .before .before .before .before .before .before .before .before .before .before .before .before .args in
     let h = c .before .before .before .before .before .before .before .before .before .before .before .before .before .before .half-at .ensures in
-    let t : ltb (getD (now (a .book)) (8320 + a .g) 0) (a .e .entry .retries) ≡ true = rw h at (lt-ltb _ _ (c .before .before .before .before .before .before .before .before .before .before .before .before .if2 .taken)) in
+    let t : ltb (getD (now (a .book)) ((retriesAt 0) + a .g) 0) (a .e .entry .retries) ≡ true = rw h at (lt-ltb _ _ (c .before .before .before .before .before .before .before .before .before .before .before .before .if2 .taken)) in
     rw (c .before .before .before .before .before .before .before .before .before .before .before .before .before .before .before .before .if1 .left, t, c .before .before .append .ensures, c .before .before .before .before .before .before .put-half .ensures, c .before .before .before .before .before .before .before .before .before .before .stop2 .ensures, h)
 
 idle-requires : tie.Need-idle-requires
@@ -72,7 +73,7 @@ returns-3 : tie.Need-returns-3
 returns-3 c =
     let a = c .before .before .before .before .before .before .before .before .before .before .before .before .before .before .before .args in
     let h = c .before .before .before .before .before .before .before .before .before .before .before .half-at .ensures in
-    let t : ltb (getD (now (a .book)) (8320 + a .g) 0) (a .e .entry .retries) ≡ false = rw h at (le-ltb _ _ (c .before .before .before .before .before .before .before .before .before .if2 .left)) in
+    let t : ltb (getD (now (a .book)) ((retriesAt 0) + a .g) 0) (a .e .entry .retries) ≡ false = rw h at (le-ltb _ _ (c .before .before .before .before .before .before .before .before .before .if2 .left)) in
     rw (c .before .before .before .before .before .before .before .before .before .before .before .before .before .if1 .left, t, c .before .before .stop3 .ensures, c .before .before .before .before .before .before .idle .ensures)
 
 pub expire-spec : {M : Type 1} → statement M
