@@ -220,6 +220,24 @@ static int batch_out_of_order(void)
     return refused;
 }
 
+static void before_faulty(void)
+{
+    open_both();
+    batch_length = 64;
+}
+
+/* A Reset with number 4 arrives, and the driver asks which byte is at fault. */
+static int batch_faulty(void)
+{
+    static const uint8_t numbered_reset[9] = {65, 238, 64, 2, 0, 0, 0, 4, 242};
+    int wrong = 0;
+    for (unsigned k = 0; k < 64; k++) {
+        const int refused = into_there(numbered_reset, sizeof numbered_reset);
+        wrong |= refused != 18 || at_fault(refused) != 7;
+    }
+    return wrong;
+}
+
 static void before_acknowledge(void)
 {
     open_both();
@@ -355,6 +373,7 @@ static const struct row {
     {"hand_out", before_hand_out, batch_hand_out, after_nothing},
     {"data", before_arrive, batch_in_order, after_nothing},
     {"early_data", before_arrive, batch_out_of_order, after_nothing},
+    {"faulty", before_faulty, batch_faulty, after_nothing},
     {"acknowledgement", before_acknowledge, batch_acknowledge, after_nothing},
     {"round_trip", before_round_trip, batch_round_trip, after_round_trip},
     {"idle_tick", before_idle, batch_tick, after_none_ended},

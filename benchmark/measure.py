@@ -25,6 +25,7 @@ CALLS = [
     Case("Data in order, 16 bytes", "data", 128, 1, 16),
     Case("Data out of order, 16 bytes", "early_data", 128, 1, 16),
     Case("acknowledgement", "acknowledgement", 128, 1, 16),
+    Case("Reset with a fault, and where", "faulty", 128, 1, 16),
     Case("round trip, 16 bytes, W 16", "round_trip", 16, 1, 16),
     Case("idle tick, 16 entries", "idle_tick", 128, 16, 15),
     Case("busy tick, 16 x 128 timers", "busy_tick", 128, 16, 15),

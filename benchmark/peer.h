@@ -65,3 +65,8 @@ static inline int writes(uint8_t *buffer, size_t room, const uint8_t *payload, s
     frame.payload = payload;
     return frame_write(&frame, buffer, room, &written);
 }
+
+static inline int at_fault(int refused)
+{
+    return frame_fault_byte(refused);
+}

@@ -59,3 +59,8 @@ static inline int writes(uint8_t *buffer, size_t room, const uint8_t *payload, s
 
     return shelugvar_frame_write(buffer, room, &fields, payload, length);
 }
+
+static inline int at_fault(int refused)
+{
+    return shelugvar_byte_at_fault((enum shelugvar_refusal)refused);
+}

@@ -10,7 +10,7 @@ from comparison.two_nodes import Pair
 
 REFUSALS = {
     "table": (0, 1), "open": (0, 2, 4), "close": (0, 2, 4), "counts": (0, 2, 3), "send": (0, 2, 3, 4, 5, 7),
-    "urgent": (0, 2, 3, 4, 5, 9), "arrival": (0, 10, 11, 12, 13, 5, 14), "tick": (0,), "hand out": (0,),
+    "urgent": (0, 2, 3, 4, 5, 9), "arrival": (0, 10, 11, 15, 16, 17, 18, 13, 5, 14), "tick": (0,), "hand out": (0,),
 }
 TRANSITIONS = ["sender " + way for way in (
     "Closed to Enabled", "Enabled to Open", "Open to Failing", "Failing to Enabled",
@@ -20,6 +20,7 @@ TRANSITIONS += ["receiver " + way for way in (
 EVENTS = ["handed out: " + what for what in ("acknowledgement", "Reset", "Urgent", "retransmission", "data")]
 EVENTS += ["Data delivers 0", "Data delivers 1", "Data delivers more", "Data held already", "Data outside the window"]
 EVENTS += ["Urgent delivered"]
+EVENTS += ["fault %d before %d" % pair for pair in ((15, 16), (16, 17), (16, 18), (17, 18))]
 EVENTS += ["Reset drops held payloads", "Reset drops waiting acknowledgements"]
 EVENTS += ["receiver's start folds", "sender's start folds"]
 EVENTS += ["acknowledgement at %s passes %s" % (state, count)
@@ -91,7 +92,7 @@ class Totals:
     # the table
 
     def refusal_rows(self) -> Iterator[str]:
-        numbers = list(range(15))
+        numbers = [n for n in range(19) if n != 12]  # 12 is given no more
         yield "refusal   " + "".join("%8d" % n for n in numbers)
         for code, name in model.CALL_NAMES.items():
             counts = [self.seen[(code, n)] if n in REFUSALS[name] else "." for n in numbers]

@@ -28,6 +28,10 @@ MOST_ACKS = 32
 MOST_STREAM = 65536
 OVERHEAD = 9
 
+# the faults of a header by their refusals, and the byte where each sits
+UNKNOWN_TYPE, USER_BITS, WRONG_LENGTH, WRONG_SEQUENCE = 15, 16, 17, 18
+FAULT_BYTE = {UNKNOWN_TYPE: 3, USER_BITS: 3, WRONG_LENGTH: 4, WRONG_SEQUENCE: 7}
+
 
 class Refused(Exception):
     """A call that is refused; nothing has altered."""
@@ -77,13 +81,15 @@ def is_sound(data: bytes) -> bool:
     return len(data) >= OVERHEAD and int.from_bytes(data[4:6], "big") + OVERHEAD == len(data) and check(data) == 0
 
 
-def is_lawful(control: int, length: int, sequence: int) -> bool:
-    """Refusal 12's tests: type, user bits, payload length, Reset sequence."""
-    if control in (DATA, URGENT):
-        return 1 <= length <= MOST_PAYLOAD
-    if control == ACKNOWLEDGE:
-        return length == 0
-    return control == RESET and length == 0 and sequence == 0
+def faults_of(control: int, length: int, sequence: int) -> list[int]:
+    """What in a header is against the frame rules, in the order of the tests (02, K1). A type that is none asks nothing
+    of length and sequence."""
+    user, kind = divmod(control, 16)
+    carries = kind in (DATA, URGENT)
+    tests = ((UNKNOWN_TYPE, kind > URGENT), (USER_BITS, user != 0),
+             (WRONG_LENGTH, kind <= URGENT and not (1 <= length <= MOST_PAYLOAD if carries else length == 0)),
+             (WRONG_SEQUENCE, kind == RESET and sequence != 0))
+    return [fault for fault, fits in tests if fits]
 
 
 def block(payloads: Sequence[bytes]) -> bytes:
@@ -412,13 +418,20 @@ class Node:
                 return index
         raise Refused(13)
 
+    def refuse_faults(self, faults: list[int]) -> None:
+        """The first fault is told; the others are counted as those that it hides."""
+        for hidden in faults[1:]:
+            self.seen["fault %d before %d" % (faults[0], hidden)] += 1
+        if faults:
+            raise Refused(faults[0])
+
     def admit(self, data: bytes) -> int:
         """The index of the entry that takes the frame in, or the refusal; alters nothing."""
         refuse_if(not is_sound(data), 10)
         destination, protocol, source, control, _, _, channel, sequence = data[:8]
         length = len(data) - OVERHEAD
         refuse_if((destination, protocol) != (self.own, self.protocol), 11)
-        refuse_if(not is_lawful(control, length, sequence), 12)
+        self.refuse_faults(faults_of(control, length, sequence))
         index = self.find(Sender if control == ACKNOWLEDGE else Receiver, source, channel)
         end = self.ends[index]
         refuse_if(end.state == CLOSED or control in (DATA, URGENT) and end.state == ENABLED, 13)
@@ -632,7 +645,7 @@ def call(node: Node, kind: int, index: int, data: bytes) -> Answer:
     try:
         answer = Answer(0, CALLS[kind](node, index, data))
     except Refused as refused:
-        answer = Answer(refused.number, [])
+        answer = Answer(refused.number, [FAULT_BYTE[n] for n in (refused.number,) if n in FAULT_BYTE])
     node.seen[(kind, answer.refusal)] += 1
     return answer
 

@@ -1,4 +1,5 @@
-/* Frames and windows from C: writes a frame of each type, reads it back, shows each refusal and the window test.
+/* Frames and windows from C: writes a frame of each type, reads it back, shows each refusal, which byte of
+ * a refused frame is at fault, and the window test.
  * Prints what it saw; ends with status 1 where that is not what the header promises. */
 #include <stdio.h>
 #include <string.h>
@@ -38,11 +39,11 @@ static void refusals(void)
     static uint8_t payload[SHELUGVAR_PROTOCOL_PAYLOAD_MOST + 1], room[SHELUGVAR_PROTOCOL_FRAME_MOST + 1];
 
     bad = f, bad.type = 4;
-    expect("type 4", shelugvar_write_frame(room, sizeof room, &bad, payload, 1), SHELUGVAR_AGAINST_RULES);
+    expect("type 4", shelugvar_write_frame(room, sizeof room, &bad, payload, 1), SHELUGVAR_UNKNOWN_TYPE);
     bad = f, bad.user = 1;
-    expect("user bits", shelugvar_write_frame(room, sizeof room, &bad, payload, 1), SHELUGVAR_AGAINST_RULES);
+    expect("user bits", shelugvar_write_frame(room, sizeof room, &bad, payload, 1), SHELUGVAR_USER_BITS);
     bad = f, bad.type = SHELUGVAR_RESET;
-    expect("a Reset's sequence", shelugvar_write_frame(room, sizeof room, &bad, NULL, 0), SHELUGVAR_AGAINST_RULES);
+    expect("a Reset's sequence", shelugvar_write_frame(room, sizeof room, &bad, NULL, 0), SHELUGVAR_WRONG_SEQUENCE);
     expect("Data without payload", shelugvar_write_frame(room, sizeof room, &f, NULL, 0), SHELUGVAR_PAYLOAD_LENGTH);
     expect("65,520 bytes", shelugvar_write_frame(room, sizeof room, &f, payload, most), SHELUGVAR_DONE);
     expect("65,521 bytes", shelugvar_write_frame(room, sizeof room, &f, payload, most + 1), SHELUGVAR_PAYLOAD_LENGTH);
@@ -58,6 +59,30 @@ static void refusals(void)
     expect("  fields kept", memcmp(&f, &kept, sizeof f) == 0, 1);
 }
 
+/* A frame whose check byte is right and whose header is not: the refusal, and the byte at fault. */
+static void at_fault(const char *what, const uint8_t *frame, size_t length, unsigned wanted, unsigned byte)
+{
+    struct shelugvar_fields fields;
+    const enum shelugvar_refusal refused = shelugvar_read_frame(frame, length, &fields);
+
+    expect(what, refused, wanted);
+    expect("  byte", shelugvar_byte_at_fault(refused), byte);
+}
+
+static void faults(void)
+{
+    static const uint8_t type[] = {64, 238, 66, 0x14, 0, 0, 7, 4, 161};
+    static const uint8_t user[] = {64, 238, 66, 0x12, 0, 1, 7, 4, 1, 137};
+    static const uint8_t length[] = {64, 238, 66, 2, 0, 1, 7, 4, 1, 23};
+    static const uint8_t sequence[] = {64, 238, 66, 2, 0, 0, 7, 4, 216};
+
+    at_fault("type 4 and a user bit", type, sizeof type, SHELUGVAR_UNKNOWN_TYPE, 3);
+    at_fault("a Reset with user bit, payload, number 4", user, sizeof user, SHELUGVAR_USER_BITS, 3);
+    at_fault("a Reset with payload and number 4", length, sizeof length, SHELUGVAR_LENGTH_AGAINST_TYPE, 4);
+    at_fault("a Reset with number 4", sequence, sizeof sequence, SHELUGVAR_WRONG_SEQUENCE, 7);
+    at_fault("eight bytes", sequence, 8, SHELUGVAR_BAD_FRAME, SHELUGVAR_NO_BYTE);
+}
+
 int main(void)
 {
     struct shelugvar_fields data = {65, SHELUGVAR_PROTOCOL_ID, 64, SHELUGVAR_DATA, 0, 7, 5};
@@ -71,6 +96,7 @@ int main(void)
     round_trip("Reset", reset, "");
     round_trip("Urgent", urgent, "stop");
     refusals();
+    faults();
     expect("start 250, W 16: 9", shelugvar_test_window(250, 16, 9), SHELUGVAR_INSIDE);
     expect("start 250, W 16: 10", shelugvar_test_window(250, 16, 10), SHELUGVAR_OUTSIDE);
     expect("start 246, W 0: 5, the turn too far", shelugvar_test_window(246, 0, 5), SHELUGVAR_INSIDE);

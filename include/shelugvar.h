@@ -21,9 +21,9 @@
 #endif
 
 /* The version of this header and of the archive that it declares, as in CHANGELOG.md. */
-#define SHELUGVAR_VERSION "0.1.0"
+#define SHELUGVAR_VERSION "0.2.0"
 #define SHELUGVAR_VERSION_MAJOR 0
-#define SHELUGVAR_VERSION_MINOR 1
+#define SHELUGVAR_VERSION_MINOR 2
 #define SHELUGVAR_VERSION_PATCH 0
 /* The same as one number, which grows with the version: a byte for each part after the first. */
 #define SHELUGVAR_VERSION_NUMBER \
@@ -67,21 +67,27 @@ enum shelugvar_state {
 /* Refusals: each is given exactly when its test is the first to fit, in the order that the call names. 0 is none. */
 enum shelugvar_refusal {
     SHELUGVAR_DONE = 0,
-    SHELUGVAR_BAD_TABLE = 1,      /* the table breaks a rule */
-    SHELUGVAR_NO_ENTRY = 2,       /* entry index not below the count */
-    SHELUGVAR_OTHER_KIND = 3,     /* entry of the other kind */
-    SHELUGVAR_WRONG_STATE = 4,    /* open when not Closed, close when Closed, send or Urgent when not Open */
-    SHELUGVAR_PAYLOAD_LENGTH = 5, /* payload 0 or above P; frame writer: above 65,520, or not fitting its type */
-    SHELUGVAR_TOO_SHORT = 6,      /* store, block or frame buffer too short */
-    SHELUGVAR_WINDOW_FULL = 7,    /* W numbers taken from the start */
-    SHELUGVAR_RUN_FULL = 8,       /* 4,294,967,295 payloads accepted in this run */
-    SHELUGVAR_URGENT_WAITS = 9,   /* an Urgent already waits */
-    SHELUGVAR_BAD_FRAME = 10,     /* frame under 9 bytes, length not matching, or bad check byte */
-    SHELUGVAR_NOT_OURS = 11,      /* destination or protocol ID not ours */
-    SHELUGVAR_AGAINST_RULES = 12, /* type, user bits, payload length or sequence against the frame rules */
-    SHELUGVAR_NO_END_POINT = 13,  /* no entry fits, or it is Closed, or Data or Urgent at Enabled */
-    SHELUGVAR_ACKS_FULL = 14      /* Data or Reset while 32 acknowledgements wait */
+    SHELUGVAR_BAD_TABLE = 1,            /* the table breaks a rule */
+    SHELUGVAR_NO_ENTRY = 2,             /* entry index not below the count */
+    SHELUGVAR_OTHER_KIND = 3,           /* entry of the other kind */
+    SHELUGVAR_WRONG_STATE = 4,          /* open when not Closed, close when Closed, send or Urgent when not Open */
+    SHELUGVAR_PAYLOAD_LENGTH = 5,       /* payload 0 or above P; frame writer: above 65,520, or not fitting its type */
+    SHELUGVAR_TOO_SHORT = 6,            /* store, block or frame buffer too short */
+    SHELUGVAR_WINDOW_FULL = 7,          /* W numbers taken from the start */
+    SHELUGVAR_RUN_FULL = 8,             /* 4,294,967,295 payloads accepted in this run */
+    SHELUGVAR_URGENT_WAITS = 9,         /* an Urgent already waits */
+    SHELUGVAR_BAD_FRAME = 10,           /* frame under 9 bytes, length not matching, or bad check byte */
+    SHELUGVAR_NOT_OURS = 11,            /* destination or protocol ID not ours */
+    SHELUGVAR_NO_END_POINT = 13,        /* no entry fits, or it is Closed, or Data or Urgent at Enabled */
+    SHELUGVAR_ACKS_FULL = 14,           /* Data or Reset while 32 acknowledgements wait */
+    SHELUGVAR_UNKNOWN_TYPE = 15,        /* type none of the four */
+    SHELUGVAR_USER_BITS = 16,           /* user bits not zero */
+    SHELUGVAR_LENGTH_AGAINST_TYPE = 17, /* length that the frame says not fitting its type */
+    SHELUGVAR_WRONG_SEQUENCE = 18       /* a Reset's sequence not 0; frame writer: an Urgent's too */
 };
+
+/* What shelugvar_byte_at_fault answers for a refusal that is for no byte of the frame's header. */
+#define SHELUGVAR_NO_BYTE 255
 
 /* What an arrival was. */
 enum shelugvar_what {
@@ -209,6 +215,7 @@ uint8_t shelugvar_store_need(const uint8_t *table, size_t length, size_t *need);
 uint8_t shelugvar_frame_read(const uint8_t *frame, size_t length, struct shelugvar_fields *fields);
 uint8_t shelugvar_frame_write(uint8_t *buffer, size_t room, const struct shelugvar_fields *fields,
                               const uint8_t *payload, size_t length);
+uint8_t shelugvar_fault_byte(uint8_t refusal);
 uint8_t shelugvar_window_test(uint8_t start, uint16_t size, uint8_t sequence);
 
 /* The version of the archive that is linked, as SHELUGVAR_VERSION_NUMBER has it: where the two are not the same, the
@@ -294,7 +301,7 @@ static inline enum shelugvar_refusal shelugvar_node_urgent(struct shelugvar_node
 
 /* A frame has arrived. Data and Urgent write the block: count k (2 bytes), k + 1 offsets (4 bytes each) from the
  * block's start, the last its end, then the payloads; high bytes first. It needs room of 6 + W x (4 + P), and beyond
- * its end nothing alters. Refuses 10, 11, 12, 13, 5, 14, 6. */
+ * its end nothing alters. Refuses 10, 11, 15, 16, 17, 18, 13, 5, 14, 6. */
 static inline enum shelugvar_refusal shelugvar_node_arrival(struct shelugvar_node *n, uint8_t *store, size_t room,
                                                             uint8_t *block, size_t block_room, const uint8_t *frame,
                                                             size_t length, struct shelugvar_arrived *arrived)
@@ -330,13 +337,21 @@ static inline uint16_t shelugvar_node_tick(struct shelugvar_node *n)
 /* ---- Frames and windows, without a node. */
 
 /* Reads a frame of `length` bytes. 0: its fields are in *fields (an Urgent's sequence as 0), and its payload is the
- * length - 9 bytes from frame + 8 on. Else 10 or 12, and *fields is as it was. */
+ * length - 9 bytes from frame + 8 on. Else 10, 15, 16, 17 or 18, and *fields is as it was. */
 static inline enum shelugvar_refusal shelugvar_read_frame(const uint8_t *frame, size_t length,
                                                           struct shelugvar_fields *fields)
 {
     const uint8_t none = 0;
 
     return SHELUGVAR_REFUSAL_(shelugvar_frame_read(length != 0 ? frame : &none, length, fields));
+}
+
+/* Where the fault of a refused frame sits: the number of the byte, from 0, for a refusal of an arrival or of
+ * shelugvar_read_frame. 3 for 15 and 16, 4 for 17 (the length is bytes 4 and 5), 7 for 18; SHELUGVAR_NO_BYTE for all
+ * others, and for what is no refusal. */
+static inline uint8_t shelugvar_byte_at_fault(enum shelugvar_refusal refused)
+{
+    return shelugvar_fault_byte(SHELUGVAR_AS_(uint8_t, refused));
 }
 
 /* The type of a frame that was read. */
@@ -346,7 +361,7 @@ static inline enum shelugvar_frame_type shelugvar_fields_type(const struct shelu
 }
 
 /* Writes a frame into a buffer of `room` bytes. 0: its first length + 9 bytes are the frame, those after it as they
- * were. Else 12, 5 or 6, and the whole buffer is as it was. `payload` must not lie in the buffer. */
+ * were. Else 15, 16, 18, 5 or 6, and the whole buffer is as it was. `payload` must not lie in the buffer. */
 static inline enum shelugvar_refusal shelugvar_write_frame(uint8_t *buffer, size_t room,
                                                            const struct shelugvar_fields *fields,
                                                            const uint8_t *payload, size_t length)

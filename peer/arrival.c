@@ -57,7 +57,10 @@ static struct arrival take(struct node *node, struct end_point *end,
     }
 }
 
-/* 01, "Refusal numbers": an arrival's order is 10, 11, 12, 13, 5, 14, 6. */
+/*
+ * An arrival's order is 10, 11, 15, 16, 17, 18, 13, 5, 14, 6 (01, "Refusal
+ * numbers"; 02, K1).
+ */
 int node_arrival(struct node *node, uint8_t *store, size_t store_length,
                  uint8_t *block, size_t block_length, const uint8_t *bytes,
                  size_t length, struct arrival *arrival)
@@ -71,12 +74,14 @@ int node_arrival(struct node *node, uint8_t *store, size_t store_length,
         bytes[FRAME_PROTOCOL] != node->protocol) {
         return REFUSED_ADDRESS;
     }
-    if (frame_take_apart(bytes, &frame) != NOT_REFUSED) {
-        return REFUSED_RULES;
+    int refusal = frame_take_apart(bytes, &frame);
+
+    if (refusal != NOT_REFUSED) {
+        return refusal;
     }
     struct end_point *end = lookup(node, &frame);
-    int refusal = end_refused(node, end, &frame, store_length, block_length);
 
+    refusal = end_refused(node, end, &frame, store_length, block_length);
     if (refusal == NOT_REFUSED) {
         *arrival = take(node, end, &frame, store, block);
         arrival->index = end->index; /* set here, so no kind lacks it */

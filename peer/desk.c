@@ -96,7 +96,7 @@ static void run_arrival(struct desk *desk, const struct record *record)
                                desk->block, sizeof desk->block,
                                record->bytes, record->length, &arrival);
 
-    lines_number(&desk->lines, (uint32_t)refusal);
+    lines_frame_refusal(&desk->lines, refusal);
     if (refusal == NOT_REFUSED) {
         print_arrival(desk, &arrival);
     }

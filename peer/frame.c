@@ -6,18 +6,15 @@
 #include "check.h"
 #include "numbers.h"
 
-/* 002, 5.2.1 and 5.2.2; false for a type that is none. */
+/* 002, 5.2.1 and 5.2.2, of one of the four types. */
 static bool length_fits(uint8_t type, size_t length)
 {
     switch (type) {
     case TYPE_DATA:
     case TYPE_URGENT:
         return length >= 1 && length <= FRAME_PAYLOAD_MOST;
-    case TYPE_ACKNOWLEDGE:
-    case TYPE_RESET:
-        return length == 0;
     default:
-        return false;
+        return length == 0;
     }
 }
 
@@ -34,7 +31,14 @@ bool frame_is_whole(const uint8_t *bytes, size_t length)
            check_byte(bytes, length) == 0;
 }
 
-/* Refusal 12's tests, of a frame that is whole. */
+/* Of a control byte that is none of the types: 15, or else 16 (02, K1). */
+static int control_fault(uint8_t control)
+{
+    return (control & CONTROL_TYPE) > TYPE_URGENT ? REFUSED_TYPE
+                                                  : REFUSED_USER;
+}
+
+/* 02, K1: a frame that is whole is tested for 15, 16, 17, 18. */
 int frame_take_apart(const uint8_t *whole, struct frame *frame)
 {
     /* With the user bits zero, the control byte is the type. */
@@ -42,9 +46,14 @@ int frame_take_apart(const uint8_t *whole, struct frame *frame)
     uint8_t sequence = whole[FRAME_SEQUENCE];
     size_t length = get16(whole + FRAME_LENGTH);
 
-    if (!length_fits(type, length) ||
-        (type == TYPE_RESET && sequence != RESET_SEQUENCE)) {
-        return REFUSED_RULES;
+    if (type > TYPE_URGENT) {
+        return control_fault(type);
+    }
+    if (!length_fits(type, length)) {
+        return REFUSED_LENGTH;
+    }
+    if (type == TYPE_RESET && sequence != RESET_SEQUENCE) {
+        return REFUSED_SEQUENCE;
     }
     frame->destination = whole[FRAME_DESTINATION];
     frame->protocol = whole[FRAME_PROTOCOL];
@@ -66,12 +75,35 @@ int frame_read(const uint8_t *bytes, size_t length, struct frame *frame)
     return frame_take_apart(bytes, frame);
 }
 
-/* 01, "Refusal numbers": the frame writer's order is 12, 5, 6. */
+int frame_fault_byte(int refusal)
+{
+    switch (refusal) {
+    case REFUSED_TYPE:
+    case REFUSED_USER:
+        return FRAME_CONTROL;
+    case REFUSED_LENGTH:
+        return FRAME_LENGTH;
+    case REFUSED_SEQUENCE:
+        return FRAME_SEQUENCE;
+    default:
+        return FAULT_BYTE_NONE;
+    }
+}
+
+/*
+ * The frame writer's order is 15, 16, 18, 5, 6 (02, K1): a length that does
+ * not fit its type is 5 here (01, "Refusal numbers").
+ */
 static int writing_refused(const struct frame *frame, size_t room)
 {
-    if (frame->type > TYPE_URGENT || frame->user != 0 ||
-        (is_written_with_zero(frame->type) && frame->sequence != 0)) {
-        return REFUSED_RULES;
+    if (frame->type > TYPE_URGENT) {
+        return REFUSED_TYPE;
+    }
+    if (frame->user != 0) {
+        return REFUSED_USER;
+    }
+    if (is_written_with_zero(frame->type) && frame->sequence != 0) {
+        return REFUSED_SEQUENCE;
     }
     if (!length_fits(frame->type, frame->length)) {
         return REFUSED_PAYLOAD;

@@ -1,4 +1,4 @@
-/* The standing frame reader and writer (01, "The frame"). */
+/* The standing frame reader and writer (01, "The frame"; 02, K1). */
 #ifndef PEER_FRAME_H
 #define PEER_FRAME_H
 
@@ -30,5 +30,11 @@ int frame_write(const struct frame *frame, uint8_t *buffer, size_t room,
 /* The reader's two steps, for a node that looks at addresses in between. */
 bool frame_is_whole(const uint8_t *bytes, size_t length);
 int frame_take_apart(const uint8_t *whole, struct frame *frame);
+
+/*
+ * The number of the byte where the fault sits, of a reader's or an arrival's
+ * refusal 15 to 18; FAULT_BYTE_NONE of any other answer.
+ */
+int frame_fault_byte(int refusal);
 
 #endif

@@ -63,7 +63,7 @@ static void run_read(struct lines *lines, const struct record *record)
     struct frame frame;
     int refusal = frame_read(record->bytes, record->length, &frame);
 
-    lines_number(lines, (uint32_t)refusal);
+    lines_frame_refusal(lines, refusal);
     if (refusal != NOT_REFUSED) {
         return;
     }

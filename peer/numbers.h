@@ -1,4 +1,4 @@
-/* Every number of the protocol: papers 01 and 002. */
+/* Every number of the protocol: papers 01, 02 (K1) and 002. */
 #ifndef PEER_NUMBERS_H
 #define PEER_NUMBERS_H
 
@@ -8,6 +8,11 @@ enum frame_type {
     TYPE_ACKNOWLEDGE = 1,
     TYPE_RESET = 2,
     TYPE_URGENT = 3
+};
+
+/* The control byte's nibbles: user bits high, type low. */
+enum {
+    CONTROL_TYPE = 0x0F
 };
 
 /* Where a frame has its bytes (01, "The frame"). */
@@ -22,6 +27,11 @@ enum {
     FRAME_PAYLOAD = 8,
     FRAME_OVERHEAD = 9, /* header and check byte */
     FRAME_PAYLOAD_MOST = 65520
+};
+
+/* In place of a byte number, of a refusal that has none (02, K1). */
+enum {
+    FAULT_BYTE_NONE = -1
 };
 
 enum {
@@ -84,7 +94,10 @@ enum {
     BLOCK_MOST = BLOCK_EMPTY + WINDOW_MOST * BLOCK_OFFSET + STORE_MOST
 };
 
-/* Refusal numbers (01, "Refusal numbers"); 0 is no refusal. */
+/*
+ * Refusal numbers (01, "Refusal numbers"; 02, K1: 15 to 18 are given where 12
+ * stood, and 12 no longer); 0 is no refusal.
+ */
 enum refusal {
     NOT_REFUSED = 0,
     REFUSED_TABLE = 1,
@@ -98,9 +111,12 @@ enum refusal {
     REFUSED_URGENT = 9,
     REFUSED_FRAME = 10,
     REFUSED_ADDRESS = 11,
-    REFUSED_RULES = 12,
     REFUSED_ENTRY = 13,
-    REFUSED_ACKS = 14
+    REFUSED_ACKS = 14,
+    REFUSED_TYPE = 15,
+    REFUSED_USER = 16,
+    REFUSED_LENGTH = 17,
+    REFUSED_SEQUENCE = 18
 };
 
 #endif

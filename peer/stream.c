@@ -4,6 +4,9 @@
 #include <stdlib.h>
 #include <string.h>
 
+#include "frame.h"
+#include "numbers.h"
+
 size_t input_read(uint8_t *bytes, size_t room)
 {
     return fread(bytes, 1, room, stdin);
@@ -73,6 +76,16 @@ void lines_end(struct lines *lines)
 {
     put(lines, "\n", 1);
     lines->begun = false;
+}
+
+void lines_frame_refusal(struct lines *lines, int refusal)
+{
+    int fault = frame_fault_byte(refusal);
+
+    lines_number(lines, (uint32_t)refusal);
+    if (fault != FAULT_BYTE_NONE) {
+        lines_number(lines, (uint32_t)fault);
+    }
 }
 
 int lines_finish(struct lines *lines)

@@ -30,6 +30,9 @@ void lines_number(struct lines *lines, uint32_t number);
 void lines_bytes(struct lines *lines, const uint8_t *bytes, size_t length);
 void lines_end(struct lines *lines);
 
+/* A frame's refusal or 0, then the fault's byte if it has one (02, K1). */
+void lines_frame_refusal(struct lines *lines, int refusal);
+
 /* Writes out what is left; the program's exit status. */
 int lines_finish(struct lines *lines);
 

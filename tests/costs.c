@@ -27,6 +27,7 @@ enum call {
     ENTRY_STATE,
     STORE_NEED,
     FRAME_READ,
+    FAULT_BYTE,
     FRAME_WRITE,
     WINDOW_TEST,
     VERSION,
@@ -53,6 +54,7 @@ static const struct {
     {"entry_state", (function)shelugvar_entry_state, 3, UINT8_MAX},
     {"store_need", (function)shelugvar_store_need, 3, UINT8_MAX},
     {"frame_read", (function)shelugvar_frame_read, 3, UINT8_MAX},
+    {"fault_byte", (function)shelugvar_fault_byte, 1, UINT8_MAX},
     {"frame_write", (function)shelugvar_frame_write, 5, UINT8_MAX},
     {"window_test", (function)shelugvar_window_test, 3, UINT8_MAX},
     {"version", (function)shelugvar_version, 0, UINT32_MAX},
@@ -253,6 +255,11 @@ static unsigned version(void)
 static unsigned frame_read(void)
 {
     return call(FRAME_READ, (const uint64_t[9]){at(frame), frame_length, at(&fields)});
+}
+
+static unsigned fault_byte(unsigned refusal)
+{
+    return call(FAULT_BYTE, (const uint64_t[9]){refusal});
 }
 
 static unsigned frame_write(size_t length)
@@ -513,6 +520,11 @@ static void before_nothing(void)
 {
 }
 
+static unsigned do_fault_byte(void)
+{
+    return fault_byte(SHELUGVAR_TOO_SHORT);
+}
+
 static unsigned do_window_test(void)
 {
     return window_test(250, 16, 9);
@@ -542,6 +554,7 @@ static const struct {
     {"entry_state", ENTRY_STATE, before_counts, do_entry_state, SHELUGVAR_DONE},
     {"store_need", STORE_NEED, before_setup, do_store_need, SHELUGVAR_DONE},
     {"frame_read", FRAME_READ, before_noise, do_frame_read, SHELUGVAR_BAD_FRAME},
+    {"fault_byte", FAULT_BYTE, before_nothing, do_fault_byte, SHELUGVAR_NO_BYTE},
     {"frame_write", FRAME_WRITE, before_frame, do_frame_write, SHELUGVAR_DONE},
     {"window_test", WINDOW_TEST, before_nothing, do_window_test, SHELUGVAR_INSIDE},
     {"version", VERSION, before_nothing, version, SHELUGVAR_VERSION_NUMBER},

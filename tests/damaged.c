@@ -66,13 +66,20 @@ static int marked(const uint8_t *bytes)
     return 1;
 }
 
+/* Whether a number is one of the header's list, which has none between 11 and 13. */
+static int is_listed(enum shelugvar_refusal refused)
+{
+    return refused <= SHELUGVAR_NOT_OURS ||
+           (refused >= SHELUGVAR_NO_END_POINT && refused <= SHELUGVAR_WRONG_SEQUENCE);
+}
+
 static void judge(unsigned sort, enum shelugvar_refusal refused, size_t length, size_t lent)
 {
     int whole = marked(store.before) && marked(store.after) && marked(block.before) && marked(block.after) &&
                 marked(frame.before) && marked(frame.after);
 
     made[sort] += refused == SHELUGVAR_DONE;
-    wrong[sort] += !whole || refused > SHELUGVAR_ACKS_FULL || length > lent;
+    wrong[sort] += !whole || !is_listed(refused) || length > lent;
 }
 
 /* A frame of the other node's comes in. */

@@ -153,6 +153,33 @@ static void null_without_a_node(void)
     must(shelugvar_test_window(250, 16, 9) == SHELUGVAR_INSIDE, "the window test");
 }
 
+/* Every refusal's byte: the four faults', and none for all other numbers. A frame refused for one alters nothing. */
+static void bytes_at_fault(void)
+{
+    static const uint8_t bytes[] = {3, 3, 4, 7};
+    static const uint8_t numbered_reset[] = {64, 238, 66, SHELUGVAR_RESET, 0, 0, 7, 4, 216};
+    static const uint8_t no_entries[] = {SHELUGVAR_HEAD(0, 64, SHELUGVAR_PROTOCOL_ID)};
+    static shelugvar_node n;
+    shelugvar_arrived arrived = {7, 7, 7};
+    shelugvar_fields fields = {7, 7, 7, 7, 7, 7, 7};
+    uint8_t refusal = 0;
+
+    do {
+        const int at_fault = refusal >= SHELUGVAR_UNKNOWN_TYPE && refusal <= SHELUGVAR_WRONG_SEQUENCE;
+        const int byte = at_fault ? bytes[refusal - SHELUGVAR_UNKNOWN_TYPE] : SHELUGVAR_NO_BYTE;
+
+        must(shelugvar_fault_byte(refusal) == byte, "the byte of a refusal");
+    } while (++refusal != 0);
+    refuses(shelugvar_read_frame(numbered_reset, sizeof numbered_reset, &fields), SHELUGVAR_WRONG_SEQUENCE, "read");
+    must(shelugvar_byte_at_fault(SHELUGVAR_WRONG_SEQUENCE) == 7, "the byte at fault");
+    refuses(shelugvar_node_setup(&n, NULL, 0, no_entries, sizeof no_entries), SHELUGVAR_DONE, "setup");
+    refuses(shelugvar_node_arrival(&n, NULL, 0, NULL, 0, numbered_reset, sizeof numbered_reset, &arrived),
+            SHELUGVAR_WRONG_SEQUENCE, "arrival");
+    must(arrived.what == 7 && arrived.entry == 7 && arrived.value == 7 && fields.destination == 7 &&
+             fields.sequence == 7,
+         "a frame refused for a fault alters nothing");
+}
+
 int main(void)
 {
     table_bytes();
@@ -161,5 +188,6 @@ int main(void)
     null_at_a_new_node();
     null_at_a_sender();
     null_without_a_node();
+    bytes_at_fault();
     return wrong;
 }

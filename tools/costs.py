@@ -41,6 +41,7 @@ WORDS = {
     "entry_state": "the last of 16 senders",
     "store_need": "a table of 16 senders",
     "frame_read": "noise of 65,544 bytes; refused",
+    "fault_byte": "a refusal that has none",
     "frame_write": "65,520 bytes of payload, the most that a frame can have",
     "window_test": "any",
     "version": "any",

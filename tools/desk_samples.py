@@ -122,10 +122,10 @@ def refused_from_the_wire(t):
     t.no(10, t.arrival, good[:-1] + bytes((good[-1] ^ 1,)))
     t.no(11, t.arrival, model.frame(OWN + 1, PROTOCOL, REMOTE, DATA, 9, 1, b"move"))
     t.no(11, t.arrival, model.frame(OWN, PROTOCOL + 1, REMOTE, DATA, 9, 1, b"move"))
-    t.no(12, t.arrival, t.frame(1, 4, 1))  # type 4
-    t.no(12, t.arrival, t.frame(1, 16 | DATA, 1, b"move"))  # a user bit
-    t.no(12, t.arrival, t.frame(1, DATA, 1))
-    t.no(12, t.arrival, t.frame(1, RESET, 1))
+    t.fault(15, 3, t.frame(1, 4, 1))  # type 4
+    t.fault(16, 3, t.frame(1, 16 | DATA, 1, b"move"))  # a user bit
+    t.fault(17, 4, t.frame(1, DATA, 1))
+    t.fault(18, 7, t.frame(1, RESET, 1))
     t.no(13, t.arrival, model.frame(OWN, PROTOCOL, REMOTE, DATA, 8, 1, b"move"))  # no such channel
     t.no(13, t.arrival, good)  # Closed
     t.ok(t.open, 1)

@@ -102,8 +102,11 @@ def frames_refused(t):
     others = model.frame(OWN + 1, PROTOCOL, FIRST, DATA, 7, 4, of(40))
     t.no(10, t.arrival, others[:-1] + bytes((others[-1] ^ 1,)))  # the check byte; 11 is tested later
     t.no(11, t.arrival, others)
-    t.no(11, t.arrival, model.frame(OWN, PROTOCOL - 1, FIRST, 4, 7, 4))  # the protocol ID; 12 is tested later
-    t.no(12, t.arrival, model.frame(OWN, PROTOCOL, SECOND, 4, 7, 4))  # type 4; 13 is tested later
+    t.no(11, t.arrival, model.frame(OWN, PROTOCOL - 1, FIRST, 4, 7, 4))  # the protocol ID; 15 is tested later
+    t.fault(15, 3, model.frame(OWN, PROTOCOL, SECOND, 16 | 4, 7, 4))  # type 4; 16 and 13 are tested later
+    t.fault(16, 3, model.frame(OWN, PROTOCOL, SECOND, 16 | RESET, 7, 4, of(1)))  # a user bit; 17 and 18 later
+    t.fault(17, 4, model.frame(OWN, PROTOCOL, SECOND, RESET, 7, 4, of(1)))  # a payload; 18 and 13 are tested later
+    t.fault(18, 7, model.frame(OWN, PROTOCOL, SECOND, RESET, 7, 4))  # number 4; 13 is tested later
     # a sender's channel; 5 is tested later
     t.no(13, t.arrival, model.frame(OWN, PROTOCOL, SECOND, DATA, 7, 1, of(1, 2, 3, 4, 5)))
 
@@ -456,7 +459,7 @@ def whole_file(found):
 
 # 4. THE CHECK
 
-REFUSED = {2, 3, 4, 5, 7, 9, 10, 11, 12, 13, 14}
+REFUSED = {2, 3, 4, 5, 7, 9, 10, 11, 13, 14, 15, 16, 17, 18}
 ARRIVED = {model.IGNORED, model.ACKNOWLEDGED, model.OPENED, model.TOOK_RESET, model.TOOK_DATA, model.TOOK_URGENT}
 TYPES = {DATA, ACKNOWLEDGE, RESET, URGENT}
 LEFT_OUT = {

@@ -2,6 +2,7 @@
 endings. A trace for a new rule goes into the module of its subject; traces run in the order of these imports."""
 from comparison.corners.corner import CORNERS, Unexpected
 from comparison.corners import refusals
+from comparison.corners import faults
 from comparison.corners import sizes
 from comparison.corners import opening
 from comparison.corners import closing

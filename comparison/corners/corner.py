@@ -38,6 +38,10 @@ class Corner(trace.Trace):
     def no(self, refusal: int, call: Callable[..., Answer], *args: object) -> None:
         self.want(call(*args), refusal, ())
 
+    def fault(self, refusal: int, byte: int, frame: bytes) -> None:
+        """An arrival that is refused for a fault of its header, which sits in this byte."""
+        self.want(self.arrival(frame), refusal, [byte])
+
     def given(self, *entries: Entry) -> None:
         self.ok(self.setup, OWN, PROTOCOL, entries)
 

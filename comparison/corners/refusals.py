@@ -70,7 +70,7 @@ def new_node_is_all_zeros(t: Corner) -> None:
         t.no(13, t.arrival, model.frame(0, 0, 65, control, 7, 0, payload))
         t.no(11, t.arrival, model.frame(64, 0, 65, control, 7, 0, payload))
         t.no(11, t.arrival, model.frame(0, 238, 65, control, 7, 0, payload))
-    t.no(12, t.arrival, model.frame(0, 0, 65, 4, 7, 0))
+    t.fault(15, 3, model.frame(0, 0, 65, 4, 7, 0))
 
 
 @corner
@@ -148,7 +148,7 @@ def refusal_5_payload_lengths(t: Corner) -> None:
         t.ok(call, 0, b"123")
     for control in (DATA, URGENT):
         t.no(5, t.arrival, t.frame(1, control, 1, b"1234"))
-        t.no(12, t.arrival, t.frame(1, control, 1, b""))
+        t.fault(17, 4, t.frame(1, control, 1, b""))
     t.data(1, 1, b"123", b"123")
 
 
@@ -219,13 +219,13 @@ def refusal_10_unsound_frames(t: Corner) -> None:
 
 
 @corner
-def refusals_10_11_12_13_5_14_in_order(t: Corner) -> None:
+def refusals_10_11_15_13_5_14_in_order(t: Corner) -> None:
     t.given(tx(), rx(largest=3))
     wrong = model.frame(OWN + 1, PROTOCOL, REMOTE, 4, 200, 0, b"12345678")
     t.no(10, t.arrival, wrong[:-1] + bytes((wrong[-1] ^ 1,)))
     t.no(11, t.arrival, wrong)
     t.no(11, t.arrival, model.frame(OWN, PROTOCOL + 1, REMOTE, 4, 200, 0, b"1234"))
-    t.no(12, t.arrival, model.frame(OWN, PROTOCOL, REMOTE, 4, 200, 0, b"1234"))
+    t.fault(15, 3, model.frame(OWN, PROTOCOL, REMOTE, 4, 200, 0, b"1234"))
     t.no(13, t.arrival, model.frame(OWN, PROTOCOL, REMOTE, DATA, 200, 0, b"1234"))
     t.no(13, t.arrival, t.frame(1, DATA, 1, b"1234"))  # Closed
     t.up(1)
@@ -250,36 +250,6 @@ def refusal_11_foreign_frames(t: Corner) -> None:
                                   (OWN, 1), (OWN, 0), (254, 255)):
         t.no(11, t.arrival, model.frame(destination, protocol, REMOTE, DATA, 9, 1, b"x"))
     t.data(0, 1, b"x", b"x")
-
-
-@corner
-def refusal_12_frame_rules(t: Corner) -> None:
-    t.given(tx(), rx())
-    t.up(0, 1)
-    for control in range(4, 16):
-        t.no(12, t.arrival, t.frame(1, control, 0))
-        t.no(12, t.arrival, t.frame(1, control, 1, b"x"))
-    for user in range(1, 16):
-        t.no(12, t.arrival, t.frame(1, user << 4 | DATA, 1, b"x"))
-        t.no(12, t.arrival, t.frame(0, user << 4 | ACKNOWLEDGE, 1))
-    for control in (ACKNOWLEDGE, RESET):
-        t.no(12, t.arrival, t.frame(1, control, 0, b"x"))
-    for control in (DATA, URGENT):
-        t.no(12, t.arrival, t.frame(1, control, 0))
-    for sequence in (1, 128, 255):
-        t.no(12, t.arrival, t.frame(1, RESET, sequence))
-    t.urgently(1, b"now", sequence=77)  # an Urgent's sequence is not looked at
-
-
-@corner
-def refusal_12_or_13_at_the_longest(t: Corner) -> None:
-    # 65,520 bytes are lawful, and then there is no entry
-    t.no(13, t.arrival, model.frame(0, 0, 0, DATA, 0, 0, bytes(65520)))
-
-
-@corner
-def refusal_12_one_byte_longer(t: Corner) -> None:
-    t.no(12, t.arrival, model.frame(0, 0, 0, URGENT, 0, 0, bytes(65521)))
 
 
 @corner

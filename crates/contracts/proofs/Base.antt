@@ -34,6 +34,7 @@ use Rattle.table.proofs.own.Reads as table-own
 use Rattle.table.proofs.protocol.Reads as table-protocol
 use Rattle.table.proofs.entry_at.Reads as table-entry-at
 use Rattle.table.proofs.is_good.Reads as table-is-good
+use Rattle.frame.proofs.faults.fault_byte.Reads as frame-fault-byte
 use Rattle.frame.proofs.reading.is_sound.Reads as frame-is-sound
 use Rattle.frame.proofs.reading.header.Reads as frame-header
 use Rattle.frame.proofs.reading.read.Reads as frame-read
@@ -154,6 +155,9 @@ frame-read-one u v a r₁ r₂ e₁ e₂ p q = cc
 
 pub frame-payload-one : OneAnswer frame-payload.Post (λ r. now r)
 frame-payload-one u v a r₁ r₂ e₁ e₂ p q = cc
+
+pub frame-fault-byte-one : OneAnswer frame-fault-byte.Post (λ r. r)
+frame-fault-byte-one u v a r₁ r₂ e₁ e₂ p q = cc
 
 pub frame-type-number-one : OneAnswer frame-type-number.Post (λ r. r)
 frame-type-number-one u v a r₁ r₂ e₁ e₂ p q = cc

@@ -5,6 +5,7 @@ use mathlib.Core.Path.{_≡_}
 use mathlib.Core.List.{List, []}
 use denote.Ref.{now}
 use Rattle.firmware.proofs.shelugvar_frame_read.Reads as shelugvar-frame-read
+use Rattle.firmware.proofs.shelugvar_fault_byte.Reads as shelugvar-fault-byte
 use Rattle.firmware.proofs.shelugvar_frame_write.Reads as shelugvar-frame-write
 use Rattle.firmware.proofs.shelugvar_window_test.Reads as shelugvar-window-test
 use Rattle.firmware.proofs.nodes.shelugvar_setup.Reads as shelugvar-setup
@@ -35,6 +36,9 @@ use Rattle.contracts.specs.Outcome.{One, OneAnswer}
 
 pub shelugvar-frame-read-one : One shelugvar-frame-read.Post (λ e. now (e .1 .0))
 shelugvar-frame-read-one u v a r₁ r₂ e₁ e₂ p q = (cc (p .0, q .0), cc (p .1, q .1))
+
+pub shelugvar-fault-byte-one : OneAnswer shelugvar-fault-byte.Post (λ r. r)
+shelugvar-fault-byte-one u v a r₁ r₂ e₁ e₂ p q = cc
 
 pub shelugvar-frame-write-one : One shelugvar-frame-write.Post (λ e. now (e .0))
 shelugvar-frame-write-one u v a r₁ r₂ e₁ e₂ p q = (cc (p .0, q .0), cc (p .1, q .1))

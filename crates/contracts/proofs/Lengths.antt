@@ -13,7 +13,7 @@ use lib.Dec.{eqb, leb, ltb}
 use borrow.Author.Tests.{ltb-false}
 use Rattle.units.specs.Limits.{mostEntries}
 use Rattle.units.specs.Refusals.{pick, verdict}
-use Rattle.units.proofs.Judging.{clear}
+use Rattle.units.proofs.Judging.{clear, refused-some}
 use Rattle.memory.specs.Layout.{nodeWords, entryAt, stateWord}
 use Rattle.units.specs.declared.refusals.Refusal.the-variants as refusal
 use Rattle.units.specs.declared.refusals.Verdict.{Verdict}
@@ -47,7 +47,6 @@ use Rattle.call_arrive.specs.Arriving.{frameTests, entryTests, entryOf, entryVe
 use Rattle.call_arrive.specs.Arriving.{arrivalAnswer}
 use Rattle.call_hand_out.specs.Handing.{frameOut, nextOut, fitted, handOutAnswer}
 use Rattle.firmware.specs.Nodes.{refusalIn, valueIn, arrivedIn}
-use Rattle.machine.proofs.Judged.{refused-some}
 use Rattle.node.proofs.arrival.Reads as node-arrival
 use Rattle.node.proofs.hand_out.Reads as node-hand-out
 use Rattle.frame.proofs.writing.write.Reads as frame-write

@@ -6,6 +6,7 @@ use Prim.Native.Nat.{ℕ}
 use mathlib.Core.Path.{_≡_, refl, sym, subst, _∙_}
 use mathlib.Core.List.{List, []}
 use native.Mathlib.Omega.{arith}
+use borrow.Author.Tests.{ne-eqb}
 use denote.Ref.{now}
 use lib.ListN.{length}
 use Rattle.units.specs.Refusals.{verdict}
@@ -23,12 +24,6 @@ use Rattle.end_points.specs.Answers.{answerOf, countedOf, arrivedOf, handedOf, 
 use Rattle.end_points.specs.Lent.{Lent, bare, stored, whole}
 use Rattle.end_points.specs.declared.answers.Arrived.{Arrived}
 use Rattle.end_points.specs.declared.answers.Arrived.the-variants as arrived
-use Rattle.end_points.specs.declared.answers.Counted.{Counted}
-use Rattle.end_points.specs.declared.answers.Counted.the-variants as counted
-use Rattle.end_points.specs.declared.answers.Stated.{Stated}
-use Rattle.end_points.specs.declared.answers.Stated.the-variants as stated
-use Rattle.end_points.specs.declared.answers.Needed.{Needed}
-use Rattle.end_points.specs.declared.answers.Needed.the-variants as needed
 use Rattle.end_points.specs.declared.answers.HandedOut.{HandedOut}
 use Rattle.end_points.specs.declared.answers.HandedOut.the-variants as handed
 use Rattle.call_open.specs.Opening.{openAnswer, openAfter, closeAnswer, closeAfter, countsAnswer, stateAnswer}
@@ -234,63 +229,60 @@ shelugvar-urgent-refused u a r e p z =
     let x = stored (now (a .0)) (now (a .1 .0)) (now (a .1 .1 .0)) in p .1 ∙ urgent-told x (a .1 .1 .1 .0)
     (now (a .1 .1 .1 .1 .0)) (subst NotZero (p .0) z)
 
-counted-in : (a : Counted) (values : List ℕ) → NotZero (refusalIn (countedOf a)) → countsIn (countedOf a) values
-    ≡ values
+-- the place of a value, of a sender's counts and of what an arrival was
+value-spared : (a : List ℕ) (old : ℕ) → NotZero (refusalIn a) → valueIn a old ≡ old
+unfolding valueIn
+value-spared a old z = rw (ne-eqb (refusalIn a) 0 z)
+
+counts-spared : (a old : List ℕ) → NotZero (refusalIn a) → countsIn a old ≡ old
 unfolding countsIn
-counted-in (counted.Counts n m) values z = absurd (z refl)
-counted-in (counted.Refused w) values z = refl
+counts-spared a old z = rw (ne-eqb (refusalIn a) 0 z)
+
+arrived-spared : (a old : List ℕ) → NotZero (refusalIn a) → arrivedIn a old ≡ old
+unfolding arrivedIn
+arrived-spared a old z = rw (ne-eqb (refusalIn a) 0 z)
 
 pub shelugvar-counts-refused : Spares shelugvar-counts.Post NotZero (λ e. now (e .1 .1 .0))
 shelugvar-counts-refused u a r e p z =
-    p .1 ∙ counted-in (countsAnswer (now (a .0)) (a .1 .0)) (now (a .1 .1 .0)) (subst NotZero (p .0) z)
-
-stated-in : (a : Stated) (state : ℕ) → NotZero (refusalIn (statedOf a)) → valueIn (statedOf a) state ≡ state
-unfolding valueIn
-stated-in (stated.Is s) state z = absurd (z refl)
-stated-in (stated.Refused w) state z = refl
+    p .1 ∙ counts-spared (countedOf (countsAnswer (now (a .0)) (a .1 .0))) (now (a .1 .1 .0)) (subst NotZero (p .0) z)
 
 pub shelugvar-entry-state-refused : Spares shelugvar-entry-state.Post NotZero (λ e. now (e .1 .1 .0))
 shelugvar-entry-state-refused u a r e p z =
-    p .1 ∙ stated-in (stateAnswer (now (a .0)) (a .1 .0)) (now (a .1 .1 .0)) (subst NotZero (p .0) z)
-
-needed-in : (a : Needed) (need : ℕ) → NotZero (refusalIn (neededOf a)) → valueIn (neededOf a) need ≡ need
-unfolding valueIn
-needed-in (needed.Bytes n) need z = absurd (z refl)
-needed-in (needed.Refused w) need z = refl
+    p .1 ∙ value-spared (statedOf (stateAnswer (now (a .0)) (a .1 .0))) (now (a .1 .1 .0)) (subst NotZero (p .0) z)
 
 pub shelugvar-store-need-refused : Spares shelugvar-store-need.Post NotZero (λ e. now (e .1 .0))
 shelugvar-store-need-refused u a r e p z =
-    p .1 ∙ needed-in (needAnswer (now (a .0))) (now (a .1 .0)) (subst NotZero (p .0) z)
+    p .1 ∙ value-spared (neededOf (needAnswer (now (a .0)))) (now (a .1 .0)) (subst NotZero (p .0) z)
 
-arrived-in : (x : Lent) (f values : List ℕ) (a : Arrived) → arrivalAnswer x f
-    ≡ a → NotZero (refusalIn (arrivedOf a)) → (arrivalAfter x f ≡ x) × (arrivedIn (arrivedOf a) values ≡ values)
-unfolding arrivedIn
-arrived-in x f values (arrived.At i was) e z = absurd (z refl)
-arrived-in x f values (arrived.Refused w) e z = (arrival-spared w x f e, refl)
+arrival-told : (x : Lent) (f : List ℕ) (a : Arrived) → arrivalAnswer x f ≡ a → NotZero (refusalIn (arrivedOf a))
+    → arrivalAfter x f ≡ x
+arrival-told x f (arrived.At i was) e z = absurd (z refl)
+arrival-told x f (arrived.Refused w) e z = arrival-spared w x f e
 
 pub shelugvar-arrival-refused : Spares {M = Lent × List ℕ} shelugvar-arrival.Post NotZero
     (λ e. (whole (now (e .0)) (now (e .1 .0)) (now (e .1 .1 .0)) (now (e .1 .1 .1 .0)), now (e .1 .1 .1 .1 .1 .0)))
 shelugvar-arrival-refused u a r e p z =
     let x = whole (now (a .0)) (now (a .1 .0)) (now (a .1 .1 .0)) (now (a .1 .1 .1 .0)) in
     let f = now (a .1 .1 .1 .1 .0) in
-    let b = arrived-in x f (now (a .1 .1 .1 .1 .1 .0)) (arrivalAnswer x f) refl (subst NotZero (p .0) z) in
-    cc (p .1 .0, p .1 .1, b .0, b .1)
+    let k = subst NotZero (p .0) z in
+    let v = arrived-spared (arrivedOf (arrivalAnswer x f)) (now (a .1 .1 .1 .1 .1 .0)) k in
+    cc (p .1 .0, p .1 .1, arrival-told x f (arrivalAnswer x f) refl k, v)
 
-handed-in : (x : Lent) (value : ℕ) (a : HandedOut) → NotZero (refusalIn (handedOf a)) → (handOutAfter x a ≡ x)
-    × (valueIn (handedOf a) value ≡ value)
-unfolding handOutAfter valueIn
-handed-in x value (handed.Length n) z = absurd (z refl)
-handed-in x value (handed.Refused w) z = (refl, refl)
+hand-out-told : (x : Lent) (a : HandedOut) → NotZero (refusalIn (handedOf a)) → handOutAfter x a ≡ x
+unfolding handOutAfter
+hand-out-told x (handed.Length n) z = absurd (z refl)
+hand-out-told x (handed.Refused w) z = refl
 
 pub shelugvar-hand-out-refused : Spares {M = Lent × ℕ} shelugvar-hand-out.Post NotZero
     (λ e. (whole (now (e .0)) (now (e .1 .0)) [] (now (e .1 .1 .1 .0)), now (e .1 .1 .1 .1 .0)))
 shelugvar-hand-out-refused u a r e p z =
     let x = whole (now (a .0)) (now (a .1 .0)) (now (a .1 .1 .0)) (now (a .1 .1 .1 .0)) in
-    let b = handed-in x (now (a .1 .1 .1 .1 .0)) (handOutAnswer x) (subst NotZero (p .0) z) in
+    let k = subst NotZero (p .0) z in
+    let v = value-spared (handedOf (handOutAnswer x)) (now (a .1 .1 .1 .1 .0)) k in
     let l : whole (now (e .0)) (now (e .1 .0)) [] (now (e .1 .1 .1 .0))
     ≡ whole (now (a .0)) (now (a .1 .0)) [] (now (a .1 .1 .1 .0)) =
-    but-store (now (a .1 .1 .0)) (p .1 .0 ∙ b .0) in
-    cc (l, p .1 .1, b .1)
+    but-store (now (a .1 .1 .0)) (p .1 .0 ∙ hand-out-told x (handOutAnswer x) k) in
+    cc (l, p .1 .1, v)
 
 read-in : (r : Read) (fields : List ℕ) → NotZero (readNumber r) → readFields r fields ≡ fields
 unfolding readFields

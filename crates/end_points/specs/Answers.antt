@@ -1,9 +1,10 @@
--- The paper's number of each answer, a refusal or 0, and the values that come with it. Assumes nothing.
+-- The paper's numbers of each answer: 0 and the values that come with it, or a refusal and, where it is for a fault of
+-- the frame, the number of the byte. Assumes nothing.
 use Prim.Native.Nat.{ℕ}
 use mathlib.Core.List.{List, [], _∷_}
-use Rattle.units.specs.Refusals.{numberOf}
 use Rattle.units.specs.declared.refusals.Verdict.{Verdict}
 use Rattle.units.specs.declared.refusals.Verdict.the-variants as verdicts
+use Rattle.frame.specs.Faults.{refusedOf}
 use Rattle.end_points.specs.declared.answers.Counted.{Counted}
 use Rattle.end_points.specs.declared.answers.Counted.the-variants as counted
 use Rattle.end_points.specs.declared.State.{State}
@@ -22,12 +23,12 @@ use Rattle.end_points.specs.declared.answers.HandedOut.the-variants as h
 -- setup, open, close, send and Urgent: 0, or the refusal [O3]
 abbrev pub answerOf : Verdict → List ℕ
 answerOf verdicts.Passed = 0 ∷ []
-answerOf (verdicts.Refused w) = numberOf w ∷ []
+answerOf (verdicts.Refused w) = refusedOf w
 
 -- counts: accepted and confirmed [E17, O3]
 abbrev pub countedOf : Counted → List ℕ
 countedOf (counted.Counts a c) = 0 ∷ a .0 ∷ c .0 ∷ []
-countedOf (counted.Refused w) = numberOf w ∷ []
+countedOf (counted.Refused w) = refusedOf w
 
 -- a state's number [E1]
 abbrev pub stateNumber : State → ℕ
@@ -39,12 +40,12 @@ stateNumber (Failing timers) = 3
 -- an entry's state [E1, O3]
 abbrev pub statedOf : Stated → List ℕ
 statedOf (stated.Is s) = 0 ∷ stateNumber s ∷ []
-statedOf (stated.Refused w) = numberOf w ∷ []
+statedOf (stated.Refused w) = refusedOf w
 
 -- the store that a table needs, in bytes [S1, O3]
 abbrev pub neededOf : Needed → List ℕ
 neededOf (needed.Bytes n) = 0 ∷ n ∷ []
-neededOf (needed.Refused w) = numberOf w ∷ []
+neededOf (needed.Refused w) = refusedOf w
 
 -- what a frame was: ignored, acknowledged, opened, Reset, Data, Urgent [O3]
 abbrev pub whatOf : Was → ℕ
@@ -67,9 +68,9 @@ valueOf (was.Urgent n) = n ∷ []
 -- an arrival: what it was, the index of the entry that the frame was for, its value [O3, O8]
 abbrev pub arrivedOf : Arrived → List ℕ
 arrivedOf (arrived.At i w) = 0 ∷ whatOf w ∷ i ∷ valueOf w
-arrivedOf (arrived.Refused w) = numberOf w ∷ []
+arrivedOf (arrived.Refused w) = refusedOf w
 
 -- handing out: the frame's length, 0 where nothing waits [H4, H5, O3]
 abbrev pub handedOf : HandedOut → List ℕ
 handedOf (handed.Length n) = 0 ∷ n ∷ []
-handedOf (handed.Refused w) = numberOf w ∷ []
+handedOf (handed.Refused w) = refusedOf w

@@ -9,16 +9,17 @@ use Rattle.units.specs.Refusals.{numberOf, pick}
 use Rattle.units.specs.Sizes.{isSize, inForce}
 use Rattle.window.specs.Numbers.{distanceOf}
 use Rattle.frame.specs.Types.{typeNumber}
+use Rattle.frame.specs.Faults.{readNumbers}
 use Rattle.frame.specs.declared.Fields.{Fields}
 use Rattle.frame.specs.declared.Read.{Read}
 use Rattle.frame.specs.declared.Read.the-variants as read
 use Rattle.frame.specs.declared.Written.{Written}
 use Rattle.frame.specs.declared.Written.the-variants as written
+use Rattle.firmware.specs.Nodes.{refusalIn}
 
 -- 0, or the refusal [O3, G5]
 abbrev pub readNumber : Read → ℕ
-readNumber (read.Frame h) = 0
-readNumber (read.Refused w) = numberOf w
+readNumber r = refusalIn (readNumbers r)
 
 -- the fields of a frame that was read; the user bits of such a frame are 0. A refused one leaves them [R44, G5]
 unfoldable pub readFields : Read → List ℕ → List ℕ

@@ -1,2 +1,2 @@
-pub mod Firmware
 pub mod Nodes
+pub mod Firmware

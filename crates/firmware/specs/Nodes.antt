@@ -4,30 +4,28 @@ use Prim.Native.Nat.{ℕ, _+_, _*_}
 use mathlib.Core.List.{List, [], _∷_}
 use lib.ListN.{getD}
 use lib.Seq.{sets}
+use lib.Dec.{eqb}
+use Rattle.units.specs.Refusals.{pick}
 
 -- the refusal, 0 where the call is done [O3]
 abbrev pub refusalIn : List ℕ → ℕ
 refusalIn a = getD a 0 0
 
--- what the place of one value holds afterwards. A refusal has none, and leaves the place as it was [R44, O3]
+-- what a place for values holds afterwards: the new where the call is done; a refusal leaves the old [R44]
+abbrev pub ifDone : {A : Type 0} → List ℕ → A → A → A
+ifDone a new old = pick (eqb (refusalIn a) 0) new old
+
+-- the place of one value [R44, O3]
 unfoldable pub valueIn : List ℕ → ℕ → ℕ
-valueIn [] old = old
-valueIn (n ∷ []) old = old
-valueIn (n ∷ v ∷ more) old = v
+valueIn a old = ifDone a (getD a 1 0) old
 
 -- of two, a sender's counts [E17, R44]
 unfoldable pub countsIn : List ℕ → List ℕ → List ℕ
-countsIn [] old = old
-countsIn (n ∷ []) old = old
-countsIn (n ∷ v ∷ []) old = old
-countsIn (n ∷ v ∷ w ∷ more) old = sets old 0 (v ∷ w ∷ [])
+countsIn a old = ifDone a (sets old 0 (getD a 1 0 ∷ getD a 2 0 ∷ [])) old
 
 -- of three, an arrival's: what it was, its entry, and its value, 0 where it has none [R44, O3, O8]
 unfoldable pub arrivedIn : List ℕ → List ℕ → List ℕ
-arrivedIn [] old = old
-arrivedIn (n ∷ []) old = old
-arrivedIn (n ∷ w ∷ []) old = old
-arrivedIn (n ∷ w ∷ i ∷ vs) old = sets old 0 (w ∷ i ∷ getD vs 0 0 ∷ [])
+arrivedIn a old = ifDone a (sets old 0 (getD a 1 0 ∷ getD a 2 0 ∷ getD a 3 0 ∷ [])) old
 
 -- the version of the archive: its three numbers, a byte each [G5]
 abbrev pub versionOf : ℕ → ℕ → ℕ → ℕ

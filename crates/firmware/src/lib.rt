@@ -1,5 +1,5 @@
-// What the drive box's C firmware calls, on numbers and byte slices: the frame reader, the frame writer and the
-// window test here, the whole node in nodes.rt. `include/shelugvar.h` declares them.
+// What the drive box's C firmware calls, on numbers and byte slices: the frame reader, the byte at fault, the frame
+// writer and the window test here, the whole node in nodes.rt. `include/shelugvar.h` declares them.
 // Proved: each is the frame's, the window's or the node's own definition, for every input (specs/ says in which
 // numbers); a refused call alters nothing. That the header's declarations are these functions nothing proves.
 pub mod nodes; // nodes.rt: the node's calls
@@ -8,6 +8,7 @@ use frame::Fields;
 use frame::Header;
 use frame::Read;
 use frame::Written;
+use frame::faults::fault_byte;
 use frame::type_number;
 use units::Address;
 use units::Channel;
@@ -19,6 +20,7 @@ use units::sizes::in_force;
 use units::sizes::is_size;
 use window::distance;
 ghost use mathlib.Core.Path.{_≡_};
+ghost use Rattle.frame.specs.Faults.{byteNumber};
 ghost use Rattle.frame.specs.Reading.{readOf};
 ghost use Rattle.frame.specs.Writing.{writeAnswer, writtenOf};
 ghost use Rattle.firmware.specs.Firmware.{readNumber, readFields, fieldsIn, writeNumber, windowNumber};
@@ -40,8 +42,8 @@ fn put_fields(fields: &mut [u8], h: Header)
     put_all(fields, 0, &bytes)
 }
 
-// Reads a frame: 0 with its fields, or the refusal (10, then 12) with `fields` as they were. The payload is the frame's
-// own bytes from 8 on, all but the last. [G5]
+// Reads a frame: 0 with its fields, or the refusal (10, 15, 16, 17, 18) with `fields` as they were. The payload is the
+// frame's own bytes from 8 on, all but the last. [G5]
 #[no_mangle]
 pub extern "C" fn shelugvar_frame_read(frame: &[u8], fields: &mut [u8; 7]) -> u8
     ensures answer { λ r. ⌜ r ≡ readNumber (readOf (now (frame .entry))) ⌝ }
@@ -54,6 +56,15 @@ pub extern "C" fn shelugvar_frame_read(frame: &[u8], fields: &mut [u8; 7]) -> u8
         }
         Read::Refused(w) => number(w),
     }
+}
+
+// The number of the byte at fault, for a refusal of the frame reader or of an arrival: 3, 3, 4, 7 for 15 to 18,
+// and 255 for all other numbers. [R47, G5]
+#[no_mangle]
+pub extern "C" fn shelugvar_fault_byte(refusal: u8) -> u8
+    ensures { λ r. ⌜ r ≡ byteNumber refusal ⌝ }
+{
+    fault_byte(refusal)
 }
 
 // The fields that C hands over.
@@ -78,8 +89,8 @@ fn fields_in(fields: &[u8]) -> Fields
     }
 }
 
-// Writes a frame: 0 with payload + 9 bytes at the buffer's start, or the refusal (12, 5, 6) with the buffer as it
-// was. [G5]
+// Writes a frame: 0 with payload + 9 bytes at the buffer's start, or the refusal (15, 16, 18, 5, 6) with the
+// buffer as it was. [G5]
 #[no_mangle]
 pub extern "C" fn shelugvar_frame_write(buffer: &mut [u8], fields: &[u8; 7], payload: &[u8]) -> u8
     ensures answer { λ r. ⌜ r ≡ writeNumber (writeAnswer (fieldsIn (now (fields .entry))) (now (payload .entry))

@@ -153,7 +153,8 @@ fn arrived(values: &mut [usize; 3], a: Arrived) -> u8
 }
 
 // A frame has arrived: what it was (0 ignored, 1 acknowledged, 2 opened, 3 Reset, 4 Data, 5 Urgent), the entry that it
-// was for, and the numbers passed, the payloads held or the block's length. Refuses 10, 11, 12, 13, 5, 14, 6.
+// was for, and the numbers passed, the payloads held or the block's length. Refuses 10, 11, 15, 16, 17, 18, 13, 5,
+// 14, 6.
 #[no_mangle]
 pub extern "C" fn shelugvar_arrival(
     node: &mut Node,
@@ -251,14 +252,14 @@ pub extern "C" fn shelugvar_store_need(table: &[u8], need: &mut usize) -> u8
 
 const MAJOR: u32 = 0;
 
-const MINOR: u32 = 1;
+const MINOR: u32 = 2;
 
 const PATCH: u32 = 0;
 
 // The version of this archive, a byte a number.
 #[no_mangle]
 pub extern "C" fn shelugvar_version() -> u32
-    ensures { λ r. ⌜ r ≡ versionOf 0 1 0 ⌝ }
+    ensures { λ r. ⌜ r ≡ versionOf 0 2 0 ⌝ }
 {
     (MAJOR * 256 + MINOR) * 256 + PATCH
 }

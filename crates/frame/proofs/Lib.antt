@@ -3,3 +3,5 @@ pub mod WriteLaws
 pub mod ReadLaws
 pub mod Parts
 pub mod RoundTrip
+pub mod FaultLaws
+pub mod AgainstRules

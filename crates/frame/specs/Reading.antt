@@ -1,4 +1,4 @@
--- The reader: 10, then 12. Cited by its two halves and by whoever tests 11 between them. Assumes nothing.
+-- The reader: 10, then 15, 16, 17, 18. Cited by its two halves and by whoever tests 11 between them. Assumes nothing.
 use Prim.Native.Nat.{ℕ, _+_}
 use mathlib.Core.Bool.{Bool, _&&_, not}
 use mathlib.Core.List.{List, [], _∷_}
@@ -23,17 +23,17 @@ use Rattle.frame.specs.Layout.{overhead, typeAt, userAt}
 unfoldable pub soundOf : List ℕ → Bool
 soundOf f = leb overhead (length f) && eqb (get16Of f lengthByte + overhead) (length f) && eqb (checkOf f) 0
 
--- refusal 12 of a known type: user bits, payload length, a Reset's sequence [F5, F12, F13, F14, R12]
+-- of a known type: user bits, length against type, a Reset's sequence [F5, F12, F13, F14, R16, R17, R18]
 abbrev pub typedTests : FrameType → List ℕ → List (Bool × Refusal)
 typedTests t f =
-    (not (eqb (userAt f) 0), refusal.AgainstRules)
-    ∷ (not (suits t (get16Of f lengthByte)), refusal.AgainstRules)
-    ∷ (not (seqReads t (getD f sequenceByte 0)), refusal.AgainstRules)
+    (not (eqb (userAt f) 0), refusal.UserBits)
+    ∷ (not (suits t (get16Of f lengthByte)), refusal.LengthAgainstType)
+    ∷ (not (seqReads t (getD f sequenceByte 0)), refusal.WrongSequence)
     ∷ []
 
--- refusal 12 [F7, R12]
+-- and of the type's number, before these [F7, R15]
 abbrev pub headerTests : List ℕ → List (Bool × Refusal)
-headerTests f = (leb 4 (typeAt f), refusal.AgainstRules) ∷ typedTests (typeOf (typeAt f)) f
+headerTests f = (leb 4 (typeAt f), refusal.UnknownType) ∷ typedTests (typeOf (typeAt f)) f
 
 -- the fields, of a frame of a known type [F2, F3, F4, F8, F9, F10, F15, U1]
 abbrev pub headerAt : FrameType → List ℕ → Header
@@ -53,10 +53,10 @@ abbrev pub readAs : Verdict → Header → Read
 readAs verdicts.Passed h = Frame h
 readAs (verdicts.Refused w) h = Refused w
 
--- the second half: 12 [R12]
+-- the second half: 15, 16, 17, 18 [R15, R16, R17, R18]
 unfoldable pub headerOf : List ℕ → Read
 headerOf f = readAs (verdict (headerTests f)) (headerAt (typeOf (typeAt f)) f)
 
--- the whole reader: 10, then 12 [R40]
+-- the whole reader: 10, then these [R40]
 unfoldable pub readOf : List ℕ → Read
 readOf f = readAs (verdict ((not (soundOf f), refusal.BadFrame) ∷ headerTests f)) (headerAt (typeOf (typeAt f)) f)

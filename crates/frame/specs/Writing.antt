@@ -1,4 +1,4 @@
--- The writer: 12, 5, 6. Cited by the writer. Assumes nothing.
+-- The writer: 15, 16, 18, 5, 6. Cited by the writer. Assumes nothing.
 use Prim.Native.Nat.{ℕ, _+_}
 use mathlib.Core.Bool.{Bool, not}
 use mathlib.Core.List.{List, [], _∷_, _++_}
@@ -16,18 +16,18 @@ use Rattle.frame.specs.declared.Written.the-variants.{Length, Refused}
 use Rattle.frame.specs.Types.{typeOf, suits, seqWrites}
 use Rattle.frame.specs.Layout.{overhead, frameBytes}
 
--- what is tested of a known type, with a payload of n bytes and a buffer of `room` [F5, F14, F15, R5, R6, R12]
+-- what is tested of a known type, with a payload of n bytes and a buffer of `room` [F5, F14, F15, R5, R6, R16, R18]
 abbrev pub typedTests : FrameType → Fields → ℕ → ℕ → List (Bool × Refusal)
 typedTests t d n room =
-    (not (eqb (d .user) 0), refusal.AgainstRules)
-    ∷ (not (seqWrites t (d .seq .0)), refusal.AgainstRules)
+    (not (eqb (d .user) 0), refusal.UserBits)
+    ∷ (not (seqWrites t (d .seq .0)), refusal.WrongSequence)
     ∷ (not (suits t n), refusal.PayloadLength)
     ∷ (ltb room (n + overhead), refusal.TooShort)
     ∷ []
 
--- and of the type's number [F7, R12, R41]
+-- and of the type's number, before these [F7, R15, R41]
 abbrev pub writeTests : Fields → ℕ → ℕ → List (Bool × Refusal)
-writeTests d n room = (leb 4 (d .kind), refusal.AgainstRules) ∷ typedTests (typeOf (d .kind)) d n room
+writeTests d n room = (leb 4 (d .kind), refusal.UnknownType) ∷ typedTests (typeOf (d .kind)) d n room
 
 -- the frame's length where the tests pass [R43]
 abbrev pub writtenAs : Verdict → ℕ → Written

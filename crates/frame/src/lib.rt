@@ -1,13 +1,15 @@
 // The frame: its reader, in two halves, and its writer.
 // Proved: each function is the definition of specs/ that it cites, for every input; none asks anything of its caller.
 // What the writer writes the reader gives back, and a frame that the reader takes is written again as it stood
-// (specs/RoundTrip.antt, proofs/RoundTrip.antt).
+// (specs/RoundTrip.antt). Each fault of a frame is told exactly where its test is the first to fit
+// (specs/AgainstRules.antt).
 use units::Address;
 use units::Channel;
 use units::Seq;
 use units::refusals::Refusal;
 
 pub mod layout; // layout.rt: where each field stands
+pub mod faults; // faults.rt: where the fault sits that a refusal is for
 pub mod reading; // reading.rt: from bytes to a header
 pub mod writing; // writing.rt: from fields and payload to bytes
 mod types; // types.rt: the four types, and what each asks of payload and sequence

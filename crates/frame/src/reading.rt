@@ -1,4 +1,4 @@
-// The frame reader: refusal 10 first, then 12.
+// The frame reader: refusal 10 first, then 15, 16, 17, 18.
 use crate::FrameType;
 use crate::Header;
 use crate::Read;
@@ -40,15 +40,15 @@ fn typed_header(frame: &[u8], kind: FrameType) -> Read
 {
     let mark = byte_at(frame, layout::TYPE);
     if mark / 16 != 0 {
-        return Read::Refused(Refusal::AgainstRules);
+        return Read::Refused(Refusal::UserBits);
     }
     let length = get16(frame, layout::LENGTH);
     if !payload_suits(kind, length as usize) {
-        return Read::Refused(Refusal::AgainstRules);
+        return Read::Refused(Refusal::LengthAgainstType);
     }
     let seq = Seq(byte_at(frame, layout::SEQUENCE));
     if !seq_reads(kind, seq) {
-        return Read::Refused(Refusal::AgainstRules);
+        return Read::Refused(Refusal::WrongSequence);
     }
     Read::Frame(Header {
         destination: Address(byte_at(frame, layout::DESTINATION)),
@@ -61,14 +61,14 @@ fn typed_header(frame: &[u8], kind: FrameType) -> Read
     })
 }
 
-// The second half: the header, or refusal 12.
+// The second half: the header, or refusal 15, 16, 17 or 18.
 pub fn header(frame: &[u8]) -> Read
     ensures { λ r. ⌜ r ≡ headerOf (now (frame .entry)) ⌝ }
 {
     let mark = byte_at(frame, layout::TYPE);
     match known_type(mark % 16) {
         Known::Is(kind) => typed_header(frame, kind),
-        Known::Unknown => Read::Refused(Refusal::AgainstRules),
+        Known::Unknown => Read::Refused(Refusal::UnknownType),
     }
 }
 

@@ -1,4 +1,4 @@
-// The frame writer: refusals 12, 5 and 6, then the bytes.
+// The frame writer: refusals 15, 16, 18, 5 and 6, then the bytes.
 use crate::Fields;
 use crate::FrameType;
 use crate::Written;
@@ -22,10 +22,10 @@ fn judge_typed(fields: Fields, kind: FrameType, n: usize, room: usize) -> Verdic
     ensures { λ r. ⌜ r ≡ verdict (typedTests kind fields n room) ⌝ }
 {
     if fields.user != 0 {
-        return Verdict::Refused(Refusal::AgainstRules);
+        return Verdict::Refused(Refusal::UserBits);
     }
     if !seq_writes(kind, fields.seq) {
-        return Verdict::Refused(Refusal::AgainstRules);
+        return Verdict::Refused(Refusal::WrongSequence);
     }
     if !payload_suits(kind, n) {
         return Verdict::Refused(Refusal::PayloadLength);
@@ -42,7 +42,7 @@ fn judge(fields: Fields, n: usize, room: usize) -> Verdict
 {
     match known_type(fields.kind) {
         Known::Is(kind) => judge_typed(fields, kind, n, room),
-        Known::Unknown => Verdict::Refused(Refusal::AgainstRules),
+        Known::Unknown => Verdict::Refused(Refusal::UnknownType),
     }
 }
 

@@ -18,6 +18,7 @@ use units::Address;
 use units::Channel;
 use units::Seq;
 use units::bytes::byte_at;
+use units::refusals;
 
 // What a buffer is filled with beforehand, to show what the writer leaves as it was.
 const FILLER: u8 = 165;
@@ -77,14 +78,14 @@ fn fields_of(bytes: &[u8]) -> Fields {
     }
 }
 
-// What the writer answers: 0 and the frame's length, or the refusal.
+// What the writer answers: 0 and the frame's length, or the refusal, which names no byte: there is no frame yet.
 fn written(out: &mut [u8], at: usize, answer: Written) -> usize {
     match answer {
         Written::Length(n) => {
             let next = value(out, at, 0);
             value(out, next, n as u64)
         }
-        Written::Refused(why) => refused(out, at, why),
+        Written::Refused(why) => value(out, at, refusals::number(why) as u64),
     }
 }
 

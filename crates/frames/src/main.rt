@@ -1,8 +1,9 @@
 // Frame reader, frame writer and check byte at work: a test tool that runs the records on standard input.
 // A record is its kind (1 read, 2 write, 3 check), its length (4 bytes, high byte first) and that many bytes. Each
-// gives one line: its number from 1, its kind, the refusal's number or 0, then what came back, in decimal. To write,
-// the bytes are destination, protocol, source, type, user bits, channel, sequence, the buffer's length (4 bytes) and
-// the payload; the buffer, all 165 beforehand, is printed as it stands afterwards.
+// gives one line: its number from 1, its kind, the refusal's number or 0, then what came back, in decimal; behind 15 to
+// 18 of a frame that is read the number of the byte at fault. To write, the bytes are destination, protocol, source,
+// type, user bits, channel, sequence, the buffer's length (4 bytes) and the payload; the buffer, all 165 beforehand, is
+// printed as it stands afterwards.
 // The input is at most 262,144 bytes; a longer one gives only the line `too long`. A record that is cut short, or too
 // short for its fields, ends the run with `torn N`, a whole one of another kind with `unknown N`.
 use lines::number;

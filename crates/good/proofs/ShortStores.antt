@@ -7,12 +7,13 @@ use mathlib.Core.List.{List, [], _∷_, _++_}
 use native.Mathlib.Omega.{arith}
 use lib.ListN.{length}
 use lib.Dec.{eqb, leb, ltb}
-use borrow.Author.Tests.{le-ltb, lt-ltb, ne-eqb}
+use borrow.Author.Tests.{le-ltb, lt-ltb}
 use Rattle.units.specs.Refusals.{numberOf, pick, verdict}
 use Rattle.units.specs.declared.refusals.Verdict.{Verdict}
 use Rattle.units.specs.declared.refusals.Verdict.the-variants.{Passed, Refused}
 use Rattle.units.specs.declared.refusals.Refusal.{Refusal}
 use Rattle.units.specs.declared.refusals.Refusal.the-variants as refusal
+use Rattle.units.proofs.Judging.{refused-not-zero}
 use Rattle.table.specs.Areas.{storeOf}
 use Rattle.frame.specs.Layout.{payloadOf}
 use Rattle.frame.specs.Types.{carries, answered}
@@ -37,7 +38,6 @@ use Rattle.call_arrive.specs.Arriving.{entryTests, entryOf, entryVerdict, taken
 use Rattle.call_arrive.specs.Arriving.{entryAnswer, entryAfter, readAnswer, readAfter, frameTests, arrivalAnswer, arrivalAfter}
 use Rattle.call_hand_out.specs.Handing.{frameOut, nextOut, handOutAnswer, handOutAfter}
 use Rattle.machine.specs.Calls.{Call, opens, closes, counts, sends, urges, arrives, hands-out, ticks}
-use Rattle.machine.proofs.Judged.{refused-some}
 use Rattle.good.specs.Good.{Lists, Good}
 use Rattle.good.specs.Calls.{Memory, lent, answer, after, relent}
 use Rattle.good.specs.Reaching.{Stored, shortened, Declined, ReachIsGood, ShortIsRefused}
@@ -65,10 +65,6 @@ or-short (t ∷ ts) more h = sides (t .0) (verdict (ts ++ ((false, refusal.TooSh
         → pick b (Refused (t .1)) u ≡ orShort (pick b (Refused (t .1)) v)
     sides true v e = refl
     sides false v e = e
-
--- a refusal is no 0
-some-number : (w : Refusal) → eqb (numberOf w) 0 ≡ false
-some-number w = ne-eqb (numberOf w) 0 (λ e. omega (arith, refused-some w))
 
 module _ (t : List ℕ) (n : Memory) (l : Lists) (g : Good t (n .node) (n .book) l) (long : storeOf t ≤ length (n .store))
     (s : List ℕ) (short : length s < storeOf t) where
@@ -101,7 +97,7 @@ module _ (t : List ℕ) (n : Memory) (l : Lists) (g : Good t (n .node) (n .book)
   unfolding answer after sendAfter
   send-declined i p Passed e = let d = send-tests i p ∙ ap orShort e in record { answered = rw (d, e) refl; left = rw d refl }
   send-declined i p (Refused w) e =
-      let d = send-tests i p ∙ ap orShort e in record { answered = rw (d, e, some-number w) refl; left = rw d refl }
+      let d = send-tests i p ∙ ap orShort e in record { answered = rw (d, e, refused-not-zero w) refl; left = rw d refl }
 
   urgent-tests : (i : ℕ) (p : List ℕ) → urgentAnswer (lent m []) i p ≡ orShort (urgentAnswer (lent n []) i p)
   unfolding urgentAnswer
@@ -117,7 +113,7 @@ module _ (t : List ℕ) (n : Memory) (l : Lists) (g : Good t (n .node) (n .book)
   urgent-declined i p Passed e =
       let d = urgent-tests i p ∙ ap orShort e in record { answered = rw (d, e) refl; left = rw d refl }
   urgent-declined i p (Refused w) e =
-      let d = urgent-tests i p ∙ ap orShort e in record { answered = rw (d, e, some-number w) refl; left = rw d refl }
+      let d = urgent-tests i p ∙ ap orShort e in record { answered = rw (d, e, refused-not-zero w) refl; left = rw d refl }
 
   -- ---- an arrival
 
@@ -186,7 +182,7 @@ module _ (t : List ℕ) (n : Memory) (l : Lists) (g : Good t (n .node) (n .book)
         record { answered = rw (d, e, arrive-stays f) refl; left = rw (arrive-stays f) refl }
     arrive-declined f (arrived.Refused w) e =
         let d = arrive-tests f ∙ ap orShortAt e in
-        record { answered = rw (d, e, arrive-stays f, some-number w) refl; left = rw (arrive-stays f) refl }
+        record { answered = rw (d, e, arrive-stays f, refused-not-zero w) refl; left = rw (arrive-stays f) refl }
 
   -- ---- handing out
 

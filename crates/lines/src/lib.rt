@@ -2,13 +2,14 @@
 // `at` is how many of the buffer's bytes are taken; each function answers how many are afterwards.
 // Proved: what stands in the buffer afterwards and what is answered, by the definitions of specs/Lines.antt, for every
 // input; that the bytes reach standard output no contract can say.
+use frame::faults;
 use libc::STDOUT_FILENO;
 use units::bytes::put_all;
 use units::refusals::Refusal;
 ghost use mathlib.Core.Path.{_≡_};
 ghost use lib.ListN.{length};
 ghost use Rattle.lines.specs.Lines.{page, placeOf, appended, ascii, decimalOf, valued, valuedAll, lastLine};
-ghost use Rattle.units.specs.Refusals.{numberOf};
+ghost use Rattle.frame.specs.Faults.{refusedOf};
 
 // Writes out what is taken.
 pub fn flush(out: &[u8], at: usize) {
@@ -90,13 +91,18 @@ pub fn values(out: &mut [u8], at: usize, bytes: &[u8]) -> usize
     next
 }
 
-// A refusal's number, as a value.
+// A refusal's number and, where it is for a fault of a frame, the number of the byte, each a value.
 pub fn refused(out: &mut [u8], at: usize, why: Refusal) -> usize
-    ensures answer { λ r. ⌜ r ≡ valued (page (now (out .entry)) at) (numberOf why) .taken ⌝ }
-    ensures after { λ _. ⌜ now (out .exit) ≡ valued (page (now (out .entry)) at) (numberOf why) .bytes ⌝ }
+    ensures answer { λ r. ⌜ r ≡ valuedAll (page (now (out .entry)) at) (refusedOf why) .taken ⌝ }
+    ensures after { λ _. ⌜ now (out .exit) ≡ valuedAll (page (now (out .entry)) at) (refusedOf why) .bytes ⌝ }
 {
     let n = units::refusals::number(why);
-    value(out, at, n as u64)
+    let next = value(out, at, n as u64);
+    let byte = faults::fault_byte(n);
+    if byte == faults::NO_BYTE {
+        return next;
+    }
+    value(out, next, byte as u64)
 }
 
 // A last line: a word that says why the run ends, and the number of the record at which it does.

@@ -8,8 +8,9 @@ use mathlib.Core.List.{List, [], _∷_, _++_, append-nil, List·Memᴰ·eq-of-si
 use lib.ListN.{drop, getD}
 use lib.Dec.{eqb}
 use borrow.Author.Tests.{ne-eqb}
-use Rattle.units.specs.Refusals.{pick, numberOf}
+use Rattle.units.specs.Refusals.{pick}
 use Rattle.units.specs.declared.refusals.Refusal.{Refusal}
+use Rattle.frame.specs.Faults.{refusedOf}
 use Rattle.frame.specs.Layout.{payloadOf}
 use Rattle.frame.specs.Reading.{headerOf}
 use Rattle.machine.specs.Calls.{opens, closes, counts, sends, urges, arrives, hands-out, ticks}
@@ -35,7 +36,7 @@ module _ (m : Machine) (out : List ℕ) where
   abbrev Keeps : Outcome → Type 0
   Keeps o = getD (o .answer .numbers) 0 0 ≢ 0 → (o .machine ≡ m) × (o .answer .out ≡ out)
 
-  kept : (w : Refusal) → Keeps (answers (numberOf w ∷ []) out m)
+  kept : (w : Refusal) → Keeps (answers (refusedOf w) out m)
   kept w r = (refl, refl)
 
   going-keeps : (q : Sort) (l : List Item) (other : Outcome) → Keeps other → Keeps (goingOut m out q l other)

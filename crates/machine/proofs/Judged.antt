@@ -1,6 +1,6 @@
 -- A call on an entry behind its tests: it is done exactly where the entry is there and no test fits, and where it is
 -- refused all is as it was. Assumes nothing.
-use Prim.Native.Nat.{ℕ, _≤_}
+use Prim.Native.Nat.{ℕ}
 use mathlib.Core.Path.{_≡_, refl}
 use mathlib.Core.Bool.{Bool}
 use mathlib.Core.Option.{Option, none, some}
@@ -12,29 +12,14 @@ use Rattle.units.specs.declared.refusals.Refusal.{Refusal}
 use Rattle.units.specs.declared.refusals.Refusal.the-variants as refusal
 use Rattle.units.specs.declared.refusals.Verdict.{Verdict}
 use Rattle.units.specs.declared.refusals.Verdict.the-variants.{Passed, Refused}
-use Rattle.units.proofs.Judging.{Clear, clear}
+use Rattle.units.proofs.Judging.{Clear, clear, refused-some}
+use Rattle.frame.specs.Faults.{refusedOf}
 use Rattle.machine.specs.Machine.{End, Machine, Outcome, at, found, answers, judged, unless, onEntry}
 use Rattle.machine.specs.Laws.{Is}
 
--- ---- a refusal's number is not 0
+-- ---- a refusal is no 0
 
-pub refused-some : (w : Refusal) → 1 ≤ numberOf w
-refused-some refusal.BadTable = omega arith
-refused-some refusal.NoEntry = omega arith
-refused-some refusal.OtherKind = omega arith
-refused-some refusal.WrongState = omega arith
-refused-some refusal.PayloadLength = omega arith
-refused-some refusal.TooShort = omega arith
-refused-some refusal.WindowFull = omega arith
-refused-some refusal.RunFull = omega arith
-refused-some refusal.UrgentWaits = omega arith
-refused-some refusal.BadFrame = omega arith
-refused-some refusal.NotOurs = omega arith
-refused-some refusal.AgainstRules = omega arith
-refused-some refusal.NoEndPoint = omega arith
-refused-some refusal.AcksFull = omega arith
-
-pub refused-not : (w : Refusal) (ns : List ℕ) → numberOf w ∷ [] ≡ 0 ∷ ns → ⊥
+pub refused-not : (w : Refusal) (ns : List ℕ) → refusedOf w ≡ 0 ∷ ns → ⊥
 refused-not w ns h = let z : numberOf w ≡ 0 = cc in omega (arith, refused-some w)
 
 -- ---- what holds of every outcome
@@ -48,7 +33,7 @@ module _ (P : Outcome → Type 0) where
       sides (some e) h = g e h
 
   pub by-verdict : (tests : List (Bool × Refusal)) (out : List ℕ) (m : Machine) (o : Outcome)
-      → ((w : Refusal) → P (answers (numberOf w ∷ []) out m)) → (verdict tests ≡ Passed → P o) → P (unless tests out m o)
+      → ((w : Refusal) → P (answers (refusedOf w) out m)) → (verdict tests ≡ Passed → P o) → P (unless tests out m o)
   by-verdict tests out m o x g = sides (verdict tests) refl
     where
       sides : (v : Verdict) → verdict tests ≡ v → P (judged v out m o)

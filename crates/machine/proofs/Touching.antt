@@ -9,9 +9,10 @@ use mathlib.Core.List.{List, [], _∷_, _++_}
 use native.Mathlib.Omega.{arith}
 use lib.ListN.{length, drop, getElem?, set, replicate}
 use lib.Dec.{eqb}
-use Rattle.units.specs.Refusals.{pick, numberOf}
+use Rattle.units.specs.Refusals.{pick}
 use Rattle.units.specs.declared.refusals.Refusal.{Refusal}
 use Rattle.units.specs.declared.refusals.Refusal.the-variants as refusal
+use Rattle.frame.specs.Faults.{refusedOf}
 use Rattle.frame.specs.Reading.{soundOf}
 use Rattle.frame.specs.declared.Header.{Header}
 use Rattle.frame.specs.declared.Read.{Read}
@@ -119,7 +120,7 @@ module _ (P : Outcome → Type 0) (m : Machine) (out : List ℕ) (i : ℕ) (e : 
   by-taken type.Urgent s p = touches m as-was _ _
 
 -- an arrival is refused, or the frame is taken in by the entry that it is for
-module _ (P : Outcome → Type 0) (m : Machine) (out : List ℕ) (refused : (w : Refusal) → P (answers (numberOf w ∷ []) out m)) where
+module _ (P : Outcome → Type 0) (m : Machine) (out : List ℕ) (refused : (w : Refusal) → P (answers (refusedOf w) out m)) where
   pub by-read : (r : Read) (p : List ℕ)
       → ((h : Header) → r ≡ read.Frame h → (m′ : Machine) → Touched (entryFor m h) m m′ → (ns out′ : List ℕ) → P (answers (0 ∷ ns) out′ m′)) → P (reading m out r p)
   unfolding reading
@@ -134,6 +135,6 @@ arrivalTests m f = (not (soundOf f), refusal.BadFrame) ∷ (not (isOurs m f), re
 
 -- a call of the host's on entry i is refused, or done
 pub by-done : (P : Outcome → Type 0) (m : Machine) (i : ℕ) (tests : End → List (Bool × Refusal)) (g : End → Outcome)
-    → ((w : Refusal) → P (answers (numberOf w ∷ []) [] m)) → ((e : End) → Is m i e → P (g e)) → P (onEntry m i (λ e. unless (tests e) [] m (g e)))
+    → ((w : Refusal) → P (answers (refusedOf w) [] m)) → ((e : End) → Is m i e → P (g e)) → P (onEntry m i (λ e. unless (tests e) [] m (g e)))
 by-done P m i tests g refused done =
     by-entry P m i _ _ (refused refusal.NoEntry) (λ e h. by-verdict P (tests e) [] m (g e) refused (λ v. done e h))

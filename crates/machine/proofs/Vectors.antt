@@ -99,7 +99,10 @@ vectors =
     ∷ (arrives (lent 34) (65 ∷ 238 ∷ 65 ∷ 0 ∷ 0 ∷ 1 ∷ 7 ∷ 4 ∷ 40 ∷ 132 ∷ []), 10 ∷ [])
     ∷ (arrives (lent 34) (65 ∷ 238 ∷ 65 ∷ 0 ∷ 0 ∷ 1 ∷ 7 ∷ 4 ∷ 40 ∷ 133 ∷ []), 11 ∷ [])
     ∷ (arrives (lent 0) (64 ∷ 237 ∷ 65 ∷ 4 ∷ 0 ∷ 0 ∷ 7 ∷ 4 ∷ 142 ∷ []), 11 ∷ [])
-    ∷ (arrives (lent 0) (64 ∷ 238 ∷ 66 ∷ 4 ∷ 0 ∷ 0 ∷ 7 ∷ 4 ∷ 147 ∷ []), 12 ∷ [])
+    ∷ (arrives (lent 0) (64 ∷ 238 ∷ 66 ∷ 20 ∷ 0 ∷ 0 ∷ 7 ∷ 4 ∷ 161 ∷ []), 15 ∷ 3 ∷ [])
+    ∷ (arrives (lent 0) (64 ∷ 238 ∷ 66 ∷ 18 ∷ 0 ∷ 1 ∷ 7 ∷ 4 ∷ 1 ∷ 137 ∷ []), 16 ∷ 3 ∷ [])
+    ∷ (arrives (lent 0) (64 ∷ 238 ∷ 66 ∷ 2 ∷ 0 ∷ 1 ∷ 7 ∷ 4 ∷ 1 ∷ 23 ∷ []), 17 ∷ 4 ∷ [])
+    ∷ (arrives (lent 0) (64 ∷ 238 ∷ 66 ∷ 2 ∷ 0 ∷ 0 ∷ 7 ∷ 4 ∷ 216 ∷ []), 18 ∷ 7 ∷ [])
     ∷ (arrives (lent 0) (64 ∷ 238 ∷ 66 ∷ 0 ∷ 0 ∷ 5 ∷ 7 ∷ 1 ∷ 1 ∷ 2 ∷ 3 ∷ 4 ∷ 5 ∷ 202 ∷ []), 13 ∷ [])
     -- Data is lost and sent again when its timer ends; acknowledged out of order, the start passes what it can
     ∷ (sends 1 [], 3 ∷ [])

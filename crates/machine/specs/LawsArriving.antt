@@ -33,7 +33,7 @@ use Rattle.machine.specs.Laws.{Is, answer, after, item, WaitsLast, Free,
 -- ---- a frame for entry i, which is e
 
 -- whole and by the rules, to our address and protocol, of the entry's remote end and channel: its type, number and
--- payload [F16, R10, R11, R12, R13]
+-- payload [F16, R10, R11, R13, R15, R16, R17, R18]
 pub record Comes (m : Machine) (f : List ℕ) (i : ℕ) (e : End) (t : FrameType) (s : ℕ) (p : List ℕ) : Type 0 where
   pub there : Is m i e
   pub byte : s < 256

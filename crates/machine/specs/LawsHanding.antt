@@ -96,7 +96,7 @@ unfoldable pub ReadsBack : Type 0
 ReadsBack = (t : List ℕ) (m : Machine) → Sound t m → (q : Sort) (x : Item) → List·Memᴰ x (m .waiting q)
     → (e : End) → Is m (x .entry) e → ReadsAs m q e (x .number) (frameOf m q e (x .number))
 
--- and the machine n at its other end does not refuse it with 10, 11 or 12 [R10, R11, R12]
+-- and the machine n at its other end does not refuse it with 10, 11 or for a fault [R10, R11, R15, R16, R17, R18]
 unfoldable pub PairedTakes : Type 0
 PairedTakes = (m n : Machine) (q : Sort) (e : End) (s : ℕ) (f : List ℕ) → (r : ReadsAs m q e s f)
     → n .own ≡ e .entry .remote → n .protocol ≡ m .protocol

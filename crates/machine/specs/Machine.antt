@@ -464,7 +464,7 @@ placeOf test (e ∷ es) = pick (test e) 0 (suc (placeOf test es))
 abbrev pub entryFor : Machine → Header → ℕ
 entryFor m h = placeOf (λ e. fits (e .entry) (forSender (h .kind)) (h .source .0) (h .channel .0)) (m .ends)
 
--- 12, then 13 where there is no such entry [R12, R13, R37]
+-- the header's fault, then 13 where there is no such entry [R13, R15, R16, R17, R18, R37]
 unfoldable pub reading : Machine → List ℕ → Read → List ℕ → Outcome
 reading m out (read.Refused w) p = answers (answerOf (Refused w)) out m
 reading m out (read.Frame h) p =

@@ -117,7 +117,8 @@ pub fn urgent(
     call_send::urgent(node, book, store, index, payload)
 }
 
-// A frame has arrived. Data and Urgent write the host's block. Refuses 10, 11, 12, 13, 5, 14, 6. [B3, R37]
+// A frame has arrived. Data and Urgent write the host's block. Refuses 10, 11, 15, 16, 17, 18, 13, 5, 14, 6.
+// [B3, R37]
 pub fn arrival(
     node: &mut Node,
     book: &mut Book,

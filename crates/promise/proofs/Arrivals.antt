@@ -10,13 +10,14 @@ use lib.ListN.{length, getElem?}
 use lib.Dec.{eqb}
 use native.Mathlib.Decide.{ℕ-discrete}
 use borrow.Author.Tests.{not-false}
-use Rattle.units.specs.Refusals.{numberOf, pick, verdict}
+use Rattle.units.specs.Refusals.{pick, verdict}
 use Rattle.units.specs.declared.refusals.Refusal.{Refusal}
 use Rattle.units.specs.declared.refusals.Refusal.the-variants as refusal
 use Rattle.units.specs.declared.refusals.Verdict.{Verdict}
 use Rattle.units.specs.declared.refusals.Verdict.the-variants as verdicts
 use Rattle.units.proofs.Judging.{Clear, clear}
 use Rattle.table.specs.Layout.{entryOf}
+use Rattle.frame.specs.Faults.{refusedOf}
 use Rattle.frame.specs.Layout.{payloadOf}
 use Rattle.frame.specs.Reading.{soundOf, headerOf, readOf}
 use Rattle.frame.specs.Types.{forSender}
@@ -41,7 +42,7 @@ use Rattle.promise.proofs.Watched.{Watch, Follows, Step, seen-as, still
 
 record Refused (m : Machine) (block f : List ℕ) : Type 0 where
   why : Refusal
-  is : arriving m block f ≡ answers (numberOf why ∷ []) block m
+  is : arriving m block f ≡ answers (refusedOf why) block m
 
 pub record Taken (m : Machine) (block f : List ℕ) : Type 0 where
   pub header : Header
@@ -67,7 +68,7 @@ module _ (m : Machine) (block f : List ℕ) where
   -- what is made of the entry that a header is for
   abbrev entered : Header → Option End → Outcome
   entered h z =
-      found z (answers (numberOf refusal.NoEndPoint ∷ []) block m)
+      found z (answers (refusedOf refusal.NoEndPoint) block m)
       (λ e. judged (verdict (tests h e)) block m (takenIn m block (entryFor m h) e (h .kind) (h .seq .0) (payloadOf f)))
 
   by-header : arriving m block f ≡ judged (verdict frameTests) block m (reading m block (headerOf f) (payloadOf f))
@@ -78,7 +79,7 @@ module _ (m : Machine) (block f : List ℕ) where
   unfolding reading
   by-entry h = refl
 
-  refused-read : (w : Refusal) → reading m block (read.Refused w) (payloadOf f) ≡ answers (numberOf w ∷ []) block m
+  refused-read : (w : Refusal) → reading m block (read.Refused w) (payloadOf f) ≡ answers (refusedOf w) block m
   unfolding reading
   refused-read w = refl
 

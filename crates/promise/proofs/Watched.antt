@@ -4,15 +4,15 @@ use Prim.Native.Nat.{ℕ}
 use mathlib.Core.Path.{_≡_, refl, sym, ap, subst, _∙_}
 use mathlib.Core.Bool.{Bool, true, false, _&&_}
 use mathlib.Core.Option.{some}
-use mathlib.Core.List.{List, [], _∷_}
+use mathlib.Core.List.{List, []}
 use native.Mathlib.Decide.{ℕ-discrete}
-use native.Mathlib.Omega.{arith}
 use lib.ListN.{length, getElem?, set}
 use lib.Dec.{eqb}
 use borrow.Author.Tests.{eq-eqb, ne-eqb}
-use Rattle.units.specs.Refusals.{numberOf, pick}
+use Rattle.units.specs.Refusals.{pick}
 use Rattle.units.specs.declared.refusals.Refusal.{Refusal}
-use Rattle.units.proofs.Judging.{Clear, clear}
+use Rattle.units.proofs.Judging.{Clear, clear, refused-not-zero}
+use Rattle.frame.specs.Faults.{refusedOf}
 use Rattle.frame.specs.Layout.{payloadOf}
 use Rattle.frame.specs.Reading.{readOf}
 use Rattle.frame.specs.declared.Read.{Read}
@@ -25,7 +25,7 @@ use Rattle.machine.specs.Sound.{Sound}
 use Rattle.machine.specs.Laws.{On, Untouched, OthersStay}
 use Rattle.machine.specs.LawsCalls.{CountsTell}
 use Rattle.machine.proofs.Entries.{elem-lt, elem-set-same}
-use Rattle.machine.proofs.Judged.{refused-some, by-verdict}
+use Rattle.machine.proofs.Judged.{by-verdict}
 use Rattle.machine.proofs.Hosting.{openTests, closeTests, urgentTests, counts-tell}
 use Rattle.machine.proofs.Apart.{others-stay}
 use Rattle.promise.specs.Seen.{isDone, frameIn}
@@ -88,8 +88,8 @@ module _ (K : Watch) (i : ℕ) (m : Machine) (e : End) where
 
 -- ---- refusals, and becoming Enabled
 
-pub refused-done : (w : Refusal) → isDone (numberOf w ∷ []) ≡ false
-refused-done w = ne-eqb (numberOf w) 0 (λ h. omega (arith, refused-some w))
+pub refused-done : (w : Refusal) → isDone (refusedOf w) ≡ false
+refused-done w = refused-not-zero w
 
 -- what is not done is not seen
 never : {A : Type 0} (b : Bool) (own quiet : A) → pick (b && false) own quiet ≡ quiet

@@ -8,7 +8,7 @@ use native.Mathlib.Omega.{arith}
 use lib.ListN.{length, getD, length-map}
 use lib.Dec.{ltb}
 use borrow.Author.Tests.{lt-leb, le-leb, lt-ltb, le-ltb, not-false, ltb-false, leb-false}
-use Rattle.units.specs.Refusals.{pick, verdict, numberOf}
+use Rattle.units.specs.Refusals.{pick, verdict}
 use Rattle.units.specs.declared.Address.{Address}
 use Rattle.units.specs.declared.refusals.Refusal.{Refusal}
 use Rattle.units.specs.declared.refusals.Refusal.the-variants as refusal
@@ -20,6 +20,7 @@ use Rattle.waiting.specs.Order.{acksIn}
 use Rattle.waiting.proofs.Ringed.{from-length}
 use Rattle.table.specs.Layout.{countOf}
 use Rattle.table.specs.Areas.{storeOf}
+use Rattle.frame.specs.Faults.{refusedOf}
 use Rattle.frame.specs.Layout.{payloadOf}
 use Rattle.frame.specs.Reading.{soundOf, headerOf, readOf}
 use Rattle.frame.specs.declared.Header.{Header}
@@ -141,7 +142,7 @@ module _ (t : List ℕ) (n : Memory) (l : Lists) (g : Good t (n .node) (n .book)
 
   -- ---- refused
 
-  refuse : (w : Refusal) → Takes t (answers (numberOf w ∷ []) block M) (arrived.Refused w) x
+  refuse : (w : Refusal) → Takes t (answers (refusedOf w) block M) (arrived.Refused w) x
   refuse w = record { numbers = refl; out = refl; stands = record { lists = l; good = g; room = room; is = refl } }
 
   judge : (v : Verdict) (o : Outcome) (a : Arrived) (y : Lent) → (v ≡ Passed → Takes t o a y)
@@ -209,7 +210,7 @@ module _ (t : List ℕ) (n : Memory) (l : Lists) (g : Good t (n .node) (n .book)
     no-end i h li = rw (le-leb (countIn (n .node)) i li)
 
     refused-at : (k : ℕ) (h : Header) (p : List ℕ) → countIn (n .node) ≤ k
-        → Takes t (answers (numberOf refusal.NoEndPoint ∷ []) block M) (entryAnswer x k h p) (entryAfter x k h p)
+        → Takes t (answers (refusedOf refusal.NoEndPoint) block M) (entryAnswer x k h p) (entryAfter x k h p)
     unfolding entryAnswer entryAfter
     refused-at k h p far = rw (no-end k h far) (refuse refusal.NoEndPoint)
 

@@ -2,7 +2,8 @@
 ghost use mathlib.Core.Path.{_≡_};
 ghost use Rattle.units.specs.Refusals.{numberOf};
 
-// The refusals, in the order of their numbers. [R1, R2, R3, R4, R5, R6, R7, R8, R9, R10, R11, R12, R13, R14]
+// The refusals, in the order of their numbers.
+// [R1, R2, R3, R4, R5, R6, R7, R8, R9, R10, R11, R13, R14, R15, R16, R17, R18]
 pub enum Refusal {
     BadTable,
     NoEntry,
@@ -15,9 +16,12 @@ pub enum Refusal {
     UrgentWaits,
     BadFrame,
     NotOurs,
-    AgainstRules,
     NoEndPoint,
     AcksFull,
+    UnknownType,
+    UserBits,
+    LengthAgainstType,
+    WrongSequence,
 }
 
 // What an ordered list of tests comes to: the first that fits refuses.
@@ -25,6 +29,15 @@ pub enum Verdict {
     Passed,
     Refused(Refusal),
 }
+
+// The numbers of the refusals for a fault of a frame's header.
+pub const UNKNOWN_TYPE: u8 = 15;
+
+pub const USER_BITS: u8 = 16;
+
+pub const LENGTH_AGAINST_TYPE: u8 = 17;
+
+pub const WRONG_SEQUENCE: u8 = 18;
 
 // The paper's number of a refusal.
 pub fn number(r: Refusal) -> u8
@@ -42,8 +55,11 @@ pub fn number(r: Refusal) -> u8
         Refusal::UrgentWaits => 9,
         Refusal::BadFrame => 10,
         Refusal::NotOurs => 11,
-        Refusal::AgainstRules => 12,
         Refusal::NoEndPoint => 13,
         Refusal::AcksFull => 14,
+        Refusal::UnknownType => UNKNOWN_TYPE,
+        Refusal::UserBits => USER_BITS,
+        Refusal::LengthAgainstType => LENGTH_AGAINST_TYPE,
+        Refusal::WrongSequence => WRONG_SEQUENCE,
     }
 }

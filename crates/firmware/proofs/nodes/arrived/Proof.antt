@@ -1,4 +1,5 @@
 -- `firmware::nodes::arrived` meets its contract. Assumes nothing.
+use Rattle.units.proofs.Judging.{refused-not-zero}
 use Rattle.firmware.specs.Nodes.{arrivedIn}
 use borrow.Author.Needs.{needs}
 use Rattle.firmware.proofs.nodes.arrived.Statement.{statement}
@@ -44,7 +45,7 @@ returns-2 : tie.Need-returns-2
 unfolding arrivedIn
 returns-2 c =
     let q = c .before .before .a2 .given .1 in
-    (rw q (c .number .ensures), rw q)
+    (rw q (c .number .ensures), rw (q, refused-not-zero))
 
 pub arrived-spec : {M : Type 1} → statement M
 arrived-spec =

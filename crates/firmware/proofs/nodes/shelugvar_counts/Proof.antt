@@ -1,5 +1,6 @@
 -- `firmware::nodes::shelugvar_counts` meets its contract. Assumes nothing.
 use mathlib.Core.Path.{sym, _∙_}
+use Rattle.units.proofs.Judging.{refused-not-zero}
 use Rattle.firmware.specs.Nodes.{countsIn}
 use borrow.Author.Needs.{needs}
 use Rattle.firmware.proofs.nodes.shelugvar_counts.Statement.{statement}
@@ -33,7 +34,7 @@ returns-2 : tie.Need-returns-2
 unfolding countsIn
 returns-2 c =
     let q = sym (c .before .before .before .before .counts .ensures) ∙ c .before .before .w .given .1 in
-    (rw q (c .number .ensures), rw q)
+    (rw q (c .number .ensures), rw (q, refused-not-zero))
 
 pub shelugvar-counts-spec : {M : Type 1} → statement M
 shelugvar-counts-spec =

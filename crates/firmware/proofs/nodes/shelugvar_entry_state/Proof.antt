@@ -1,4 +1,5 @@
 -- `firmware::nodes::shelugvar_entry_state` meets its contract. Assumes nothing.
+use Rattle.units.proofs.Judging.{refused-not-zero}
 use Rattle.firmware.specs.Nodes.{valueIn}
 use borrow.Author.Needs.{needs}
 use Rattle.firmware.proofs.nodes.shelugvar_entry_state.Statement.{statement}
@@ -31,7 +32,7 @@ unfolding valueIn
 returns-2 c =
     let v = c .before .before .before .before .state .ensures in
     let q = c .before .before .w .given .1 in
-    (rw (← v, q) (c .number .ensures), rw (← v, q))
+    (rw (← v, q) (c .number .ensures), rw (← v, q, refused-not-zero))
 
 pub shelugvar-entry-state-spec : {M : Type 1} → statement M
 shelugvar-entry-state-spec =

@@ -1,4 +1,5 @@
 -- `firmware::nodes::shelugvar_hand_out` meets its contract. Assumes nothing.
+use Rattle.units.proofs.Judging.{refused-not-zero}
 use Rattle.firmware.specs.Nodes.{valueIn}
 use borrow.Author.Needs.{needs}
 use Rattle.firmware.proofs.nodes.shelugvar_hand_out.Statement.{statement}
@@ -34,7 +35,7 @@ unfolding valueIn
 returns-2 c =
     let v = c .before .before .before .before .before .before .hand-out .ensures in
     let q = c .before .before .w .given .1 in
-    (rw (← v .0, q) (c .number .ensures), (rw (← v .0) (v .1), rw (← v .0, q)))
+    (rw (← v .0, q) (c .number .ensures), (rw (← v .0) (v .1), rw (← v .0, q, refused-not-zero)))
 
 pub shelugvar-hand-out-spec : {M : Type 1} → statement M
 shelugvar-hand-out-spec =

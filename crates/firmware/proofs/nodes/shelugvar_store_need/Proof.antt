@@ -1,4 +1,5 @@
 -- `firmware::nodes::shelugvar_store_need` meets its contract. Assumes nothing.
+use Rattle.units.proofs.Judging.{refused-not-zero}
 use Rattle.firmware.specs.Nodes.{valueIn}
 use borrow.Author.Needs.{needs}
 use Rattle.firmware.proofs.nodes.shelugvar_store_need.Statement.{statement}
@@ -28,7 +29,7 @@ unfolding valueIn
 returns-2 c =
     let v = c .before .before .before .before .store-need .ensures in
     let q = c .before .before .w .given .1 in
-    (rw (← v, q) (c .number .ensures), rw (← v, q))
+    (rw (← v, q) (c .number .ensures), rw (← v, q, refused-not-zero))
 
 pub shelugvar-store-need-spec : {M : Type 1} → statement M
 shelugvar-store-need-spec =
