@@ -64,7 +64,8 @@ enum shelugvar_state {
     SHELUGVAR_FAILING = 3  /* a payload of the sender has spent its retries; Enabled once none of its timers runs */
 };
 
-/* Refusals: each is given exactly when its test is the first to fit, in the order that the call names. 0 is none. */
+/* Refusals: each is given exactly when its test is the first to fit, in the order that the call names. 0 is none; 12,
+ * which stood for 15 to 18 up to version 0.1, is given no more. */
 enum shelugvar_refusal {
     SHELUGVAR_DONE = 0,
     SHELUGVAR_BAD_TABLE = 1,            /* the table breaks a rule */

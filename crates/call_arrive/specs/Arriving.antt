@@ -81,7 +81,7 @@ unfoldable pub entryAnswer : Lent → ℕ → Header → List ℕ → Arrived
 entryAnswer x i h p =
     answerAs (entryVerdict x i h) (arrived.At i (takenInAnswer x i (endOf (x .node) i) (h .kind) (h .seq .0) p))
 
--- the header's fault, or at the entry that it is for [R15, R16, R17, R18, R37]
+-- refused for the header's fault, or judged at the entry that the frame is for [R15, R16, R17, R18, R37]
 unfoldable pub readAnswer : Lent → Read → List ℕ → Arrived
 readAnswer x (read.Refused w) p = arrived.Refused w
 readAnswer x (read.Frame h) p = entryAnswer x (entryOf x h) h p

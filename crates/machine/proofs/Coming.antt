@@ -1,5 +1,5 @@
 -- A frame for an entry that may take it in is taken in by that entry: the search finds the entry, and no test of the
--- arrival fits. And each frame that the remote end writes is such a frame. Assumes nothing.
+-- arrival fits. And each frame that the remote end writes is such a frame; one with a fault is refused. Assumes nothing.
 use Prim.Native.Nat.{ℕ, zero, suc, _+_, _-_, _≤_, _<_}
 use mathlib.Core.Path.{_≡_, refl, sym, ap, _∙_}
 use mathlib.Core.Bool.{Bool, true, false, not, _&&_, true≢false, false≢true}
@@ -33,7 +33,7 @@ use Rattle.machine.specs.Calls.{arrives}
 use Rattle.machine.specs.Machine.{End, acks, Machine, placeOf, entryFor, isOurs, mostAcks, blockRoom, takenIn, reading, arriving, step}
 use Rattle.machine.specs.Sound.{Sound}
 use Rattle.machine.specs.Laws.{Is}
-use Rattle.machine.specs.LawsArriving.{Comes, fieldsFor, WrittenComes}
+use Rattle.machine.specs.LawsArriving.{Comes, fieldsFor, WrittenComes, FaultTold}
 use Rattle.machine.proofs.Entries.{not-none, elem-lt}
 
 -- ---- the entry that is found
@@ -190,3 +190,9 @@ written-comes m i e t s p here kind byte numbered fits =
       number = refl;
       payload = payload-frame d p;
     }
+
+-- ---- a frame with a fault
+
+pub fault-told : FaultTold
+unfolding FaultTold step arriving reading
+fault-told m block f w sound ours has = rw (sound, ours, has)

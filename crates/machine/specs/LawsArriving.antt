@@ -10,9 +10,12 @@ use mathlib.Core.Option.{none, some}
 use mathlib.Core.List.{List, [], _∷_, _++_}
 use lib.ListN.{length, drop, getElem?, set, replicate}
 use lib.Dec.{eqb}
+use Rattle.units.specs.declared.refusals.Refusal.{Refusal}
 use Rattle.window.specs.Numbers.{byteOf}
 use Rattle.frame.specs.Layout.{payloadOf, frameBytes}
-use Rattle.frame.specs.Reading.{readOf}
+use Rattle.frame.specs.AgainstRules.{HasFault}
+use Rattle.frame.specs.Faults.{refusedOf}
+use Rattle.frame.specs.Reading.{soundOf, readOf}
 use Rattle.frame.specs.Types.{typeNumber, suits, seqWrites, forSender}
 use Rattle.frame.specs.declared.Fields.{Fields}
 use Rattle.frame.specs.declared.Header.{Header}
@@ -26,7 +29,7 @@ use Rattle.blocks.specs.Blocks.{blockOf}
 use Rattle.blocks.specs.Reading.{readBlock}
 use Rattle.machine.specs.Calls.{Answer, arrives}
 use Rattle.machine.specs.Machine.{Number, End, Item, Sort, acks, resends, Machine, number, holding, only, without}
-use Rattle.machine.specs.Machine.{offset, running, heldCount, mostAcks, blockRoom, isOurs}
+use Rattle.machine.specs.Machine.{answers, offset, running, heldCount, mostAcks, blockRoom, isOurs, step}
 use Rattle.machine.specs.Sound.{Sound}
 use Rattle.machine.specs.Laws.{Is, answer, after, item, WaitsLast, Free, Anew, SameCounts, ofEntry}
 
@@ -65,6 +68,14 @@ unfoldable pub WrittenComes : Type 0
 WrittenComes = (m : Machine) (i : ℕ) (e : End) (t : FrameType) (s : ℕ) (p : List ℕ) → Is m i e
     → isSends (e .entry .kind) ≡ forSender t → s < 256 → seqWrites t s ≡ true → suits t (length p) ≡ true
     → Comes m (frameBytes (fieldsFor m e t s) p) i e t s p
+
+-- ---- a frame with a fault
+
+-- it is refused with the fault's number and the byte where it sits, and all is as it was
+-- [R15, R16, R17, R18, R37, R44, R47]
+unfoldable pub FaultTold : Type 0
+FaultTold = (m : Machine) (block f : List ℕ) (w : Refusal) → soundOf f ≡ true → isOurs m f ≡ true → HasFault f w
+    → step m (arrives block f) ≡ answers (refusedOf w) block m
 
 -- ---- Data
 
