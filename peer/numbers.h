@@ -1,4 +1,4 @@
-/* Every number of the protocol: papers 01, 02 (K1) and 002. */
+/* Every number of the protocol: papers 01, 02 (K1, K2) and 002. */
 #ifndef PEER_NUMBERS_H
 #define PEER_NUMBERS_H
 
@@ -94,9 +94,41 @@ enum {
     BLOCK_MOST = BLOCK_EMPTY + WINDOW_MOST * BLOCK_OFFSET + STORE_MOST
 };
 
+/* A trace of a node's calls (02, K2); records follow its 4,104 bytes. */
+enum {
+    TRACE_COUNT = 0,
+    TRACE_FIRST_OFFSET = 4,
+    TRACE_OFFSET = 4,      /* bytes of each */
+    TRACE_COUNT_LEAST = 1, /* the table */
+    TRACE_COUNT_MOST = 1024,
+    TRACE_OFFSETS = TRACE_COUNT_MOST + 1, /* the last used is the end */
+    TRACE_HEADER = TRACE_FIRST_OFFSET + TRACE_OFFSET * TRACE_OFFSETS,
+    TRACE_MOST = 65536
+};
+
+/* Where a trace's record has its bytes. */
+enum {
+    RECORD_KIND = 0,
+    RECORD_INDEX = 1,
+    RECORD_LENGTH = 2,
+    RECORD_BYTES = 4
+};
+
+/* The call that a record is of: its kind byte. */
+enum call_kind {
+    CALL_TABLE = 1,
+    CALL_OPEN = 2,
+    CALL_CLOSE = 3,
+    CALL_SEND = 4,
+    CALL_URGENT = 5,
+    CALL_ARRIVAL = 6,
+    CALL_TICK = 7,
+    CALL_HAND_OUT = 8
+};
+
 /*
  * Refusal numbers (01, "Refusal numbers"; 02, K1: 15 to 18 are given where 12
- * stood, and 12 no longer); 0 is no refusal.
+ * stood, and 12 no longer; K2: 21, of a trace); 0 is no refusal.
  */
 enum refusal {
     NOT_REFUSED = 0,
@@ -116,7 +148,8 @@ enum refusal {
     REFUSED_TYPE = 15,
     REFUSED_USER = 16,
     REFUSED_LENGTH = 17,
-    REFUSED_SEQUENCE = 18
+    REFUSED_SEQUENCE = 18,
+    REFUSED_TRACE = 21
 };
 
 #endif
