@@ -52,6 +52,8 @@ class Totals:
         self.withheld: collections.Counter[str] = collections.Counter()  # by premise
         self.breaks: collections.Counter[str] = collections.Counter()
         self.notes: list[str] = []
+        self.files = self.refused = self.lines = 0  # trace files
+        self.replayed: model.Seen = collections.Counter()
 
     def add_trace(self, trace: Trace) -> None:
         seen = trace.node.seen
@@ -76,6 +78,17 @@ class Totals:
         self.withheld += pair.withheld
         self.breaks += pair.breaks
 
+    def add_file(self, data: bytes, text: str) -> None:
+        self.files += 1
+        self.refused += text.startswith("refused")
+        self.lines += text.count("\n")
+
+    def unplayed(self) -> list[str]:
+        """The calls and refusals that a trace can show and that no file showed."""
+        codes = {name: code for code, name in model.CALL_NAMES.items()}
+        return ["%s refused with %d in a trace file" % (name, n) for name, numbers in REFUSALS.items() if name != "counts"
+                for n in numbers if not self.replayed[(codes[name], n)]]
+
     def missing(self) -> list[str]:
         """What was to be reached and was not."""
         codes = {name: code for code, name in model.CALL_NAMES.items()}
@@ -91,11 +104,11 @@ class Totals:
 
     # the table
 
-    def refusal_rows(self) -> Iterator[str]:
+    def refusal_rows(self, seen: model.Seen, names: dict[int, str]) -> Iterator[str]:
         numbers = [n for n in range(19) if n != 12]  # 12 is given no more
         yield "refusal   " + "".join("%8d" % n for n in numbers)
-        for code, name in model.CALL_NAMES.items():
-            counts = [self.seen[(code, n)] if n in REFUSALS[name] else "." for n in numbers]
+        for code, name in names.items():
+            counts = [seen[(code, n)] if n in REFUSALS[name] else "." for n in numbers]
             yield "%-10s" % name + "".join("%8s" % count for count in counts)
 
     def show(self, gaps: bool) -> None:
@@ -103,7 +116,7 @@ class Totals:
         print("%d traces, %d records, %d bytes, %d frames" % (self.traces, self.records, self.bytes, self.frames))
         print("\nCalls by refusal number (0: done). The desk cannot be brought to 6, since its buffers are always long"
               " enough, nor to 8.")
-        for row in self.refusal_rows():
+        for row in self.refusal_rows(self.seen, model.CALL_NAMES):
             print(row)
         for title, names in (("State transitions", TRANSITIONS), ("Events", EVENTS)):
             print("\n" + title)
@@ -113,6 +126,16 @@ class Totals:
             self.show_promise()
         print("\n".join([""] + self.notes))
         for name in self.missing() if gaps else ():
+            print("NOT REACHED: " + name)
+
+    def show_files(self, gaps: bool) -> None:
+        """The trace files' part of the table."""
+        print("\n%d trace files, %d of them refused with 21; %d lines. Their calls by refusal number:"
+              % (self.files, self.refused, self.lines))
+        names = {code: name for code, name in model.CALL_NAMES.items() if code != model.COUNTS_CALL}
+        for row in self.refusal_rows(self.replayed, names):
+            print(row)
+        for name in self.unplayed() if gaps else ():
             print("NOT REACHED: " + name)
 
     def show_promise(self) -> None:

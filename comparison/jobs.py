@@ -10,7 +10,7 @@ import time
 from collections.abc import Callable
 from typing import NamedTuple
 
-from comparison import corners, history, model, programs
+from comparison import corners, history, model, programs, replays
 from comparison.coverage import Totals
 from comparison.one_node import one_node
 from comparison.trace import Trace
@@ -37,6 +37,16 @@ def desks_of(peer_only: bool = False, sanitized: bool = False) -> list[Program]:
         sys.exit("there is no crate desk yet; --peer-only compares the model with the peer alone")
     programs.ours("desk", b"")
     return [Program("ours", programs.command_of_ours("desk"))] + out
+
+
+def replays_of(peer_only: bool = False, sanitized: bool = False) -> list[Program]:
+    """The programs that replay a trace file, built."""
+    peer = programs.build_sanitized() if sanitized else programs.build_peer()
+    out = [Program("peer's", programs.command_of_peers("replay", peer))]
+    if peer_only:
+        return out
+    programs.ours("replay", b"")
+    return [Program("ours", programs.command_of_ours("replay"))] + out
 
 
 def disagreement(stream: bytes, text: str, desks: list[Program]) -> str | None:
@@ -155,10 +165,47 @@ def job_c(name: str, desks: list[Program], totals: Totals, option: str = "") -> 
     return Job("c", run)
 
 
+def job_d(seed: int, replayers: list[Program], totals: Totals, option: str = "") -> Job:
+    """The trace files of a seed, good and damaged."""
+    again = "./compare --kind d --seed %d%s" % (seed, option)
+
+    def run() -> str | None:
+        for name, data in replays.good(seed):
+            wrong = compare_file(name, data, again, replayers, totals)
+            if wrong:
+                return wrong
+            for how, other in replays.damaged(seed, data) if seed % 4 == 1 else ():
+                wrong = compare_file("%s, %s" % (name, how), other, again, replayers, totals)
+                if wrong:
+                    return wrong
+        return None
+    return Job("d", run)
+
+
+def job_e(name: str, replayers: list[Program], totals: Totals, option: str = "") -> Job:
+    """A trace file by hand."""
+    again = "./compare --kind e --name %s%s" % (name, option)
+
+    def run() -> str | None:
+        data, text = replays.CASES[name]()
+        if replays.replay(data) != text:
+            return "the model's replay is not the one by hand: %s\nagain: %s" % (name, again)
+        return compare_file(name, data, again, replayers, totals)
+    return Job("e", run)
+
+
+def compare_file(name: str, data: bytes, again: str, replayers: list[Program], totals: Totals) -> str | None:
+    """None, or what is wrong with the replays of a file."""
+    text = replays.replay(data, totals.replayed)
+    totals.add_file(data, text)
+    wrong = disagreement(data, text, replayers)
+    return "%s differs, %s\nagain: %s\nsaved: %s" % (name, wrong, again, save("file", data, text)) if wrong else None
+
+
 class Progress:
     """How far a list of jobs is, with an estimate of the time left, on standard error; kinds differ much in time."""
 
-    GUESS = {"a": 0.3, "b": 2.0, "c": 0.1}
+    GUESS = {"a": 0.3, "b": 2.0, "c": 0.1, "d": 0.8, "e": 0.1}
 
     def __init__(self, jobs: list[Job], every: float) -> None:
         self.left = collections.Counter(job.kind for job in jobs)

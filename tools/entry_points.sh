@@ -3,7 +3,7 @@
 # function of the crate's root or of a `pub mod` has a `requires`. Inner layers may (docs/CONTRACTS.md, "Exceptions").
 cd "$(dirname "$0")/.." || exit 2
 status=0
-for crate in node firmware frame check8 window lent_window table units lines; do
+for crate in node firmware frame check8 window lent_window table units lines trace trace_step trace_lines; do
 	src=crates/$crate/src
 	mapfile -t files < <(echo "$src/lib.rt"; sed -nE "s|^pub mod (\\w+);.*|$src/\\1.rt|p" "$src/lib.rt")
 	# a function's head runs from its `pub` line to the line that opens its body

@@ -16,11 +16,12 @@ import sys
 from typing import NamedTuple
 
 ROOT = pathlib.Path(__file__).resolve().parent.parent
-PROGRAMS = {"label", "table_rules", "desk", "frames"}
-PUBLIC = {"node", "firmware", "frame", "check8", "window", "lent_window", "table", "units", "lines"}
+PROGRAMS = {"label", "table_rules", "desk", "replay", "frames"}
+PUBLIC = {"node", "firmware", "frame", "check8", "window", "lent_window", "table", "units", "lines", "trace",
+          "trace_step", "trace_lines"}
 RECORDS = "lent_window"  # lent as a struct: crates/lent_window/specs/Lending.antt
 EXCEPT = {"lines-flush": "answers nothing and alters no lent memory"}
-REFUSES = {"Verdict", "Arrived", "HandedOut", "Written"}  # and for C a number
+REFUSES = {"Verdict", "Arrived", "HandedOut", "Written", "Told"}  # and for C a number
 NO_REFUSAL = {"shelugvar-tick"}
 FUNCTION = re.compile(r'^ *pub (?:extern "C" )?fn (\w+)(?:<[^>]*>)?\((.*?)\)(?: -> ([^\n{]+?))?\n(.*?)^ *\{\n',
                       re.M | re.S)

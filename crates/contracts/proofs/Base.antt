@@ -6,6 +6,8 @@ use mathlib.Core.List.{List, []}
 use denote.Ref.{now}
 use Rattle.units.proofs.bytes.byte_at.Reads as units-byte-at
 use Rattle.units.proofs.bytes.get16.Reads as units-get16
+use Rattle.units.proofs.bytes.get32.Reads as units-get32
+use Rattle.units.proofs.bytes.part.Reads as units-part
 use Rattle.units.proofs.bytes.put8.Reads as units-put8
 use Rattle.units.proofs.bytes.put16.Reads as units-put16
 use Rattle.units.proofs.bytes.put32.Reads as units-put32
@@ -48,6 +50,12 @@ use Rattle.contracts.specs.Outcome.{One, OneAnswer, OneAfter}
 
 pub units-byte-at-one : OneAnswer units-byte-at.Post (λ r. r)
 units-byte-at-one u v a r₁ r₂ e₁ e₂ p q = cc
+
+pub units-get32-one : OneAnswer units-get32.Post (λ r. r)
+units-get32-one u v a r₁ r₂ e₁ e₂ p q = cc
+
+pub units-part-one : OneAnswer units-part.Post (λ r. now r)
+units-part-one u v a r₁ r₂ e₁ e₂ p q = cc
 
 pub units-get16-one : OneAnswer units-get16.Post (λ r. r)
 units-get16-one u v a r₁ r₂ e₁ e₂ p q = cc

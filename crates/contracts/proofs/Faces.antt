@@ -28,6 +28,12 @@ use Rattle.lines.proofs.values.Reads as lines-values
 use Rattle.lines.proofs.refused.Reads as lines-refused
 use Rattle.lines.proofs.torn.Reads as lines-torn
 use Rattle.lines.proofs.unknown.Reads as lines-unknown
+use Rattle.lines.proofs.refused_all.Reads as lines-refused-all
+use Rattle.lines.proofs.answers.done.Reads as lines-done
+use Rattle.lines.proofs.answers.verdict.Reads as lines-verdict
+use Rattle.lines.proofs.answers.counted.Reads as lines-counted
+use Rattle.lines.proofs.answers.handed.Reads as lines-handed
+use Rattle.lines.proofs.answers.arrived.Reads as lines-arrived
 use Rattle.end_points.specs.Lent.{Lent, bare, stored, whole}
 use Rattle.contracts.proofs.Stores.{but-store}
 use Rattle.contracts.specs.Outcome.{One, OneAnswer}
@@ -113,3 +119,21 @@ lines-torn-one u v a r₁ r₂ e₁ e₂ p q = (cc (p .0, q .0), cc (p .1, q .1)
 
 pub lines-unknown-one : One lines-unknown.Post (λ e. now (e .0))
 lines-unknown-one u v a r₁ r₂ e₁ e₂ p q = (cc (p .0, q .0), cc (p .1, q .1))
+
+pub lines-refused-all-one : One lines-refused-all.Post (λ e. now (e .0))
+lines-refused-all-one u v a r₁ r₂ e₁ e₂ p q = (cc (p .0, q .0), cc (p .1, q .1))
+
+pub lines-done-one : One lines-done.Post (λ e. now (e .0))
+lines-done-one u v a r₁ r₂ e₁ e₂ p q = (cc (p .0, q .0), cc (p .1, q .1))
+
+pub lines-verdict-one : One lines-verdict.Post (λ e. now (e .0))
+lines-verdict-one u v a r₁ r₂ e₁ e₂ p q = (cc (p .0, q .0), cc (p .1, q .1))
+
+pub lines-counted-one : One lines-counted.Post (λ e. now (e .0))
+lines-counted-one u v a r₁ r₂ e₁ e₂ p q = (cc (p .0, q .0), cc (p .1, q .1))
+
+pub lines-handed-one : One lines-handed.Post (λ e. now (e .0))
+lines-handed-one u v a r₁ r₂ e₁ e₂ p q = (cc (p .0, q .0), cc (p .1, q .1))
+
+pub lines-arrived-one : One lines-arrived.Post (λ e. now (e .0))
+lines-arrived-one u v a r₁ r₂ e₁ e₂ p q = (cc (p .0, q .0), cc (p .1, q .1))

@@ -8,3 +8,4 @@ pub mod Refused
 pub mod Lengths
 pub mod LentWindow
 pub mod Calls
+pub mod Traces

@@ -108,7 +108,7 @@ module _ (w : Refusal) where
   read-on x (read.Frame h) p e =
       judged (entryVerdict x (entryOf x h) h) _ x _ (λ q. let z : _≡_ {A = ℕ} 0 1 = cc in absurd (omega arith)) e
 
-  arrival-spared : (x : Lent) (f : List ℕ) → arrivalAnswer x f ≡ arrived.Refused w → arrivalAfter x f ≡ x
+  pub arrival-spared : (x : Lent) (f : List ℕ) → arrivalAnswer x f ≡ arrived.Refused w → arrivalAfter x f ≡ x
   unfolding arrivalAnswer arrivalAfter
   arrival-spared x f e = judged (verdict (frameTests (x .node) f)) _ x _ (read-on x (headerOf f) (payloadOf f)) e
 

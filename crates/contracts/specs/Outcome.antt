@@ -9,6 +9,7 @@ use lib.Dec.{leb}
 use Rattle.units.specs.Limits.{mostEntries}
 use Rattle.units.specs.Refusals.{pick}
 use Rattle.units.specs.declared.refusals.Refusal.{Refusal}
+use Rattle.units.specs.declared.refusals.Verdict.the-variants as verdicts
 use Rattle.memory.specs.Layout.{nodeWords}
 use Rattle.frame.specs.declared.Written.{Written}
 use Rattle.frame.specs.declared.Written.the-variants as written
@@ -18,6 +19,8 @@ use Rattle.end_points.specs.declared.answers.Arrived.{Arrived}
 use Rattle.end_points.specs.declared.answers.Arrived.the-variants as arrived
 use Rattle.end_points.specs.declared.answers.HandedOut.{HandedOut}
 use Rattle.end_points.specs.declared.answers.HandedOut.the-variants as handed
+use Rattle.trace_step.specs.declared.Told.{Told}
+use Rattle.trace_step.specs.declared.Told.the-variants as told
 
 -- ---- one outcome: two that a contract allows for the same arguments are the same
 
@@ -46,6 +49,13 @@ Spares {L} {A} {R} Post Refuses lent = (u : L) (a : A) (r : R) (e : A) → Post 
 -- an answer that is a refusal, whichever; and for C one that is not 0 [R44]
 abbrev pub IsRefused : {R : Type 0} → (Refusal → R) → R → Type 0
 IsRefused refused r = (w : Refusal) × (r ≡ refused w)
+
+-- of a record's call, whichever it is [R44]
+abbrev pub ToldRefused : Told → Type 0
+ToldRefused (told.Plain v) = IsRefused verdicts.Refused v
+ToldRefused (told.Arrival a) = IsRefused arrived.Refused a
+ToldRefused (told.Tick bits) = ⊥
+ToldRefused (told.HandOut h) = IsRefused handed.Refused h
 
 abbrev pub NotZero : ℕ → Type 0
 NotZero n = n ≡ 0 → ⊥

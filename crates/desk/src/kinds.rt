@@ -1,19 +1,9 @@
-// The kinds of record: what a host or a driver asks of a node.
+// The kinds of record: those of a trace, and one more.
+use trace::kinds;
 
-pub const TABLE: u8 = 1;
-
-pub const OPEN: u8 = 2;
-
-pub const CLOSE: u8 = 3;
-
-pub const SEND: u8 = 4;
-
-pub const URGENT: u8 = 5;
-
-pub const ARRIVAL: u8 = 6;
-
-pub const TICK: u8 = 7;
-
-pub const HAND_OUT: u8 = 8;
-
+// A sender's counts, which alter nothing and so stand in no trace.
 pub const COUNTS: u8 = 20;
+
+pub fn is_kind(kind: u8) -> bool {
+    kinds::is_kind(kind) || kind == COUNTS
+}

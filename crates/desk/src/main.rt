@@ -9,29 +9,23 @@ use lines::text;
 use lines::torn;
 use lines::unknown;
 
-mod kinds; // kinds.rt: the kinds' numbers
+mod kinds; // kinds.rt: which kinds there are
 mod records; // records.rt: where the records lie
 mod answers; // answers.rt: what each call prints
 
-use memory::layout;
 use node::Book;
 use node::Node;
 use records::Found;
 use records::record_at;
+use trace::layout;
+use trace_step::BUFFER;
+use trace_step::STORE;
 
 // The most bytes of input. One more is read, to see that it is longer.
 const INPUT: usize = 65536;
 
 // How much text is put together before it is written out.
 const TEXT: usize = 65536;
-
-// What the node is lent, as much as any table asks for: the store, a block with the count, the offsets and the bytes of
-// 128 payloads that fill the store, and a frame with one payload that does.
-const STORE: usize = 32768;
-
-const BLOCK: usize = 6 + 128 * 4 + STORE;
-
-const FRAME: usize = STORE + frame::layout::OVERHEAD;
 
 // The lines of all records, or of those up to the first that is torn or unknown.
 fn run(
@@ -40,8 +34,7 @@ fn run(
     node: &mut Node,
     book: &mut Book,
     store: &mut [u8],
-    block: &mut [u8],
-    frame: &mut [u8],
+    buffer: &mut [u8],
 ) -> usize {
     let mut at = 0;
     let mut i = 0;
@@ -52,7 +45,7 @@ fn run(
             Found::Torn => return torn(out, at, count),
             Found::Unknown => return unknown(out, at, count),
             Found::Record(kind, index, end) => {
-                let start = i + records::HEAD;
+                let start = i + layout::HEAD;
                 at = answers::line(
                     out,
                     at,
@@ -63,8 +56,7 @@ fn run(
                     node,
                     book,
                     store,
-                    block,
-                    frame,
+                    buffer,
                 );
                 i = end;
             }
@@ -82,19 +74,17 @@ fn main() {
         lines::flush(&out, at);
         return;
     }
-    let mut node = [0u64; layout::NODE_WORDS];
-    let mut book = [0u16; layout::BOOK_HALVES];
+    let mut node = [0u64; memory::layout::NODE_WORDS];
+    let mut book = [0u16; memory::layout::BOOK_HALVES];
     let mut store = [0u8; STORE];
-    let mut block = [0u8; BLOCK];
-    let mut frame = [0u8; FRAME];
+    let mut buffer = [0u8; BUFFER];
     let at = run(
         &input[..n],
         &mut out,
         &mut node,
         &mut book,
         &mut store,
-        &mut block,
-        &mut frame,
+        &mut buffer,
     );
     lines::flush(&out, at);
 }

@@ -56,7 +56,7 @@ over t ts w n = passed-over t ts w (differ (t .1) w n)
 -- ---- reading
 
 -- the reader refuses with what its tests refuse with
-read-refused : (v : Verdict) (h : Header) (w : Refusal) → (readAs v h ≡ read.Refused w) ↔ (v ≡ verdicts.Refused w)
+pub read-refused : (v : Verdict) (h : Header) (w : Refusal) → (readAs v h ≡ read.Refused w) ↔ (v ≡ verdicts.Refused w)
 read-refused verdicts.Passed h w =
     (λ e. let z : _≡_ {A = ℕ} 0 1 = cc in absurd (omega arith), λ e. let z : _≡_ {A = ℕ} 0 1 = cc in absurd (omega arith))
 read-refused (verdicts.Refused u) h w = (λ e. cc, λ e. cc)

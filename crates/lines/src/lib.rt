@@ -2,6 +2,8 @@
 // `at` is how many of the buffer's bytes are taken; each function answers how many are afterwards.
 // Proved: what stands in the buffer afterwards and what is answered, by the definitions of specs/Lines.antt, for every
 // input; that the bytes reach standard output no contract can say.
+pub mod answers; // answers.rt: what the calls answered, in the paper's numbers
+
 use frame::faults;
 use libc::STDOUT_FILENO;
 use units::bytes::put_all;
@@ -9,6 +11,7 @@ use units::refusals::Refusal;
 ghost use mathlib.Core.Path.{_≡_};
 ghost use lib.ListN.{length};
 ghost use Rattle.lines.specs.Lines.{page, placeOf, appended, ascii, decimalOf, valued, valuedAll, lastLine};
+ghost use Rattle.units.specs.Refusals.{numberOf};
 ghost use Rattle.frame.specs.Faults.{refusedOf};
 
 // Writes out what is taken.
@@ -121,6 +124,15 @@ pub fn torn(out: &mut [u8], at: usize, count: u64) -> usize
     ensures after { λ _. ⌜ now (out .exit) ≡ lastLine (page (now (out .entry)) at) (ascii "torn") count .bytes ⌝ }
 {
     last(out, at, b"torn", count)
+}
+
+// The only line where the whole input is refused.
+pub fn refused_all(out: &mut [u8], at: usize, why: Refusal) -> usize
+    ensures answer { λ r. ⌜ r ≡ lastLine (page (now (out .entry)) at) (ascii "refused") (numberOf why) .taken ⌝ }
+    ensures after { λ _.
+        ⌜ now (out .exit) ≡ lastLine (page (now (out .entry)) at) (ascii "refused") (numberOf why) .bytes ⌝ }
+{
+    last(out, at, b"refused", units::refusals::number(why) as u64)
 }
 
 // The last line where a record is of no listed kind.

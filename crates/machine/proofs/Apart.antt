@@ -60,7 +60,7 @@ refused-stays m (sends i p) d = by-done (Keeps m []) m i (λ e. sendTests m e p)
 refused-stays m (urges i p) d = by-done (Keeps m []) m i (urgentTests m p) (urged m i p) (kept m []) (λ e h. passed)
 refused-stays m (arrives block f) d =
     by-verdict (Keeps m block) (arrivalTests m f) block m (reading m block (headerOf f) (payloadOf f)) (kept m block)
-    (λ v. by-read (Keeps m block) m block (kept m block) (headerOf f) (payloadOf f) (λ h z m′ t ns out′. passed))
+    (λ v. by-read (Keeps m block) m block (kept m block) (headerOf f) (payloadOf f) (λ h z m′ t ns out′ l. passed))
 refused-stays m (hands-out buffer) d =
     by-verdict (Keeps m buffer) (tooShort m ∷ []) buffer m (inOrder m buffer (acks ∷ resets ∷ urgents ∷ resends ∷ datas ∷ [])) (kept m buffer)
     (λ v. order-keeps m buffer (acks ∷ resets ∷ urgents ∷ resends ∷ datas ∷ []))
@@ -139,6 +139,6 @@ others-stay t m S (urges i p) j d = by-done (Leaves t m S j) m i (urgentTests m 
 others-stay t m S (arrives block f) j d =
     by-verdict (Leaves t m S j) (arrivalTests m f) block m (reading m block (headerOf f) (payloadOf f)) (λ w. all-left t m S j)
     (λ v. by-read (Leaves t m S j) m block (λ w. all-left t m S j) (headerOf f) (payloadOf f)
-    (λ h z m′ a ns out′. touched-leaves m (entryFor m h) j (λ y. d (h, z, y)) a))
+    (λ h z m′ a ns out′ l. touched-leaves m (entryFor m h) j (λ y. d (h, z, y)) a))
 others-stay t m S (hands-out buffer) j d = out-leaves t m S j buffer d
 others-stay t m S ticks j d = absurd (d tt)

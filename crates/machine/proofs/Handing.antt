@@ -65,7 +65,7 @@ next-or-none m = look 5 0 refl (λ r l. absurd (omega arith))
 -- ---- it goes out
 
 -- what is written into its frame
-abbrev fieldsOut : Machine → Sort → End → ℕ → Fields
+abbrev pub fieldsOut : Machine → Sort → End → ℕ → Fields
 fieldsOut m q e s =
     record {
       destination = e .entry .remote;
@@ -89,7 +89,7 @@ abbrev pub goes : Machine → List ℕ → Sort → Item → End → Outcome
 goes m out q x e = unless (roomTests m out q x e) out m (gone m out q x e)
 
 -- an item's owner is the entry that it names
-owned-waits : (m : Machine) (q : Sort) (x : Item) → Owned m q x → (e : End) → Is m (x .entry) e → Waits q e (x .number)
+pub owned-waits : (m : Machine) (q : Sort) (x : Item) → Owned m q x → (e : End) → Is m (x .entry) e → Waits q e (x .number)
 owned-waits m q x o e here =
     let z : o .end ≡ e = (let y : some (o .end) ≡ some e = sym (o .there) ∙ here in cc) in
     subst (λ (d : End). Waits q d (x .number)) z (o .waits)

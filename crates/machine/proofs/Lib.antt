@@ -18,5 +18,6 @@ pub mod Touching
 pub mod Apart
 pub mod Lending
 pub mod Standing
+pub mod Room
 pub mod Folding
 pub mod Vectors

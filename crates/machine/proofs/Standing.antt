@@ -203,7 +203,7 @@ module _ (m : Machine) where
   unfolding arriving
   arrive-stands block f =
       by-verdict (Leaves m) (arrivalTests m f) block m (reading m block (headerOf f) (payloadOf f)) (λ w. as-was-stands m)
-      (λ v. by-read (Leaves m) m block (λ w. as-was-stands m) (headerOf f) (payloadOf f) (λ h z m′ t ns out′. touched-stands m (entryFor m h) t))
+      (λ v. by-read (Leaves m) m block (λ w. as-was-stands m) (headerOf f) (payloadOf f) (λ h z m′ t ns out′ l. touched-stands m (entryFor m h) t))
 
   hand-stands : (buffer : List ℕ) → Leaves m (handingOut m buffer)
   unfolding handingOut

@@ -8,6 +8,7 @@ use mathlib.Core.Option.{Option, none, some}
 use mathlib.Core.List.{List, [], _∷_, _++_}
 use native.Mathlib.Omega.{arith}
 use lib.ListN.{length, drop, getElem?, set, replicate}
+use lib.Seq.{length-sets}
 use lib.Dec.{eqb}
 use Rattle.units.specs.Refusals.{pick}
 use Rattle.units.specs.declared.refusals.Refusal.{Refusal}
@@ -23,6 +24,7 @@ use Rattle.end_points.specs.declared.State.{State}
 use Rattle.end_points.specs.declared.State.the-variants.{Closed, Enabled, Open, Failing}
 use Rattle.end_points.specs.declared.answers.Was.the-variants as was
 use Rattle.end_points.specs.States.{isSends}
+use Rattle.blocks.specs.Blocks.{blockOf}
 use Rattle.machine.specs.Machine.{Number, End, Sort, acks, resets, urgents, datas, Machine, Outcome, stated, counted, turned, waits, silent, notAgain, past, taking, urging, anew, enabled, answers, unless, onEntry, offset, numberAt, timed, ackedRun, running, passing, told, acked, acking, heldRun, delivering, handing-on, isNew, receiving, resetting, takenIn, entryTests, entryFor, reading, isOurs}
 use Rattle.machine.specs.Laws.{Is, Free}
 use Rattle.machine.proofs.Entries.{not-none}
@@ -90,7 +92,7 @@ urged-touches m i e p here = waited urgents 0 (turns e (urging (some p) e) here 
 
 -- a frame that is taken in is answered with 0 and more, and does no more than this
 module _ (P : Outcome → Type 0) (m : Machine) (out : List ℕ) (i : ℕ) (e : End) (here : Is m i e)
-    (touches : (m′ : Machine) → Touched i m m′ → (ns out′ : List ℕ) → P (answers (0 ∷ ns) out′ m′)) where
+    (touches : (m′ : Machine) → Touched i m m′ → (ns out′ : List ℕ) → length out′ ≡ length out → P (answers (0 ∷ ns) out′ m′)) where
   by-pick : (b : Bool) (x y : Outcome) → P x → P y → P (pick b x y)
   by-pick true x y p q = p
   by-pick false x y p q = q
@@ -98,31 +100,31 @@ module _ (P : Outcome → Type 0) (m : Machine) (out : List ℕ) (i : ℕ) (e : 
   by-acked : (s : ℕ) (g : End → Machine) → ((n : ℕ) (ns : List Number) → Touched i m (g (passing n ns e))) → P (acked m out i e s g)
   by-acked s g t =
       by-pick (numberAt e s .handed && not (numberAt e s .acked)) (told i (was.Acknowledged (ackedRun (timed 0 true e s))) out (g (passing (ackedRun (timed 0 true e s)) (timed 0 true e s) e))) (told i was.Ignored out m)
-      (touches _ (t (ackedRun (timed 0 true e s)) (timed 0 true e s)) _ _) (touches m as-was _ _)
+      (touches _ (t (ackedRun (timed 0 true e s)) (timed 0 true e s)) _ _ refl) (touches m as-was _ _ refl)
 
   by-state : (s : ℕ) (z : State) → P (acking m out i e s z)
   unfolding acking
-  by-state s Closed = touches m as-was _ _
+  by-state s Closed = touches m as-was _ _ refl
   by-state s (Enabled timer sent) =
-      by-pick (sent && eqb s 0) (told i was.Opened out (silent i (turned i (counted 0 0 (anew Open e)) m))) (told i was.Ignored out m) (touches _ (silenced (turns e (counted 0 0 (anew Open e)) here (anew-follows e refl refl) as-was)) _ _) (touches m as-was _ _)
+      by-pick (sent && eqb s 0) (told i was.Opened out (silent i (turned i (counted 0 0 (anew Open e)) m))) (told i was.Ignored out m) (touches _ (silenced (turns e (counted 0 0 (anew Open e)) here (anew-follows e refl refl) as-was)) _ _ refl) (touches m as-was _ _ refl)
   by-state s Open = by-acked s (λ d. notAgain i s (turned i d m)) (λ n ns. stopped s (turns e (passing n ns e) here (same-follows e refl refl) as-was))
   by-state s (Failing n) = by-acked s (λ d. turned i (stated (Failing (running (d .numbers))) d) m) (λ n ns. turns e (stated (Failing (running (drop n ns))) (passing n ns e)) here (same-follows e refl refl) as-was)
 
-  by-taken : (q : FrameType) (s : ℕ) (p : List ℕ) → P (takenIn m out i e q s p)
+  pub by-taken : (q : FrameType) (s : ℕ) (p : List ℕ) → P (takenIn m out i e q s p)
   unfolding takenIn receiving resetting
   by-taken type.Data s p =
       let ps = set (e .places) (offset e s) (some p) in
       let e′ = handing-on (length (heldRun ps)) ps e in
       by-pick (isNew e s) (delivering i was.Data (heldRun ps) out (waits acks i s (turned i e′ m))) (delivering i was.Data [] out (waits acks i s m))
-      (touches _ (waited acks s (turns e e′ here (moved-follows ps e) as-was)) _ _) (touches _ (waited acks s as-was) _ _)
+      (touches _ (waited acks s (turns e e′ here (moved-follows ps e) as-was)) _ _ (length-sets out 0 (blockOf (heldRun ps)))) (touches _ (waited acks s as-was) _ _ (length-sets out 0 (blockOf [])))
   by-taken type.Acknowledge s p = by-state s (e .state)
-  by-taken type.Reset s p = touches _ (waited acks 0 (silenced (turns e (anew Open e) here (anew-follows e refl refl) as-was))) _ _
-  by-taken type.Urgent s p = touches m as-was _ _
+  by-taken type.Reset s p = touches _ (waited acks 0 (silenced (turns e (anew Open e) here (anew-follows e refl refl) as-was))) _ _ refl
+  by-taken type.Urgent s p = touches m as-was _ _ (length-sets out 0 (blockOf (p ∷ [])))
 
 -- an arrival is refused, or the frame is taken in by the entry that it is for
 module _ (P : Outcome → Type 0) (m : Machine) (out : List ℕ) (refused : (w : Refusal) → P (answers (refusedOf w) out m)) where
   pub by-read : (r : Read) (p : List ℕ)
-      → ((h : Header) → r ≡ read.Frame h → (m′ : Machine) → Touched (entryFor m h) m m′ → (ns out′ : List ℕ) → P (answers (0 ∷ ns) out′ m′)) → P (reading m out r p)
+      → ((h : Header) → r ≡ read.Frame h → (m′ : Machine) → Touched (entryFor m h) m m′ → (ns out′ : List ℕ) → length out′ ≡ length out → P (answers (0 ∷ ns) out′ m′)) → P (reading m out r p)
   unfolding reading
   by-read (read.Refused w) p t = refused w
   by-read (read.Frame h) p t =

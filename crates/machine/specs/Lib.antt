@@ -6,3 +6,4 @@ pub mod LawsHanding
 pub mod LawsTick
 pub mod Machine
 pub mod Sound
+pub mod LawsRoom

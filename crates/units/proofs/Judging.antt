@@ -50,6 +50,7 @@ refused-some refusal.UnknownType = omega arith
 refused-some refusal.UserBits = omega arith
 refused-some refusal.LengthAgainstType = omega arith
 refused-some refusal.WrongSequence = omega arith
+refused-some refusal.BadTrace = omega arith
 
 pub refused-not-zero : (w : Refusal) → eqb (numberOf w) 0 ≡ false
 refused-not-zero w = ne-eqb (numberOf w) 0 (λ e. omega (arith, refused-some w))

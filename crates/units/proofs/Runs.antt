@@ -10,7 +10,7 @@ use native.Mathlib.Decide.{decLe}
 use native.Mathlib.Omega.{arith}
 use lib.ListN.{length, getD, set, take, drop, length-set, length-take, List·getD-eq-default}
 use lib.Seq.{sets, set-out, length-sets, getD-set-same, getD-set-other, take-suc, take-all}
-use Rattle.units.specs.Bytes.{get16Of}
+use Rattle.units.specs.Bytes.{get16Of, get32Of}
 
 -- a number past the end
 pub far16 : (s : List ℕ) (i : ℕ) → length s ≤ i → get16Of s i ≡ 0
@@ -19,6 +19,10 @@ far16 s i h =
     let a : getD s i 0 ≡ 0 = List·getD-eq-default s 0 h in
     let b : getD s (i + 1) 0 ≡ 0 = List·getD-eq-default s 0 (omega arith) in
     rw (a, b)
+
+pub far32 : (s : List ℕ) (i : ℕ) → length s ≤ i → get32Of s i ≡ 0
+unfolding get32Of
+far32 s i h = rw (far16 s i h, far16 s (i + 2) (omega arith))
 
 -- past the end nothing alters
 pub sets-out : (vs l : List ℕ) (i : ℕ) → length l ≤ i → sets l i vs ≡ l

@@ -7,6 +7,10 @@ use lib.ListN.{getD}
 unfoldable pub get16Of : List ℕ → ℕ → ℕ
 get16Of s i = getD s i 0 * 256 + getD s (i + 1) 0
 
+-- the four bytes from i on [F17]
+unfoldable pub get32Of : List ℕ → ℕ → ℕ
+get32Of s i = get16Of s i * 65536 + get16Of s (i + 2)
+
 -- a number in two bytes [F17]
 unfoldable pub be16 : ℕ → List ℕ
 be16 v = v / 256 ∷ v % 256 ∷ []

@@ -5,6 +5,10 @@ use Prim.Native.Nat.{ℕ}
 abbrev pub mostEntries : ℕ
 mostEntries = 16
 
+-- sequence numbers of a window [T10]
+abbrev pub mostWindow : ℕ
+mostWindow = 128
+
 -- bytes of store that a table's entries take, and so of one payload [T12, T16]
 abbrev pub mostStore : ℕ
 mostStore = 32768

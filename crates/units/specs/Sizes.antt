@@ -3,6 +3,7 @@ use Prim.Native.Nat.{ℕ}
 use mathlib.Core.Bool.{Bool, _&&_, _||_}
 use lib.Dec.{eqb, leb}
 use lib.Count.{ones}
+use Rattle.units.specs.Limits.{mostWindow}
 use Rattle.units.specs.Refusals.{pick}
 
 -- what 0 stands for [T11]
@@ -11,7 +12,7 @@ defaultSize = 16
 
 -- exactly one bit set, and at most 128 [T10, G2]
 abbrev pub isSize : ℕ → Bool
-isSize w = eqb (ones w) 1 && leb w 128
+isSize w = eqb (ones w) 1 && leb w mostWindow
 
 -- what a table may write: 0, or a size [T10, V6]
 abbrev pub mayWrite : ℕ → Bool

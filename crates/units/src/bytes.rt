@@ -1,9 +1,9 @@
 // Reading and writing lent bytes, high bytes first. Past the end a read gives 0 and a store alters nothing.
 ghost use mathlib.Core.Path.{_≡_};
-ghost use Prim.Native.Nat.{min};
-ghost use lib.ListN.{getD, set};
+ghost use Prim.Native.Nat.{_+_, _*_, min};
+ghost use lib.ListN.{getD, set, take, drop};
 ghost use lib.Seq.{sets};
-ghost use Rattle.units.specs.Bytes.{get16Of, be16, be32};
+ghost use Rattle.units.specs.Bytes.{get16Of, get32Of, be16, be32};
 
 // The byte at an index.
 pub fn byte_at(s: &[u8], i: usize) -> u8
@@ -25,6 +25,42 @@ pub fn get16(s: &[u8], i: usize) -> u16
     let high = byte_at(s, i);
     let low = byte_at(s, i + 1);
     (high as u16) * 256 + (low as u16)
+}
+
+// Four bytes as a number.
+fn joined(a: u8, b: u8, c: u8, d: u8) -> u32
+    ensures { λ r. ⌜ r ≡ (a * 256 + b) * 65536 + (c * 256 + d) ⌝ }
+{
+    ((a as u32) * 256 + (b as u32)) * 65536 + ((c as u32) * 256 + (d as u32))
+}
+
+// The four bytes from an index on, as a number. Where all are there, one test of the length is enough.
+pub fn get32(s: &[u8], i: usize) -> u32
+    ensures { λ r. ⌜ r ≡ get32Of (now (s .entry)) i ⌝ }
+{
+    if s.len() <= i {
+        return 0;
+    }
+    if s.len() - i < 4 {
+        return joined(
+            byte_at(s, i),
+            byte_at(s, i + 1),
+            byte_at(s, i + 2),
+            byte_at(s, i + 3),
+        );
+    }
+    joined(s[i], s[i + 1], s[i + 2], s[i + 3])
+}
+
+// n bytes from an index on, or as many of them as there are.
+pub fn part(s: &[u8], i: usize, n: usize) -> &[u8]
+    ensures { λ r. ⌜ now r ≡ take n (drop i (now (s .entry))) ⌝ }
+{
+    if s.len() <= i {
+        return &s[0..0];
+    }
+    let end = i + least(s.len() - i, n);
+    &s[i..end]
 }
 
 // One byte stored.

@@ -2,6 +2,8 @@
 
 // Entries of a table.
 pub const ENTRIES: u8 = 16;
+// Sequence numbers of a window.
+pub const WINDOW: u16 = 128;
 // Bytes of store that a table's entries take.
 pub const STORE: usize = 32768;
 // Bytes of a payload, as far as the store goes.

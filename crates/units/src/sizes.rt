@@ -1,4 +1,5 @@
 // Which numbers are window sizes, and which size a table's number puts in force.
+use crate::limits;
 ghost use mathlib.Core.Path.{_≡_};
 ghost use Rattle.units.specs.Sizes.{isSize, inForce, defaultSize};
 
@@ -13,7 +14,7 @@ pub fn default_size() -> u16
 pub fn is_size(n: u16) -> bool
     ensures { λ r. ⌜ r ≡ isSize n ⌝ }
 {
-    u16::count_ones(n) == 1 && n <= 128
+    u16::count_ones(n) == 1 && n <= limits::WINDOW
 }
 
 // The size that a table's number puts in force.

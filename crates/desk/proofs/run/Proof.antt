@@ -11,11 +11,11 @@ use Rattle.desk.proofs.run.Statement.{statement}
 use Rattle.desk.proofs.run.Tie as tie
 
 abbrev Inv-loop : tie.InvT-loop
-Inv-loop input out₀ node₀ book₀ store₀ block₀ frame₀ at₀ i₀ count₀ out node book store block frame at i count =
-    (count ≤ i) × ((i ≤ length input) × ((length out ≡ length out₀) × ((length store ≡ length store₀) × ((length block ≡ length block₀) × (length frame ≡ length frame₀)))))
+Inv-loop input out₀ node₀ book₀ store₀ buffer₀ at₀ i₀ count₀ out node book store buffer at i count =
+    (count ≤ i) × ((i ≤ length input) × ((length out ≡ length out₀) × ((length store ≡ length store₀) × (length buffer ≡ length buffer₀))))
 
 abbrev μ-loop : tie.MeasureT-loop
-μ-loop input out₀ node₀ book₀ store₀ block₀ frame₀ at₀ i₀ count₀ out node book store block frame at i count =
+μ-loop input out₀ node₀ book₀ store₀ buffer₀ at₀ i₀ count₀ out node book store buffer at i count =
     length input - i
 
 loop-holds : tie.Need-loop-holds Inv-loop μ-loop
@@ -42,9 +42,6 @@ same-length-2 c = search needs
 same-length-3 : tie.Need-same-length-3 Inv-loop μ-loop
 same-length-3 c = search needs
 
-same-length-4 : tie.Need-same-length-4 Inv-loop μ-loop
-same-length-4 c = search needs
-
 returns : tie.Need-returns Inv-loop μ-loop
 returns c = search needs
 
@@ -54,17 +51,14 @@ enum-told-2 c = search needs
 unknown-requires : tie.Need-unknown-requires Inv-loop μ-loop
 unknown-requires c κs = search needs
 
+same-length-4 : tie.Need-same-length-4 Inv-loop μ-loop
+same-length-4 c = search needs
+
 same-length-5 : tie.Need-same-length-5 Inv-loop μ-loop
 same-length-5 c = search needs
 
 same-length-6 : tie.Need-same-length-6 Inv-loop μ-loop
 same-length-6 c = search needs
-
-same-length-7 : tie.Need-same-length-7 Inv-loop μ-loop
-same-length-7 c = search needs
-
-same-length-8 : tie.Need-same-length-8 Inv-loop μ-loop
-same-length-8 c = search needs
 
 returns-2 : tie.Need-returns-2 Inv-loop μ-loop
 returns-2 c = search needs
@@ -77,7 +71,7 @@ lies :
     (c : tie.After-kind Inv-loop μ-loop) →
     Lies
     (c .before .before .before .before .loop .i)
-    (length (now (c .before .before .before .before .before .before .before .before .before .before .args .input)))
+    (length (now (c .before .before .before .before .before .before .before .before .before .args .input)))
     (Record (c .kind .given .0 .0) (c .kind .given .0 .1 .0) (c .kind .given .0 .1 .1 .0))
 lies c = rw (c .kind .given .1) at (c .before .before .record-at .ensures)
 
@@ -97,22 +91,19 @@ line-requires : tie.Need-line-requires Inv-loop μ-loop
 line-requires c κs = search needs
 
 loop-less : tie.Need-loop-less Inv-loop μ-loop
-loop-less c = omega (arith, lies (c .before .before .before .before .before .before .before .before .before .before .before .before .before .before .before .before .before), c .before .before .before .before .before .before .before .before .before .before .before .before .before .before .before .before .before .before .before .before .loop-test .taken)
+loop-less c = omega (arith, lies (c .before .before .before .before .before .before .before .before .before .before .before .before .before .before), c .before .before .before .before .before .before .before .before .before .before .before .before .before .before .before .before .before .loop-test .taken)
 
 loop-again : tie.Need-loop-again Inv-loop μ-loop
-loop-again c = omega (arith, lies (c .before .before .before .before .before .before .before .before .before .before .before .before .before .before .before .before .before), c .before .before .before .before .before .before .before .before .before .before .before .before .before .before .before .before .before .before .before .before .before .loop .inv, c .before .before .before .before .before .before .before .before .line .kept)
+loop-again c = omega (arith, lies (c .before .before .before .before .before .before .before .before .before .before .before .before .before .before), c .before .before .before .before .before .before .before .before .before .before .before .before .before .before .before .before .before .before .loop .inv, c .before .before .before .before .before .before .line .kept)
+
+same-length-7 : tie.Need-same-length-7 Inv-loop μ-loop
+same-length-7 c = search needs
+
+same-length-8 : tie.Need-same-length-8 Inv-loop μ-loop
+same-length-8 c = search needs
 
 same-length-9 : tie.Need-same-length-9 Inv-loop μ-loop
 same-length-9 c = search needs
-
-same-length-10 : tie.Need-same-length-10 Inv-loop μ-loop
-same-length-10 c = search needs
-
-same-length-11 : tie.Need-same-length-11 Inv-loop μ-loop
-same-length-11 c = search needs
-
-same-length-12 : tie.Need-same-length-12 Inv-loop μ-loop
-same-length-12 c = search needs
 
 returns-3 : tie.Need-returns-3 Inv-loop μ-loop
 returns-3 c = search needs
@@ -131,14 +122,12 @@ run-spec =
     same-length
     same-length-2
     same-length-3
-    same-length-4
     returns
     enum-told-2
     unknown-requires
+    same-length-4
     same-length-5
     same-length-6
-    same-length-7
-    same-length-8
     returns-2
     enum-known-kind
     add-start
@@ -148,8 +137,7 @@ run-spec =
     line-requires
     loop-less
     loop-again
+    same-length-7
+    same-length-8
     same-length-9
-    same-length-10
-    same-length-11
-    same-length-12
     returns-3)

@@ -1,0 +1,4 @@
+pub mod Kinds
+pub mod Layout
+pub mod Rules
+pub mod Laws
