@@ -153,20 +153,28 @@ def morning() -> list[Sample]:
 
 @sample
 def failing() -> list[Sample]:
-    """A failing link: nothing passes, the sender tries its Data again until its retries are spent, is Failing, and
-    becomes Enabled again with a Reset waiting; the link comes back, and the rest of the plan goes in a new run."""
+    """A failing link: nothing passes any more; the sender tries its Data again until the retries of the first are spent,
+    is Failing while the second's timer runs, and becomes Enabled again with a Reset waiting; the link comes back, and
+    the rest of the plan goes in a new run."""
     net = link()
     ground, pedestal = net.ground, net.pedestal
     pedestal.open(RECEIVER)
     ground.open(SENDER)
     net.drain()
     ground.send(SENDER, *moves(10, 20))
-    net.pass_on(ground, "passed", "lost")
-    net.pass_on(pedestal, "lost")  # the acknowledgement of the first
-    for _ in range(3):
-        net.ticks(4)
-        net.pass_on(ground, "lost", "lost")
-    ground.send(SENDER, *moves(20))  # refused: not Open
+    net.pass_on(ground, "passed")
+    net.pass_on(pedestal, "lost")  # its acknowledgement
+    net.ticks(1)
+    net.pass_on(ground, "lost")
+    for _ in range(2):
+        net.ticks(3)
+        net.pass_on(ground, "lost")  # the first again
+        net.ticks(1)
+        net.pass_on(ground, "lost")  # the second again
+    net.ticks(3)  # the first has spent its retries
+    ground.send(SENDER, *moves(20))  # refused: Failing
+    net.ticks(1)  # and the second's timer has ended
+    net.pass_on(ground, "lost")  # the Reset
     net.ticks(4)
     net.drain()
     ground.send(SENDER, *moves(20, 30))
