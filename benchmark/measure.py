@@ -1,15 +1,18 @@
 """The benchmark's table and picture: the harness with the product and with the peer, side by side.
 
-measure.py PRODUCT PEER PICTURE [RUN..]: two harnesses, where the picture of the growth goes, and what runs x86-64
-programs here. Called by ./bench.
+measure PRODUCT PEER REPLAY PEERS_REPLAY PICTURE [RUN..]: two harnesses, two programs that replay a trace, where the
+picture of the growth goes, and what runs x86-64 programs here. Called by ./bench.
 Instructions come from tools/icount, as the difference of a run with the calls and one without; nanoseconds, on x86-64
-alone, from the quickest batch of several runs, product and peer in turn."""
+alone, from the quickest batch of several runs, product and peer in turn. A replay is a whole program: of it the
+instructions are counted, less those of a run on an empty file."""
 import collections
 import concurrent.futures
 import math
 import os
 import subprocess
 import sys
+
+from benchmark import whole_file
 
 ICOUNT = os.path.join(os.path.dirname(os.path.abspath(__file__)), "..", "tools", "icount")
 BY_THE_CLOCK = os.uname().machine == "x86_64"
@@ -31,6 +34,7 @@ CALLS = [
     Case("busy tick, 16 x 128 timers", "busy_tick", 128, 16, 15),
     Case("tick, all 2,048 timers end", "ending_tick", 128, 16, 15, 2048),
 ]
+WHOLE_FILE = "replay, 1,024 records"
 WINDOWS = (1, 2, 4, 8, 16, 32, 64, 128)
 ENTRIES = (1, 2, 4, 8, 16)
 PAYLOADS = (16, 64, 256, 1024, 4096)
@@ -60,14 +64,27 @@ def harness(run, program, case, rounds, mode):
     return [*run, program, case.row, str(rounds), str(mode), *map(str, case[2:])]
 
 
+def counted(command, given=b""):
+    """The instructions of a run, and what it printed."""
+    run = subprocess.run([ICOUNT, *command], input=given, capture_output=True, check=True)
+    return int(run.stderr.split()[-1]), run.stdout
+
+
 def instructions(program, case):
     """Instructions a call."""
     def count(mode):
-        run = subprocess.run([ICOUNT, *harness([], program, case, 8, mode)], capture_output=True, text=True, check=True)
-        return int(run.stderr.split()[-1]), int(run.stdout.split()[0])
+        number, said = counted(harness([], program, case, 8, mode))
+        return number, int(said.split()[0])
     with_calls, batch = count(1)
     without, batch = count(0)
     return (with_calls - without) / (8 * batch)
+
+
+def replay_instructions(programs, trace):
+    """Instructions a file: product, then peer, which print the same."""
+    said = [counted([program], trace) for program in programs]
+    assert said[0][1] == said[1][1], "the two replays do not print the same"
+    return [number - counted([program])[0] for program, (number, _) in zip(programs, said)]
 
 
 def nanoseconds(run, program, case):
@@ -98,13 +115,12 @@ def line(label, found):
     return text, ours / theirs
 
 
-def show(title, cases, results, ratios):
+def show(title, labels, results, ratios, of_what="a call", timed=BY_THE_CLOCK):
     print("\n" + title)
-    head = "%-30s %10s %10s %6s" % ("instructions a call", "product", "peer", "ratio")
-    print(head + (" %12s %10s %6s" % ("ns: product", "peer", "ratio") if BY_THE_CLOCK else ""))
-    for case in cases:
-        text, ratio = line(case.label, results[case.label])
-        ratios[case.label] = ratio
+    head = "%-30s %10s %10s %6s" % ("instructions " + of_what, "product", "peer", "ratio")
+    print(head + (" %12s %10s %6s" % ("ns: product", "peer", "ratio") if timed else ""))
+    for label in labels:
+        text, ratios[label] = line(label, results[label])
         print(text)
 
 
@@ -182,15 +198,21 @@ def picture(results):
     return "\n".join(out + ["</svg>"]) + "\n"
 
 
+def labels(cases):
+    return [case.label for case in cases]
+
+
 def main():
-    programs, to, run = sys.argv[1:3], sys.argv[3], sys.argv[4:]
+    programs, replays, to, run = sys.argv[1:3], sys.argv[3:5], sys.argv[5], sys.argv[6:]
     grown = [case for growth in ROUND_TRIPS + TICKS for case in growth.cases]
     results, ratios = measure(programs, run, FRAMES + CALLS + grown), {}
-    show("Frames", FRAMES, results, ratios)
-    show("Calls", CALLS, results, ratios)
+    results[WHOLE_FILE] = replay_instructions(replays, whole_file.made()), ()
+    show("Frames", labels(FRAMES), results, ratios)
+    show("Calls", labels(CALLS), results, ratios)
+    show("Replay", [WHOLE_FILE], results, ratios, "a file", False)
     for growths, of_what in ((ROUND_TRIPS, "a payload"), (TICKS, "a tick")):
         for growth in growths:
-            show("Growth with %s, %s" % (growth.title, of_what), growth.cases, results, ratios)
+            show("Growth with %s, %s" % (growth.title, of_what), labels(growth.cases), results, ratios)
     with open(to, "w") as file:
         file.write(picture(results))
     above = [sum(r > most for r in ratios.values()) for most in (1.0, 1.5)]

@@ -86,7 +86,8 @@ class Totals:
     def unplayed(self) -> list[str]:
         """The calls and refusals that a trace can show and that no file showed."""
         codes = {name: code for code, name in model.CALL_NAMES.items()}
-        return ["%s refused with %d in a trace file" % (name, n) for name, numbers in REFUSALS.items() if name != "counts"
+        return ["%s refused with %d in a trace file" % (name, n)
+                for name, numbers in REFUSALS.items() if name != "counts"
                 for n in numbers if not self.replayed[(codes[name], n)]]
 
     def missing(self) -> list[str]:

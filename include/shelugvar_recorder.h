@@ -1,9 +1,9 @@
 /* Shelugvar's recorder: writes what is called on a node into a trace, which the program `replay` runs again at a desk.
  *
  * A recorder is lent like all else: one beside each node, all zeros when it is new. Call the functions at the end of
- * this header in place of the node's own; they call those, answer as they do, and record. The recorder then always holds
- * a whole trace file, its first `size` bytes, to be written to disk whenever it suits. With a null recorder nothing is
- * recorded. docs/C.md says more.
+ * this header in place of the node's own; they call those, answer as they do, and record. The recorder then always
+ * holds a whole trace file, its first `size` bytes, to be written to disk whenever it suits. With a null recorder
+ * nothing is recorded. docs/C.md says more.
  */
 #ifndef SHELUGVAR_RECORDER_H
 #define SHELUGVAR_RECORDER_H

@@ -153,9 +153,9 @@ def morning() -> list[Sample]:
 
 @sample
 def failing() -> list[Sample]:
-    """A failing link: nothing passes any more; the sender tries its Data again until the retries of the first are spent,
-    is Failing while the second's timer runs, and becomes Enabled again with a Reset waiting; the link comes back, and
-    the rest of the plan goes in a new run."""
+    """A failing link: nothing passes any more; the sender tries its Data again until the retries of the first are
+    spent, is Failing while the second's timer runs, and becomes Enabled again with a Reset waiting; the link comes
+    back, and the rest of the plan goes in a new run."""
     net = link()
     ground, pedestal = net.ground, net.pedestal
     pedestal.open(RECEIVER)

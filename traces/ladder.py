@@ -190,7 +190,8 @@ class Picture:
     def svg(self) -> str:
         size = 'width="%d" height="%d"' % (self.wide, self.high)
         out = ['<svg xmlns="http://www.w3.org/2000/svg" %s font-family="sans-serif" font-size="12">' % size,
-               "<style>.frame{paint-order:stroke;stroke:white;stroke-width:3px}.start{font-size:11px}</style>", "<defs>"]
+               "<style>.frame{paint-order:stroke;stroke:white;stroke-width:3px}.start{font-size:11px}</style>",
+               "<defs>"]
         out += [marker(colour) for colour in sorted({*COLOURS.values(), REFUSED})]
         out += ["</defs>", '<rect width="100%" height="100%" fill="white"/>', *self.names_over(), *self.legend()]
         placed = [(row, self.top + ROW * k) for k, row in enumerate(self.rows)]

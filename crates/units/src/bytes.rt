@@ -34,22 +34,24 @@ fn joined(a: u8, b: u8, c: u8, d: u8) -> u32
     ((a as u32) * 256 + (b as u32)) * 65536 + ((c as u32) * 256 + (d as u32))
 }
 
-// The four bytes from an index on, as a number. Where all are there, one test of the length is enough.
+// The four bytes from an index on, as a number. Where all are there, which is tested first, it is one load.
 pub fn get32(s: &[u8], i: usize) -> u32
     ensures { λ r. ⌜ r ≡ get32Of (now (s .entry)) i ⌝ }
 {
+    if 4 <= s.len() {
+        if i <= s.len() - 4 {
+            return joined(s[i], s[i + 1], s[i + 2], s[i + 3]);
+        }
+    }
     if s.len() <= i {
         return 0;
     }
-    if s.len() - i < 4 {
-        return joined(
-            byte_at(s, i),
-            byte_at(s, i + 1),
-            byte_at(s, i + 2),
-            byte_at(s, i + 3),
-        );
-    }
-    joined(s[i], s[i + 1], s[i + 2], s[i + 3])
+    joined(
+        byte_at(s, i),
+        byte_at(s, i + 1),
+        byte_at(s, i + 2),
+        byte_at(s, i + 3),
+    )
 }
 
 // n bytes from an index on, or as many of them as there are.
