@@ -21,10 +21,10 @@
 #endif
 
 /* The version of this header and of the archive that it declares, as in CHANGELOG.md. */
-#define SHELUGVAR_VERSION "0.2.0"
+#define SHELUGVAR_VERSION "0.2.1"
 #define SHELUGVAR_VERSION_MAJOR 0
 #define SHELUGVAR_VERSION_MINOR 2
-#define SHELUGVAR_VERSION_PATCH 0
+#define SHELUGVAR_VERSION_PATCH 1
 /* The same as one number, which grows with the version: a byte for each part after the first. */
 #define SHELUGVAR_VERSION_NUMBER \
     (SHELUGVAR_VERSION_MAJOR * 65536 + SHELUGVAR_VERSION_MINOR * 256 + SHELUGVAR_VERSION_PATCH)

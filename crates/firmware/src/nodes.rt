@@ -254,12 +254,12 @@ const MAJOR: u32 = 0;
 
 const MINOR: u32 = 2;
 
-const PATCH: u32 = 0;
+const PATCH: u32 = 1;
 
 // The version of this archive, a byte a number.
 #[no_mangle]
 pub extern "C" fn shelugvar_version() -> u32
-    ensures { λ r. ⌜ r ≡ versionOf 0 2 0 ⌝ }
+    ensures { λ r. ⌜ r ≡ versionOf 0 2 1 ⌝ }
 {
     (MAJOR * 256 + MINOR) * 256 + PATCH
 }
