@@ -9,6 +9,7 @@ from traces.files import Record
 
 WRONG_FRAME = 10  # the refusal of a frame that was damaged on its way
 NOTHING = "nothing waits"
+MOST_LISTED = 30  # characters of payloads in a line
 
 
 @dataclass
@@ -99,6 +100,14 @@ def payload_words(payload: bytes) -> str:
         return "(empty)"
     shown = payload.decode("ascii") if all(32 <= b < 127 for b in payload) else payload.hex(" ")
     return shown if len(shown) <= 20 else shown[:18] + "…"
+
+
+def listed(shown: list[str]) -> str:
+    """Payloads, as many as a line of the picture has room for; else how many, with the first and the last."""
+    for words_of_all in (", ".join(shown), "%d: %s to %s" % (len(shown), shown[0], shown[-1])):
+        if len(words_of_all) <= MOST_LISTED:
+            return words_of_all
+    return "%d payloads" % len(shown)
 
 
 class Reader:
@@ -206,7 +215,7 @@ class Reader:
             if payloads:
                 self.moved(event, end)
         if payloads:
-            event.words = "delivers " + ", ".join(map(payload_words, payloads))
+            event.words = "delivers " + listed([payload_words(payload) for payload in payloads])
 
 
 def answers_of(text: str) -> list[list[int]]:
