@@ -7,19 +7,23 @@
 Bytes are decimal numbers, as `desk` prints them, so a frame that one node handed out is the arrival of another.
 """
 import sys
+from pathlib import Path
 
-NO_INDEX = {"table": 1, "arrival": 6, "tick": 7, "hand_out": 8}
-WITH_INDEX = {"open": 2, "close": 3, "send": 4, "urgent": 5, "counts": 20}
+sys.dont_write_bytecode = True  # the source tree stays as it is
+sys.path.insert(0, str(Path(__file__).resolve().parent.parent))
+from comparison.model import COUNTS_CALL
+from traces import files
+
+KINDS = {name: kind for kind, name in files.NAMES.items()} | {"counts": COUNTS_CALL}
+TAKES_INDEX = files.TAKES_INDEX | {COUNTS_CALL}
 
 
 def record(line: str) -> bytes:
-    """The record of a call: its kind, its index, the length of its bytes (2 bytes, high byte first), the bytes."""
+    """The record of a call."""
     word, *numbers = line.split()
-    if word in WITH_INDEX:
-        kind, index, content = WITH_INDEX[word], int(numbers[0]), bytes(map(int, numbers[1:]))
-    else:
-        kind, index, content = NO_INDEX[word], 0, bytes(map(int, numbers))
-    return bytes([kind, index]) + len(content).to_bytes(2, "big") + content
+    kind, values = KINDS[word], list(map(int, numbers))
+    index = values.pop(0) if kind in TAKES_INDEX else 0
+    return files.Record(kind, index, bytes(values)).packed()
 
 
 def main() -> int:
