@@ -17,10 +17,13 @@ enum {
     STORE = 32768,
     BLOCK = 33286,
     FRAME = 32777,
-    MOST = 2048
+    MOST = 2048,
+    COPIES = 16
 };
 
 static node_t here, there, here_before, there_before; /* the sender's side, the receiver's */
+static node_t copies[COPIES];                         /* for a call that one node can make once */
+static const node_t *copied;                          /* of whom, in a row that uses them */
 static uint8_t here_store[STORE], there_store[STORE], block[BLOCK], payload[STORE];
 static uint8_t frames[MOST][64], frame[FRAME]; /* frames that arrive in a row, short ones */
 static size_t lengths[MOST];
@@ -53,14 +56,30 @@ static size_t table(uint8_t *to, uint8_t own, uint8_t other, int receives)
     return at;
 }
 
-static size_t out_of_here(void)
+/* A frame is handed out, and is under way. */
+static size_t begins_here(void)
 {
     return node_hands_out(&here, here_store, STORE, frame, FRAME);
 }
 
-static size_t out_of_there(void)
+static size_t begins_there(void)
 {
     return node_hands_out(&there, there_store, STORE, frame, FRAME);
+}
+
+/* The same, and its end is reported; 0 where one of the two is refused. */
+static size_t out_of_here(void)
+{
+    const size_t n = begins_here();
+
+    return node_reports(&here) == 0 ? n : 0;
+}
+
+static size_t out_of_there(void)
+{
+    const size_t n = begins_there();
+
+    return node_reports(&there) == 0 ? n : 0;
 }
 
 static int into_here(const uint8_t *f, size_t n)
@@ -182,19 +201,67 @@ static int batch_send(void)
     return refused;
 }
 
+/* A batch of one call each on copies of a node. */
+static void copy(const node_t *node)
+{
+    copied = node;
+    batch_length = COPIES;
+}
+
 static void before_hand_out(void)
 {
     open_both();
     fill(0);
-    batch_length = window;
+    copy(&here_before);
 }
 
 static int batch_hand_out(void)
 {
     int refused = 0;
-    for (unsigned k = 0; k < batch_length; k++)
-        refused |= out_of_here() != size + 9;
+    for (unsigned k = 0; k < COPIES; k++)
+        refused |= node_hands_out(&copies[k], here_store, STORE, frame, FRAME) != size + 9;
     return refused;
+}
+
+/* Number 1 is under way, others wait. */
+static void before_report(void)
+{
+    timeout = 1;
+    before_hand_out();
+    must(begins_here() == size + 9, "hand out");
+}
+
+/* An acknowledgement is under way. */
+static void before_report_acknowledge(void)
+{
+    open_both();
+    fill(1);
+    must(into_there(frames[0], lengths[0]) == 0 && begins_there() == 9, "an acknowledgement");
+    copy(&there_before);
+}
+
+static int batch_report(void)
+{
+    int refused = 0;
+    for (unsigned k = 0; k < COPIES; k++)
+        refused |= node_reports(&copies[k]);
+    return refused;
+}
+
+static void after_report_acknowledge(void)
+{
+    for (unsigned k = 0; k < COPIES; k++)
+        must(node_reports(&copies[k]) == 20, "none is under way");
+}
+
+/* The timer of number 1 runs: it ends in a tick, and number 1 goes out before the others. */
+static void after_report(void)
+{
+    after_report_acknowledge();
+    for (unsigned k = 0; k < COPIES; k++)
+        must(node_ticks(&copies[k]) == 0 && node_hands_out(&copies[k], here_store, STORE, frame, FRAME) == size + 9 &&
+                 frame[7] == 1,
+             "the timer has started");
 }
 
 static void before_arrive(void)
@@ -260,7 +327,8 @@ static void before_round_trip(void)
     batch_length = entries * window;
 }
 
-/* All windows are filled; then each payload goes over, and its acknowledgement comes back. */
+/* All windows are filled; then each payload goes over, and its acknowledgement comes back; the end of each frame is
+ * reported at the node that it leaves. */
 static int batch_round_trip(void)
 {
     int refused = 0;
@@ -339,7 +407,7 @@ static int batch_one_tick(void)
 
 static void after_none_ended(void)
 {
-    must(out_of_here() == 0, "no timer has ended");
+    must(begins_here() == 0, "no timer has ended");
 }
 
 static void after_all_ended(void)
@@ -371,6 +439,8 @@ static const struct row {
     {"write", before_writes, batch_writes, after_nothing},
     {"send", before_send, batch_send, after_nothing},
     {"hand_out", before_hand_out, batch_hand_out, after_nothing},
+    {"report", before_report, batch_report, after_report},
+    {"report_acknowledge", before_report_acknowledge, batch_report, after_report_acknowledge},
     {"data", before_arrive, batch_in_order, after_nothing},
     {"early_data", before_arrive, batch_out_of_order, after_nothing},
     {"faulty", before_faulty, batch_faulty, after_nothing},
@@ -400,6 +470,8 @@ static double round_of(const struct row *row, int mode)
 
     here = here_before;
     there = there_before;
+    for (unsigned k = 0; copied != NULL && k < COPIES; k++)
+        copies[k] = *copied;
     if (mode == 0)
         return 0;
     if (mode == 2)

@@ -25,11 +25,13 @@ FRAMES = [Case("frame %s, %s bytes" % (row, format(n, ",")), row, 16, 1, n)
 CALLS = [
     Case("send, 16 bytes", "send", 128, 1, 16),
     Case("hand out Data, 16 bytes", "hand_out", 128, 1, 16),
+    Case("report of Data, its timer starts", "report", 128, 1, 16),
+    Case("report of an Acknowledge", "report_acknowledge", 128, 1, 16),
     Case("Data in order, 16 bytes", "data", 128, 1, 16),
     Case("Data out of order, 16 bytes", "early_data", 128, 1, 16),
     Case("acknowledgement", "acknowledgement", 128, 1, 16),
     Case("Reset with a fault, and where", "faulty", 128, 1, 16),
-    Case("round trip, 16 bytes, W 16", "round_trip", 16, 1, 16),
+    Case("round trip and reports, 16 bytes, W 16", "round_trip", 16, 1, 16),
     Case("idle tick, 16 entries", "idle_tick", 128, 16, 15),
     Case("busy tick, 16 x 128 timers", "busy_tick", 128, 16, 15),
     Case("tick, all 2,048 timers end", "ending_tick", 128, 16, 15, 2048),
@@ -48,10 +50,12 @@ def tick_cases(words, row):
 
 Growth = collections.namedtuple("Growth", "title cases xs")
 ROUND_TRIPS = [
-    Growth("window", [Case("round trip, W %d" % w, "round_trip", w, 1, 16) for w in WINDOWS], WINDOWS),
-    Growth("entries", [Case("round trip, entries %d" % e, "round_trip", 16, e, 16) for e in ENTRIES], ENTRIES),
+    Growth("window", [Case("round trip and reports, W %d" % w, "round_trip", w, 1, 16) for w in WINDOWS], WINDOWS),
+    Growth("entries",
+           [Case("round trip and reports, entries %d" % e, "round_trip", 16, e, 16) for e in ENTRIES], ENTRIES),
     Growth("payload bytes",
-           [Case("round trip, %s bytes, W 4" % format(n, ","), "round_trip", 4, 1, n) for n in PAYLOADS], PAYLOADS),
+           [Case("round trip and reports, %s bytes, W 4" % format(n, ","), "round_trip", 4, 1, n) for n in PAYLOADS],
+           PAYLOADS),
 ]
 # none is due for long; none is due, but a timer could end at this tick, so that the product looks at every one
 TICKS = [
@@ -109,7 +113,7 @@ def measure(programs, run, cases):
 def line(label, found):
     """A row of the table, and its ratio by instructions."""
     (ours, theirs), times = found
-    text = "%-30s %10.0f %10.0f %6.2f" % (label, ours, theirs, ours / theirs)
+    text = "%-40s %10.0f %10.0f %6.2f" % (label, ours, theirs, ours / theirs)
     if times:
         text += " %12.1f %10.1f %6.2f" % (times[0], times[1], times[0] / times[1])
     return text, ours / theirs
@@ -117,7 +121,7 @@ def line(label, found):
 
 def show(title, labels, results, ratios, of_what="a call", timed=BY_THE_CLOCK):
     print("\n" + title)
-    head = "%-30s %10s %10s %6s" % ("instructions " + of_what, "product", "peer", "ratio")
+    head = "%-40s %10s %10s %6s" % ("instructions " + of_what, "product", "peer", "ratio")
     print(head + (" %12s %10s %6s" % ("ns: product", "peer", "ratio") if timed else ""))
     for label in labels:
         text, ratios[label] = line(label, results[label])
@@ -187,7 +191,7 @@ def picture(results):
     out = ['<svg xmlns="http://www.w3.org/2000/svg" width="%d" height="%d" font-family="sans-serif" font-size="12">'
            % (wide, TOP + HIGH + 50),
            '<rect width="100%" height="100%" fill="white"/>',
-           words_over(0, 18, 14, "Instructions a payload, from send to confirmed: " + names),
+           words_over(0, 18, 14, "Instructions a payload, from send to confirmed, reports too: " + names),
            words_over(last, 18, 14, "Instructions a tick, no timer due"),
            words_over(last, 34, 12, "dashed: where a stopped one was due")]
     for number, growth in enumerate(ROUND_TRIPS):

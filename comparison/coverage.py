@@ -10,7 +10,8 @@ from comparison.two_nodes import Pair
 
 REFUSALS = {
     "table": (0, 1), "open": (0, 2, 4), "close": (0, 2, 4), "counts": (0, 2, 3), "send": (0, 2, 3, 4, 5, 7),
-    "urgent": (0, 2, 3, 4, 5, 9), "arrival": (0, 10, 11, 15, 16, 17, 18, 13, 5, 14), "tick": (0,), "hand out": (0,),
+    "urgent": (0, 2, 3, 4, 5, 9), "arrival": (0, 10, 11, 15, 16, 17, 18, 13, 5, 14), "tick": (0,), "hand out": (0, 19),
+    "report": (0, 20),
 }
 TRANSITIONS = ["sender " + way for way in (
     "Closed to Enabled", "Enabled to Open", "Open to Failing", "Failing to Enabled",
@@ -39,6 +40,17 @@ EVENTS += ["acknowledgement stops the first timer due of several", "a stopped ti
 EVENTS += ["acknowledgement at Failing stops the last timer"]
 EVENTS += ["recovery in a tick at which no timer was due, stopped or not"]
 EVENTS += ["failing and recovery in one tick, M 0, one timer", "setup while timers run"]
+EVENTS += ["refusal 19, something waits", "refusal 19, nothing waits"]
+EVENTS += ["setup while a frame is under way", "close of an end whose frame is under way"]
+EVENTS += ["acknowledgement before the report counts", "acknowledgement 0 before the report opens"]
+EVENTS += ["report starts the timer: " + what for what in ("data", "retransmission", "Reset")]
+EVENTS += ["report starts the timer of data that was under way when its end failed"]
+EVENTS += ["report starts nothing: " + what for what in ("acknowledgement", "Urgent")]
+EVENTS += ["report starts nothing: %s, %s meanwhile" % (what, why) for what in ("data", "Reset")
+           for why in ("acknowledged", "closed", "closed and opened again")]
+EVENTS += ["report starts nothing: data, acknowledged and its slot taken meanwhile"]
+EVENTS += ["Failing goes on for its own frame under way: " + what for what in ("data", "acknowledged data", "Urgent")]
+EVENTS += ["report lets a Failing end recover at the next tick", "recovery while another entry's frame is under way"]
 
 
 class Totals:
@@ -106,7 +118,7 @@ class Totals:
     # the table
 
     def refusal_rows(self, seen: model.Seen, names: dict[int, str]) -> Iterator[str]:
-        numbers = [n for n in range(19) if n != 12]  # 12 is given no more
+        numbers = [n for n in range(21) if n != 12]  # 12 is given no more
         yield "refusal   " + "".join("%8d" % n for n in numbers)
         for code, name in names.items():
             counts = [seen[(code, n)] if n in REFUSALS[name] else "." for n in numbers]

@@ -1,4 +1,5 @@
-"""A node and its desk as paper 01 describes them, in plain Python: makes the traces, and is a third opinion on answers.
+"""A node and its desk as papers 01 and 02 describe them, in plain Python: makes the traces, and is a third opinion on
+answers.
 
 Written for the reader, not for speed, and with no lent memory: the desk's store, block and frame buffers are always
 long enough, so refusal 6 is never given here."""
@@ -15,8 +16,10 @@ DATA, ACKNOWLEDGE, RESET, URGENT = range(4)
 IGNORED, ACKNOWLEDGED, OPENED, TOOK_RESET, TOOK_DATA, TOOK_URGENT = range(6)
 # the five sorts of frame that wait, in the order of handing out
 SORTS = ACKS, RESETS, URGENTS, AGAIN, FIRST = range(5)
+SORT_NAMES = ("acknowledgement", "Reset", "Urgent", "retransmission", "data")
 # the desk's kinds of record
 TABLE_CALL, OPEN_CALL, CLOSE_CALL, SEND_CALL, URGENT_CALL, ARRIVAL_CALL, TICK_CALL, HAND_OUT_CALL = range(1, 9)
+REPORT_CALL = 9
 COUNTS_CALL = 20
 
 DEFAULT_WINDOW = 16
@@ -168,7 +171,7 @@ def read_table(data: bytes) -> tuple[int, int, list[Entry]]:
 
 
 class Number:
-    """A sequence number that a sender has taken for a payload."""
+    """A sequence number that a sender has taken for a payload; taken again, of a later payload, it is another."""
 
     def __init__(self, sequence: int, payload: bytes) -> None:
         self.sequence, self.payload = sequence, payload
@@ -184,6 +187,7 @@ class End:
 
     def __init__(self, entry: Entry) -> None:
         self.entry, self.state = entry, CLOSED
+        self.run = 0  # how often it has become Enabled
         self.clear()
 
     def clear(self) -> None:
@@ -309,6 +313,15 @@ class Timers:
 What = Any
 
 
+class UnderWay(NamedTuple):
+    """The frame that was handed out last, until the port reports its end (02, K3): what it was while it waited, whose it
+    is, and its owner's run at handing out."""
+    sort: int
+    owner: int
+    what: What
+    run: int
+
+
 class Node:
     """A node with its calls, each of which gives a list of numbers or raises Refused.
 
@@ -318,6 +331,7 @@ class Node:
         self.own = self.protocol = 0
         self.ends: list[AnyEnd] = []
         self.waiting: list[list[tuple[int, What]]] = [[] for _ in SORTS]  # of (entry index, ...)
+        self.under_way: UnderWay | None = None
         self.seen: Seen = collections.Counter()
         self.timers = Timers(self.seen)
 
@@ -333,6 +347,10 @@ class Node:
     def waits(self, sort: int, index: int) -> bool:
         return any(item[0] == index for item in self.waiting[sort])
 
+    def is_under_way(self, index: int) -> bool:
+        """Whether the frame under way is this entry's."""
+        return self.under_way is not None and self.under_way.owner == index
+
     # changes of state
 
     def turn(self, end: AnyEnd, state: str) -> None:
@@ -342,6 +360,7 @@ class Node:
     def enable(self, index: int, end: AnyEnd) -> None:
         self.turn(end, ENABLED)
         end.clear()
+        end.run += 1
         if isinstance(end, Sender):
             self.wait(RESETS, index)
 
@@ -367,6 +386,8 @@ class Node:
         self.own, self.protocol, entries = read_table(data)
         self.ends = [Sender(e) if e.kind == SENDS else Receiver(e) for e in entries]
         self.waiting = [[] for _ in SORTS]
+        self.seen["setup while a frame is under way"] += self.under_way is not None
+        self.under_way = None
         self.seen["setup while timers run"] += bool(self.timers.running)
         self.timers = Timers(self.seen)
         return []
@@ -378,8 +399,10 @@ class Node:
         return []
 
     def close(self, index: int) -> list[int]:
+        """Its frame under way stays so until its end is reported."""
         end = self.end(index)
         refuse_if(end.state == CLOSED, 4)
+        self.seen["close of an end whose frame is under way"] += self.is_under_way(index)
         self.turn(end, CLOSED)
         end.clear()
         self.drop(index, *SORTS)
@@ -479,6 +502,8 @@ class Node:
             return self.ignored(end, "again" if number.acknowledged else "not handed out")
         self.seen["acknowledgement stops a waiting retransmission"] += (index, number) in self.waiting[AGAIN]
         self.waiting[AGAIN] = [item for item in self.waiting[AGAIN] if item != (index, number)]
+        under_way = self.under_way is not None and self.under_way.what is number
+        self.seen["acknowledgement before the report counts"] += under_way
         stops_last = number.timer and not end.running(but=number)
         self.seen["acknowledgement at Failing stops the last timer"] += bool(end.state == FAILING and stops_last)
         self.timers.stop(index, number)
@@ -501,6 +526,7 @@ class Node:
         if sequence != 0 or not end.reset_went_out:
             return self.ignored(end, "not 0" if sequence else "no Reset out")
         self.seen["acknowledgement 0 removes a waiting Reset"] += self.waits(RESETS, index)
+        self.seen["acknowledgement 0 before the report opens"] += self.is_under_way(index)
         self.turn(end, OPEN)
         end.clear()
         end.accepted = end.confirmed = 0
@@ -533,34 +559,79 @@ class Node:
         self.wait(ACKS, index, sequence)
         return [TOOK_DATA] + self.block_fields(given)
 
-    # handing out
+    # handing out, and the report of a frame's end
 
     def hand_out(self) -> list[int]:
+        if self.under_way is not None:
+            self.seen["refusal 19, %s waits" % ("something" if any(self.waiting) else "nothing")] += 1
+            raise Refused(19)
         for sort in SORTS:
             if self.waiting[sort]:
-                data = self.write(sort, *self.waiting[sort].pop(0))
+                index, what = self.waiting[sort].pop(0)
+                self.under_way = UnderWay(sort, index, what, self.ends[index].run)
+                data = self.write(sort, index, what)
                 return [len(data)] + list(data)
         return [0]
 
     def write(self, sort: int, index: int, what: What) -> bytes:
-        """The frame of something that waited; a Reset's and a number's timer start."""
+        """The frame of something that waited."""
         end = self.ends[index]
         control, sequence, payload = DATA, 0, b""
         if sort == ACKS:
             control, sequence = ACKNOWLEDGE, what
         elif sort == RESETS:
             assert isinstance(end, Sender)
-            control = RESET
-            end.reset_timer, end.reset_went_out = end.entry.timeout, True
-            self.timers.start(index, None, end.entry.timeout)
+            control, end.reset_went_out = RESET, True
         elif sort == URGENTS:
             control, payload = URGENT, what
         else:
             sequence, payload = what.sequence, what.payload
-            what.handed_out, what.timer = True, end.entry.timeout
-            self.timers.start(index, what, end.entry.timeout)
-        self.seen["handed out: " + ("acknowledgement", "Reset", "Urgent", "retransmission", "data")[sort]] += 1
+            what.handed_out = True
+        self.seen["handed out: " + SORT_NAMES[sort]] += 1
         return frame(end.entry.remote, self.protocol, self.own, control, end.entry.channel, sequence, payload)
+
+    def report(self) -> list[int]:
+        """The last byte of the frame under way has left. The timer of a Reset and of data starts now, where an answer
+        is still to come."""
+        if self.under_way is None:
+            raise Refused(20)
+        left, self.under_way = self.under_way, None
+        end = self.ends[left.owner]
+        if isinstance(end, Sender) and self.is_awaited(left, end):
+            self.start_timer(left, end)
+            self.seen["report starts the timer: " + SORT_NAMES[left.sort]] += 1
+            self.seen["report starts the timer of data that was under way when its end failed"] += end.state == FAILING
+        else:
+            self.seen["report starts nothing: " + self.why_nothing(left, end)] += 1
+        recovers = isinstance(end, Sender) and end.state == FAILING and not end.running()
+        self.seen["report lets a Failing end recover at the next tick"] += recovers
+        return []
+
+    def is_awaited(self, left: UnderWay, end: Sender) -> bool:
+        """Whether an answer to a frame that has left is still to come: to a Reset while its end is Enabled in the same
+        run, to data while its number, the very one, is taken and not acknowledged."""
+        if left.sort == RESETS:
+            return end.state == ENABLED and end.run == left.run
+        return left.sort in (AGAIN, FIRST) and left.what in end.taken and not left.what.acknowledged
+
+    def start_timer(self, left: UnderWay, end: Sender) -> None:
+        if left.sort == RESETS:
+            end.reset_timer = end.entry.timeout
+        else:
+            left.what.timer = end.entry.timeout
+        self.timers.start(left.owner, left.what, end.entry.timeout)
+
+    def why_nothing(self, left: UnderWay, end: AnyEnd) -> str:
+        """What was under way, and what became of it meanwhile, for coverage."""
+        if not isinstance(end, Sender) or left.sort == URGENTS:
+            return SORT_NAMES[left.sort]
+        name = "Reset" if left.sort == RESETS else "data"
+        if end.state == CLOSED or end.run != left.run:
+            return name + (", closed" if end.state == CLOSED else ", closed and opened again") + " meanwhile"
+        slots = [number.sequence % end.entry.window for number in end.taken if number is not left.what]
+        if left.sort != RESETS and left.what.sequence % end.entry.window in slots:
+            return name + ", acknowledged and its slot taken meanwhile"
+        return name + ", acknowledged meanwhile"
 
     # ticks
 
@@ -568,21 +639,34 @@ class Node:
         senders = [(index, end) for index, end in enumerate(self.ends) if isinstance(end, Sender)]
         failing = {index for index, end in senders if end.state == FAILING}
         ended: list[TimerOf] = []
-        enabled: list[int] = []  # entries
         for index, end in senders:
             if end.state == ENABLED:
                 ended += self.tick_reset(index, end)
             for number in list(end.taken):
                 ended += self.tick_number(index, end, number)
         failed = {index for index, end in senders if end.state == FAILING} - failing
-        for index, end in senders:
-            if end.state == FAILING and not end.running():
-                self.enable(index, end)
-                enabled.append(index)
-                alone = index in failed and end.entry.retries == 0 and [i for i, _ in ended].count(index) == 1
-                self.seen["failing and recovery in one tick, M 0, one timer"] += alone
+        enabled = [index for index, end in senders if self.recovers(index, end)]
+        for index in enabled:
+            self.enable(index, self.ends[index])
+            alone = index in failed and self.ends[index].entry.retries == 0 and [i for i, _ in ended].count(index) == 1
+            self.seen["failing and recovery in one tick, M 0, one timer"] += alone
         self.timers.tick(ended, len(enabled))
         return [sum(1 << index for index in enabled)]
+
+    def recovers(self, index: int, end: Sender) -> bool:
+        """Failing ends when none of the end's timers runs and none of its frames is under way, answered or not."""
+        if end.state != FAILING or end.running():
+            return False
+        if self.under_way is None:
+            return True
+        if self.under_way.owner != index:
+            self.seen["recovery while another entry's frame is under way"] += 1
+            return True
+        name, number = "Urgent", self.under_way.what
+        if self.under_way.sort != URGENTS:
+            name = "acknowledged data" if number.acknowledged else "data"
+        self.seen["Failing goes on for its own frame under way: " + name] += 1
+        return False
 
     def tick_reset(self, index: int, end: Sender) -> list[TimerOf]:
         """The Reset's timer, if it ends."""
@@ -632,11 +716,12 @@ CALLS: dict[int, Callable[[Node, int, bytes], list[int]]] = {
     ARRIVAL_CALL: lambda node, index, data: node.arrival(data),
     TICK_CALL: lambda node, index, data: node.tick(),
     HAND_OUT_CALL: lambda node, index, data: node.hand_out(),
+    REPORT_CALL: lambda node, index, data: node.report(),
     COUNTS_CALL: lambda node, index, data: node.counts(index),
 }
 CALL_NAMES = {
     TABLE_CALL: "table", OPEN_CALL: "open", CLOSE_CALL: "close", SEND_CALL: "send", URGENT_CALL: "urgent",
-    ARRIVAL_CALL: "arrival", TICK_CALL: "tick", HAND_OUT_CALL: "hand out", COUNTS_CALL: "counts",
+    ARRIVAL_CALL: "arrival", TICK_CALL: "tick", HAND_OUT_CALL: "hand out", REPORT_CALL: "report", COUNTS_CALL: "counts",
 }
 
 

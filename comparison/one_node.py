@@ -17,6 +17,7 @@ class Player:
         self.rng, self.trace = rng, trace
         self.frames = [b"\0" * 9]  # seen on the wire in either direction
         self.focus = 0
+        self.lost_for = 0  # moves for which the port's reports are lost
 
     def index(self) -> int:
         """Mostly the entry in focus, so that something comes of it; sometimes any, sometimes none."""
@@ -112,9 +113,30 @@ class Player:
             self.trace.arrival(frame)
 
     def hand_out(self) -> None:
-        answer = self.trace.hand_out()
-        if answer.fields[0]:
-            self.frames = self.frames[-40:] + [bytes(answer.fields[1:])]
+        """Mostly the frame's end is reported at once, else by a later move, and now and then ticks pass first. While a
+        frame is under way it is tried less often, since all that comes of it is a refusal."""
+        rng, trace = self.rng, self.trace
+        if trace.node.under_way and rng.random() < 0.6:
+            return
+        answer = trace.hand_out()
+        if answer.refusal or not answer.fields[0]:
+            return
+        self.frames = self.frames[-40:] + [bytes(answer.fields[1:])]
+        if rng.random() < 0.75:
+            self.report()
+        elif rng.random() < 0.15:
+            self.wait()
+
+    def report(self) -> None:
+        """The end of the frame under way, now and then twice; seldom one where none is."""
+        if self.lost_for or not self.trace.node.under_way and self.rng.random() < 0.95:
+            return
+        self.trace.report()
+        if self.rng.random() < 0.02:
+            self.trace.report()
+
+    def lose_reports(self) -> None:
+        self.lost_for = self.rng.randint(10, 60)
 
     def sender(self) -> int:
         """An entry's index, mostly that of a sender that is up."""
@@ -143,50 +165,53 @@ class Player:
             data = rng.choice(list(broken_tables(data)))[1]
         self.trace.table(data)
 
-    def move(self) -> None:
-        rng, trace = self.rng, self.trace
-        what = rng.choices(("arrive", "hand out", "send", "urgent", "tick", "wait",
-                            "counts", "open", "close", "focus", "flood", "table"),
-                           (40, 34, 20, 3, 7, 0.6, 2, 2, 0.4, 3, 0.3, 0.15))[0]
-        if what == "arrive":
+    def close(self) -> None:
+        """Often the entry whose frame is under way, and now and then it is opened again at once."""
+        under_way, index = self.trace.node.under_way, self.index()
+        if under_way and self.rng.random() < 0.7:
+            index = under_way.owner
+        self.trace.close(index)
+        if self.rng.random() < 0.4:
+            self.trace.open(index)
+
+    def wait(self) -> None:
+        for _ in range(self.rng.choice((2, 5, 10, 40))):
+            self.trace.tick()
+
+    def look_elsewhere(self) -> None:
+        self.focus = self.rng.randrange(16)
+
+    def flood(self) -> None:
+        for _ in range(self.rng.randint(20, 50)):
             self.arrive()
-        elif what == "hand out":
-            self.hand_out()
-        elif what == "send":
-            self.give(trace.send)
-        elif what == "urgent":
-            self.give(trace.urgent)
-        elif what == "tick":
-            trace.tick()
-        elif what == "wait":
-            for _ in range(rng.choice((2, 5, 10, 40))):
-                trace.tick()
-        elif what == "counts":
-            trace.counts(self.index())
-        elif what == "open":
-            trace.open(self.index())
-        elif what == "close":
-            trace.close(self.index())
-        elif what == "focus":
-            self.focus = rng.randrange(16)
-        elif what == "flood":
-            for _ in range(rng.randint(20, 50)):
-                self.arrive()
-        elif rng.random() < 0.7:
+
+    def begin_anew(self) -> None:
+        if self.rng.random() < 0.7:
             self.new_table()
             self.open_some()
+
+    def move(self) -> None:
+        """Any of these, by its weight."""
+        trace = self.trace
+        moves: list[tuple[float, Callable[[], object]]] = [
+            (40, self.arrive), (34, self.hand_out), (20, self.report), (0.3, self.lose_reports),
+            (20, lambda: self.give(trace.send)), (3, lambda: self.give(trace.urgent)), (7, trace.tick),
+            (0.6, self.wait), (2, lambda: trace.counts(self.index())), (2, lambda: trace.open(self.index())),
+            (0.6, self.close), (3, self.look_elsewhere), (0.3, self.flood), (0.15, self.begin_anew)]
+        self.lost_for = max(0, self.lost_for - 1)
+        self.rng.choices([call for _, call in moves], [weight for weight, _ in moves])[0]()
 
 
 def stray_end(rng: random.Random, trace: Trace) -> None:
     """Now and then a stream ends badly."""
     roll, number = rng.random(), len(trace.lines) + 1
-    record = bytes((rng.choice((1, 4, 6, 7, 8, 20)), rng.randrange(3), 0, 5)) + rng.randbytes(5)
+    record = bytes((rng.choice((1, 4, 6, 7, 8, 9, 20)), rng.randrange(3), 0, 5)) + rng.randbytes(5)
     if len(trace.stream) + len(record) > model.MOST_STREAM or roll < 0.8:
         return
     if roll < 0.9:
         trace.end_with(record[:rng.randint(1, 8)], "torn %d\n" % number)
     else:
-        kind = rng.choice((0, 9, 19, 21, rng.randint(22, 255)))
+        kind = rng.choice((0, 10, 19, 21, rng.randint(22, 255)))
         trace.end_with(bytes((kind,)) + record[1:], "unknown %d\n" % number)
 
 

@@ -107,7 +107,7 @@ def broken_records(records: list[Record]) -> Iterator[tuple[str, bytes]]:
     yield "no table", files.pack(records[1:] or [tick])
     yield "a second table", files.pack(records + [records[0]])
     last = len(records) + 1
-    for kind in (0, 9, 20, 255):
+    for kind in (0, 10, 20, 255):
         yield "kind %d" % kind, with_record(records, last, Record(kind))
     for kind in sorted(set(files.NAMES) - files.TAKES_INDEX - {files.TABLE}):
         yield "an index for " + files.NAMES[kind], with_record(records, last, Record(kind, 1))
@@ -169,7 +169,33 @@ def a_refused_table_ends() -> Case:
 @case
 def a_fault_behind_a_refused_table() -> Case:
     """The file is judged whole before any call."""
-    return files.pack([Record(files.TABLE), Record(9)]), REFUSED
+    return files.pack([Record(files.TABLE), Record(10)]), REFUSED
+
+
+@case
+def reports() -> Case:
+    """Kind 9 (K3): the end of the frame under way, 20 where there is none, and 19 while there is one. The timer, T 5,
+    runs from the report on."""
+    found = [table(tx(timeout=5)), Record(files.REPORT), Record(files.OPEN), Record(files.HAND_OUT), Record(files.TICK),
+             Record(files.HAND_OUT), Record(files.REPORT), Record(files.REPORT)]
+    found += [Record(files.TICK)] * 4 + [Record(files.HAND_OUT), Record(files.TICK), Record(files.HAND_OUT)]
+    text = "1 1 0\n2 9 20\n3 2 0\n4 8 0 9\n5 7 0 0\n6 8 19\n7 9 0\n8 9 20\n9 7 0 0\n10 7 0 0\n11 7 0 0\n12 7 0 0\n"
+    return files.pack(found), text + "13 8 0 0\n14 7 0 0\n15 8 0 9\n"
+
+
+@case
+def a_report_with_an_index() -> Case:
+    return files.pack([table(), Record(files.REPORT, 1)]), REFUSED
+
+
+@case
+def a_report_with_bytes() -> Case:
+    return files.pack([table(), Record(files.REPORT, 0, b"\0")]), REFUSED
+
+
+@case
+def a_kind_behind_the_last() -> Case:
+    return files.pack([table(), Record(10)]), REFUSED
 
 
 @case
@@ -194,10 +220,20 @@ def the_longest_block() -> Case:
     found = [table(rx(window=128, largest=256)), Record(files.OPEN), frame(RESET, 9, 0)]
     text = "1 1 0\n2 2 0\n3 6 0 3 0 0\n"
     for number in range(128, 0, -1):
-        found += [Record(files.HAND_OUT), frame(DATA, 9, number, bytes(256))]
+        found += [Record(files.HAND_OUT), Record(files.REPORT), frame(DATA, 9, number, bytes(256))]
         block = 6 + 128 * (4 + 256) if number == 1 else 6
-        text += "%d 8 0 9\n%d 6 0 4 0 %d\n" % (len(found) - 1, len(found), block)
+        text += "%d 8 0 9\n%d 9 0\n%d 6 0 4 0 %d\n" % (len(found) - 2, len(found) - 1, len(found), block)
     return files.pack(found), text
+
+
+@case
+def the_33rd_acknowledgement_has_no_place() -> Case:
+    """32 acknowledgements wait, a Reset's and 31 of old data: data and a Reset are refused with 14 until one of them
+    was handed out. By hand, since files by seed seldom come to it."""
+    found = [table(rx()), Record(files.OPEN), frame(RESET, 9, 0)] + [frame(DATA, 9, 200, b"a")] * 31
+    text = "1 1 0\n2 2 0\n3 6 0 3 0 0\n" + "".join("%d 6 0 4 0 6\n" % k for k in range(4, 35))
+    found += [frame(DATA, 9, 1, b"a"), frame(RESET, 9, 0), Record(files.HAND_OUT), frame(DATA, 9, 1, b"a")]
+    return files.pack(found), text + "35 6 14\n36 6 14\n37 8 0 9\n38 6 0 4 0 11\n"
 
 
 @case
@@ -205,8 +241,8 @@ def the_longest_frame() -> Case:
     """A payload of half the store, the most of a sender: window 1 and the slot for an Urgent."""
     longest = model.MOST_STORE // 2
     found = [table(tx(window=1, largest=longest)), Record(files.OPEN), Record(files.HAND_OUT), frame(ACKNOWLEDGE, 7, 0),
-             Record(files.SEND, 0, bytes(longest)), Record(files.HAND_OUT)]
-    return files.pack(found), "1 1 0\n2 2 0\n3 8 0 9\n4 6 0 2 0\n5 4 0\n6 8 0 %d\n" % (longest + 9)
+             Record(files.SEND, 0, bytes(longest)), Record(files.REPORT), Record(files.HAND_OUT)]
+    return files.pack(found), "1 1 0\n2 2 0\n3 8 0 9\n4 6 0 2 0\n5 4 0\n6 9 0\n7 8 0 %d\n" % (longest + 9)
 
 
 @case

@@ -57,6 +57,10 @@ class Trace:
     def hand_out(self) -> Answer:
         return self.record(model.HAND_OUT_CALL)
 
+    def report(self) -> Answer:
+        """The port reports the end of the frame under way."""
+        return self.record(model.REPORT_CALL)
+
     def counts(self, index: int) -> Answer:
         return self.record(model.COUNTS_CALL, index)
 

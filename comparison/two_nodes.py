@@ -13,7 +13,7 @@ from comparison.tables import WINDOWS
 from comparison.trace import Full, Trace
 
 # how a link behaves: the chance of losing, repeating, damaging a frame; of laying a copy aside and of bringing such an
-# old one back; among how many under way one is picked
+# old one back; among how many on the link one is picked
 Manners = collections.namedtuple("Manners", "lose repeat damage keep recall shuffle")
 CALM = Manners(0.01, 0.02, 0.01, 0.03, 0.01, 2)
 ROUGH = Manners(0.08, 0.06, 0.05, 0.08, 0.03, 6)
@@ -21,11 +21,11 @@ DEAD = Manners(1.0, 0.0, 0.0, 0.0, 0.0, 1)
 
 
 class Link:
-    """One direction: frames under way, and old copies that may come back long after."""
+    """One direction: frames that have gone in, and old copies that may come back long after."""
 
     def __init__(self, rng: random.Random) -> None:
         self.rng = rng
-        self.under_way: list[Carried] = []
+        self.frames: list[Carried] = []
         self.aside: list[Carried] = []
 
     def put(self, carried: Carried, manners: Manners) -> None:
@@ -34,17 +34,17 @@ class Link:
         if rng.random() < (manners.keep if carried.frame[3] != RESET else 0.3):
             self.aside = self.aside[-30:] + [carried]
         if rng.random() >= manners.lose:
-            self.under_way += [carried] * (2 if rng.random() < manners.repeat else 1)
+            self.frames += [carried] * (2 if rng.random() < manners.repeat else 1)
 
     def get(self, manners: Manners) -> tuple[Carried, bool] | None:
         """The next frame to come out and whether it is damaged, or None."""
         rng = self.rng
         if self.aside and rng.random() < manners.recall:
             return rng.choice(self.aside), False
-        if not self.under_way:
+        if not self.frames:
             return None
-        at = rng.randrange(min(manners.shuffle, len(self.under_way)))
-        return self.under_way.pop(at), rng.random() < manners.damage
+        at = rng.randrange(min(manners.shuffle, len(self.frames)))
+        return self.frames.pop(at), rng.random() < manners.damage
 
 
 class Side:
@@ -59,6 +59,7 @@ class Side:
         self.receiving: dict[int, Channel] = {}
         self.loads: list[int] = []  # how much traffic each of those that send has
         self.asleep_until = 0  # hands nothing out before that step
+        self.lost_until = 0  # reports no end of a frame before that step
 
     def channel_of(self, frame: bytes, inwards: bool) -> Channel | None:
         """The channel of a frame that comes in or goes out here, None where it is no channel's of these two nodes."""
@@ -193,11 +194,23 @@ class Pair:
 
     # frames
 
-    def hand_out(self, side: Side) -> None:
+    def hand_out(self, side: Side, step: int) -> None:
+        """A frame is on the link as soon as it is handed out, so that an answer may come before its end is reported,
+        which mostly happens at once."""
         answer = side.trace.hand_out()
-        if answer.fields[0]:
-            frame = bytes(answer.fields[1:])
-            side.link.put(self.carried(side, frame), self.manners)
+        if answer.refusal or not answer.fields[0]:
+            return
+        frame = bytes(answer.fields[1:])
+        side.link.put(self.carried(side, frame), self.manners)
+        if self.rng.random() < 0.7:
+            self.report(side, step)
+
+    def report(self, side: Side, step: int) -> None:
+        """The end of the frame under way, unless reports are lost; seldom twice, or where none is under way."""
+        if step >= side.lost_until and (side.trace.node.under_way or self.rng.random() < 0.01):
+            side.trace.report()
+            if self.rng.random() < 0.003:
+                side.trace.report()
 
     def carried(self, side: Side, frame: bytes) -> Carried:
         channel = side.channel_of(frame, inwards=False)
@@ -273,20 +286,23 @@ class Pair:
             self.close(side, index)
 
     def idle(self) -> bool:
-        """Nothing waits and nothing is under way: only a tick or a host goes on from here."""
-        return not any(side.link.under_way or any(side.trace.node.waiting) for side in self.sides)
+        """Nothing waits and nothing is on a link: only a tick, a host or a report goes on from here."""
+        return not any(side.link.frames or any(side.trace.node.waiting) for side in self.sides)
 
     def step(self, number: int) -> None:
         rng = self.rng
         self.weather(number)
         here = rng.randrange(2)
         side, other = self.sides[here], self.sides[1 - here]
-        what = rng.choices(("send", "hand out", "deliver", "tick", "counts", "urgent", "host", "sleep"),
-                           (22, 36, 36, self.ticking, 0.6, 0.6, 0.5, 0.05))[0]
+        what = rng.choices(("send", "hand out", "report", "deliver", "tick", "counts", "urgent", "host", "sleep",
+                            "lose reports"), (22, 36, 12, 36, self.ticking, 0.6, 0.6, 0.5, 0.05, 0.03))[0]
         if what == "hand out":
-            # with nothing waiting it is worth a record only now and then
-            if number >= side.asleep_until and (any(side.trace.node.waiting) or rng.random() < 0.03):
-                self.hand_out(side)
+            # with nothing waiting, or a frame under way, it is worth a record only now and then
+            free = any(side.trace.node.waiting) and not side.trace.node.under_way
+            if number >= side.asleep_until and (free or rng.random() < 0.03):
+                self.hand_out(side, number)
+        elif what == "report":
+            self.report(side, number)
         elif what == "deliver":
             self.deliver(other, side)
         elif what == "tick" or self.idle() and rng.random() < 0.1:
@@ -295,6 +311,8 @@ class Pair:
             self.host_move(side)
         elif what == "sleep":
             side.asleep_until = number + rng.randint(50, 250)
+        elif what == "lose reports":
+            side.lost_until = number + rng.randint(20, 200)
         else:
             self.sender_move(side, what)
 

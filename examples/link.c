@@ -172,6 +172,15 @@ static size_t hand_out(struct side *s, uint8_t *frame, size_t room)
     return length;
 }
 
+/* The port has sent the last byte of the frame that was handed out: its timer starts, and another may go out. */
+static void report(struct side *s)
+{
+    const enum shelugvar_refusal refused = shelugvar_recorded_report(&s->recorder, &s->node);
+
+    must(refused == SHELUGVAR_DONE, "report");
+    tell(s, SHELUGVAR_RECORD_REPORT, refused, NULL, 0);
+}
+
 /* The link: of 16 frames 2 are lost, 1 comes with a damaged bit and 2 come twice, by a fixed sequence of numbers. */
 static void carry(struct side *from, struct side *to)
 {
@@ -183,6 +192,7 @@ static void carry(struct side *from, struct side *to)
         draw = draw * 1103515245 + 12345;
         unsigned fate = draw >> 16 & 15;
 
+        report(from);
         if (broken || fate < 2) {
             lost++;
             continue;

@@ -1,7 +1,8 @@
 /* A station computer's driver: a plan of moves goes up to the two motors of a pedestal, and their readings come down,
  * four end points over one port. The pedestal is a second node at the other end of a port in memory, which loses every
- * seventh frame. Both drivers do the same four things in turn: send what is to go, write to the port what waits, read
- * from the port what came, tick. Prints how it went; ends with status 1 where a reading is missing or out of order. */
+ * seventh frame. Both drivers do the same in turn: send what is to go, write to the port what waits and report each
+ * frame's end when it has left, read from the port what came, tick. Prints how it went; ends with status 1 where a
+ * reading is missing or out of order. */
 #include <stdio.h>
 #include <string.h>
 
@@ -93,7 +94,8 @@ static void send_on(struct station *s, size_t entry)
     }
 }
 
-/* What waits in the node goes to the port, as long as that has a place. */
+/* What waits in the node goes to the port, as long as that has a place. This port takes a frame at once; one on a wire
+ * takes its time, and its driver reports the frame's end, and asks for the next, when the last byte has left. */
 static void write_port(struct station *s, struct port *p)
 {
     static unsigned frames;
@@ -105,6 +107,7 @@ static void write_port(struct station *s, struct port *p)
                                     length) != SHELUGVAR_DONE ||
             *length == 0)
             return;
+        must(shelugvar_node_report(&s->node) == SHELUGVAR_DONE, "report");
         if (++frames % 7 == 0)
             p->lost++;
         else

@@ -21,10 +21,10 @@
 #endif
 
 /* The version of this header and of the archive that it declares, as in CHANGELOG.md. */
-#define SHELUGVAR_VERSION "0.2.1"
+#define SHELUGVAR_VERSION "0.3.0"
 #define SHELUGVAR_VERSION_MAJOR 0
-#define SHELUGVAR_VERSION_MINOR 2
-#define SHELUGVAR_VERSION_PATCH 1
+#define SHELUGVAR_VERSION_MINOR 3
+#define SHELUGVAR_VERSION_PATCH 0
 /* The same as one number, which grows with the version: a byte for each part after the first. */
 #define SHELUGVAR_VERSION_NUMBER \
     (SHELUGVAR_VERSION_MAJOR * 65536 + SHELUGVAR_VERSION_MINOR * 256 + SHELUGVAR_VERSION_PATCH)
@@ -61,7 +61,8 @@ enum shelugvar_state {
     SHELUGVAR_CLOSED = 0,  /* hands nothing out and takes nothing in */
     SHELUGVAR_ENABLED = 1, /* opened by the host, not yet by the other end */
     SHELUGVAR_OPEN = 2,    /* payloads can go */
-    SHELUGVAR_FAILING = 3  /* a payload of the sender has spent its retries; Enabled once none of its timers runs */
+    SHELUGVAR_FAILING = 3  /* a payload of the sender has spent its retries; Enabled once none of its timers runs and
+                            * none of its frames is under way */
 };
 
 /* Refusals: each is given exactly when its test is the first to fit, in the order that the call names. 0 is none; 12,
@@ -84,7 +85,9 @@ enum shelugvar_refusal {
     SHELUGVAR_UNKNOWN_TYPE = 15,        /* type none of the four */
     SHELUGVAR_USER_BITS = 16,           /* user bits not zero */
     SHELUGVAR_LENGTH_AGAINST_TYPE = 17, /* length that the frame says not fitting its type */
-    SHELUGVAR_WRONG_SEQUENCE = 18       /* a Reset's sequence not 0; frame writer: an Urgent's too */
+    SHELUGVAR_WRONG_SEQUENCE = 18,      /* a Reset's sequence not 0; frame writer: an Urgent's too */
+    SHELUGVAR_UNDER_WAY = 19,           /* handing out while a frame is under way */
+    SHELUGVAR_NONE_UNDER_WAY = 20       /* a frame's end reported with none under way */
 };
 
 /* What shelugvar_byte_at_fault answers for a refusal that is for no byte of the frame's header. */
@@ -210,6 +213,7 @@ uint8_t shelugvar_arrival(uint64_t *node, uint16_t *book, uint8_t *store, size_t
                           size_t block_room, const uint8_t *frame, size_t length, struct shelugvar_arrived *arrived);
 uint8_t shelugvar_hand_out(uint64_t *node, uint16_t *book, const uint8_t *store, size_t room, uint8_t *frame,
                            size_t frame_room, size_t *length);
+uint8_t shelugvar_report(uint64_t *node, uint16_t *book);
 uint16_t shelugvar_tick(uint64_t *node, uint16_t *book);
 uint8_t shelugvar_entry_state(const uint64_t *node, size_t index, uint8_t *state);
 uint8_t shelugvar_store_need(const uint8_t *table, size_t length, size_t *need);
@@ -318,14 +322,20 @@ static inline enum shelugvar_what shelugvar_arrived_what(const struct shelugvar_
     return SHELUGVAR_AS_(enum shelugvar_what, arrived->what);
 }
 
-/* What goes out next is written into the frame buffer; bytes after it stay. *length is 0 where nothing waits.
- * Refuses 6. */
+/* What goes out next is written into the frame buffer; bytes after it stay. *length is 0 where nothing waits. The frame
+ * is under way then, and nothing else goes out until its end is reported. Refuses 19, 6. */
 static inline enum shelugvar_refusal shelugvar_node_hand_out(struct shelugvar_node *n, const uint8_t *store,
                                                              size_t room, uint8_t *frame, size_t frame_room,
                                                              size_t *length)
 {
     return SHELUGVAR_REFUSAL_(shelugvar_hand_out(n->node, n->book, room != 0 ? store : SHELUGVAR_ANY_(n), room,
                                                  frame_room != 0 ? frame : SHELUGVAR_ANY_(n), frame_room, length));
+}
+
+/* The port has sent the last byte of the frame under way: Data or a Reset starts its timer. Refuses 20. */
+static inline enum shelugvar_refusal shelugvar_node_report(struct shelugvar_node *n)
+{
+    return SHELUGVAR_REFUSAL_(shelugvar_report(n->node, n->book));
 }
 
 /* Every running timer falls by one. Answers the entries that became Enabled, entry 0 in the lowest bit: their runs have

@@ -43,7 +43,8 @@ enum shelugvar_record_kind {
     SHELUGVAR_RECORD_URGENT = 5,
     SHELUGVAR_RECORD_ARRIVAL = 6,
     SHELUGVAR_RECORD_TICK = 7,
-    SHELUGVAR_RECORD_HAND_OUT = 8
+    SHELUGVAR_RECORD_HAND_OUT = 8,
+    SHELUGVAR_RECORD_REPORT = 9
 };
 
 /* What a recorder holds. The trace is file[0] to file[size - 1], or none where size is 0. */
@@ -169,6 +170,14 @@ static inline enum shelugvar_refusal shelugvar_recorded_hand_out(struct shelugva
     const enum shelugvar_refusal refused = shelugvar_node_hand_out(n, store, room, frame, frame_room, length);
 
     shelugvar_record(r, SHELUGVAR_RECORD_HAND_OUT, 0, NULL, 0, refused);
+    return refused;
+}
+
+static inline enum shelugvar_refusal shelugvar_recorded_report(struct shelugvar_recorder *r, struct shelugvar_node *n)
+{
+    const enum shelugvar_refusal refused = shelugvar_node_report(n);
+
+    shelugvar_record(r, SHELUGVAR_RECORD_REPORT, 0, NULL, 0, refused);
     return refused;
 }
 

@@ -86,6 +86,8 @@ static int make_plain(struct caller *caller, const struct record *record)
     case CALL_SEND:
         return node_send(&caller->node, caller->store, sizeof caller->store,
                          record->index, record->bytes, record->length);
+    case CALL_FRAME_END:
+        return node_frame_end(&caller->node);
     default:
         return node_urgent(&caller->node, caller->store,
                            sizeof caller->store, record->index,

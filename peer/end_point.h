@@ -27,9 +27,9 @@ struct end_point {
     uint8_t state;      /* enum end_state */
 
     /* Sender. Numbers are handed out in the order they were taken. */
-    bool reset_went_out; /* since Enabled began */
-    uint8_t taken;       /* numbers, from the window start on */
-    uint8_t handed_out;  /* the first of them, at least once */
+    bool reset_handed_out; /* since Enabled began */
+    uint8_t taken;         /* numbers, from the window start on */
+    uint8_t handed_out;    /* the first of them, at least once */
     uint32_t accepted;
     uint32_t confirmed;
 

@@ -55,11 +55,14 @@ int node_hand_out(struct node *node, const uint8_t *store,
                   size_t store_length, uint8_t *buffer, size_t buffer_length,
                   size_t *written)
 {
-    unsigned number = waiting_first(&node->waiting);
-
+    if (node->waiting.under_way != ITEM_NONE) {
+        return REFUSED_UNDER_WAY;
+    }
     if (store_length < node->store) {
         return REFUSED_ROOM;
     }
+    unsigned number = waiting_first(&node->waiting);
+
     if (number == ITEM_NONE) {
         *written = 0; /* with any frame buffer */
         return NOT_REFUSED;
@@ -76,6 +79,27 @@ int node_hand_out(struct node *node, const uint8_t *store,
         receiver_handed_out(&node->waiting, end, number);
     } else {
         sender_handed_out(&node->waiting, end, number);
+    }
+    node->waiting.under_way = (uint16_t)number;
+    return NOT_REFUSED;
+}
+
+/*
+ * What was acknowledged or closed meanwhile has left its list, and may wait
+ * again with a later frame: then no timer starts.
+ */
+int node_frame_end(struct node *node)
+{
+    struct waiting *waiting = &node->waiting;
+    unsigned number = waiting->under_way;
+    const struct item *item = &waiting->item[number];
+
+    if (number == ITEM_NONE) {
+        return REFUSED_NONE_UNDER_WAY;
+    }
+    waiting->under_way = ITEM_NONE;
+    if (item->list == LIST_TIMER_AT_END) {
+        timer_start(waiting, number, node->end[item->index].entry.timeout);
     }
     return NOT_REFUSED;
 }

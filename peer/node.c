@@ -164,7 +164,10 @@ int node_urgent(struct node *node, uint8_t *store, size_t store_length,
     return NOT_REFUSED;
 }
 
-/* Failing ends with no timer running (002, 7.5.11) become Enabled. */
+/*
+ * Failing ends with no timer running (002, 7.5.11) and no frame under way
+ * (02, K3) become Enabled.
+ */
 static uint16_t enable_failed(struct node *node)
 {
     uint16_t enabled = 0;
@@ -172,7 +175,8 @@ static uint16_t enable_failed(struct node *node)
     for (unsigned left = node->failing; left != 0; left &= left - 1) {
         unsigned index = lowest_bit(left);
 
-        if (!timers_run(&node->waiting, index)) {
+        if (!timers_run(&node->waiting, index) &&
+            !has_under_way(&node->waiting, index)) {
             sender_enable(&node->waiting, &node->end[index]);
             enabled |= (uint16_t)(1U << index);
         }

@@ -68,10 +68,16 @@ int node_arrival(struct node *node, uint8_t *store, size_t store_length,
                  uint8_t *block, size_t block_length, const uint8_t *bytes,
                  size_t length, struct arrival *arrival);
 
-/* With nothing waiting the length written is 0. */
+/*
+ * With nothing waiting the length written is 0. A frame that is handed out is
+ * under way until its end is reported; until then no other is handed out.
+ */
 int node_hand_out(struct node *node, const uint8_t *store,
                   size_t store_length, uint8_t *buffer, size_t buffer_length,
                   size_t *written);
+
+/* The port reports the end of the frame under way (02, K3). */
+int node_frame_end(struct node *node);
 
 /* Bit i: entry i became Enabled in this tick. */
 uint16_t node_tick(struct node *node);

@@ -1,4 +1,4 @@
-/* Every number of the protocol: papers 01, 02 (K1, K2) and 002. */
+/* Every number of the protocol: papers 01, 02 (K1 to K3) and 002. */
 #ifndef PEER_NUMBERS_H
 #define PEER_NUMBERS_H
 
@@ -114,7 +114,7 @@ enum {
     RECORD_BYTES = 4
 };
 
-/* The call that a record is of: its kind byte. */
+/* The call that a record is of: its kind byte (02, K2; K3: 9). */
 enum call_kind {
     CALL_TABLE = 1,
     CALL_OPEN = 2,
@@ -123,12 +123,14 @@ enum call_kind {
     CALL_URGENT = 5,
     CALL_ARRIVAL = 6,
     CALL_TICK = 7,
-    CALL_HAND_OUT = 8
+    CALL_HAND_OUT = 8,
+    CALL_FRAME_END = 9
 };
 
 /*
  * Refusal numbers (01, "Refusal numbers"; 02, K1: 15 to 18 are given where 12
- * stood, and 12 no longer; K2: 21, of a trace); 0 is no refusal.
+ * stood, and 12 no longer; K2: 21, of a trace; K3: 19 and 20); 0 is no
+ * refusal.
  */
 enum refusal {
     NOT_REFUSED = 0,
@@ -149,6 +151,8 @@ enum refusal {
     REFUSED_USER = 16,
     REFUSED_LENGTH = 17,
     REFUSED_SEQUENCE = 18,
+    REFUSED_UNDER_WAY = 19,
+    REFUSED_NONE_UNDER_WAY = 20,
     REFUSED_TRACE = 21
 };
 

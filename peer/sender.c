@@ -20,7 +20,7 @@ static void wait_reset(struct waiting *waiting, const struct end_point *end)
                 RESET_SEQUENCE);
 }
 
-/* Its Urgent, data and retransmissions; timers run on. */
+/* Its waiting Urgent, data and retransmissions; timers run on. */
 static void drop_frames(struct waiting *waiting, const struct end_point *end)
 {
     waiting_leave(waiting, item_urgent(end->index));
@@ -34,18 +34,22 @@ static void drop_frames(struct waiting *waiting, const struct end_point *end)
     }
 }
 
+/* Those that run, and the one that its frame under way is to start. */
 static void drop_timers(struct waiting *waiting, const struct end_point *end)
 {
     while (timers_run(waiting, end->index)) {
         waiting_leave(waiting,
                       waiting->list[LIST_TIMERS + end->index].first);
     }
+    if (has_under_way(waiting, end->index)) {
+        waiting_leave(waiting, waiting->under_way);
+    }
 }
 
 void sender_enable(struct waiting *waiting, struct end_point *end)
 {
     end->state = STATE_ENABLED;
-    end->reset_went_out = false;
+    end->reset_handed_out = false;
     forget_numbers(end);
     wait_reset(waiting, end);
 }
@@ -85,12 +89,12 @@ void sender_urgent(struct waiting *waiting, struct end_point *end,
                 URGENT_SEQUENCE);
 }
 
-/* At Enabled only the answer to a Reset that went out counts. */
+/* At Enabled only the answer to a Reset that was handed out counts. */
 static struct arrival reset_acknowledged(struct waiting *waiting,
                                          struct end_point *end,
                                          uint8_t sequence)
 {
-    if (sequence != RESET_SEQUENCE || !end->reset_went_out) {
+    if (sequence != RESET_SEQUENCE || !end->reset_handed_out) {
         return (struct arrival){.what = ARRIVAL_IGNORED};
     }
     waiting_leave(waiting, item_reset(end->index));
@@ -133,11 +137,11 @@ void sender_handed_out(struct waiting *waiting, struct end_point *end,
         return; /* sent once, without a timer (002, 7.5.12) */
     }
     if (list == LIST_RESET) {
-        end->reset_went_out = true;
+        end->reset_handed_out = true;
     } else if (list == LIST_DATA) {
         end->handed_out++;
     }
-    timer_start(waiting, item, end->entry.timeout);
+    waiting->item[item].list = LIST_TIMER_AT_END;
 }
 
 /* A data timer is at zero. */

@@ -1,4 +1,4 @@
-/* A sending end point (01, "End points"; 002, 7.2 and 7.5). */
+/* A sending end point (01, "End points"; 02, K3; 002, 7.2 and 7.5). */
 #ifndef PEER_SENDER_H
 #define PEER_SENDER_H
 
@@ -24,7 +24,10 @@ void sender_urgent(struct waiting *waiting, struct end_point *end,
 struct arrival sender_acknowledged(struct waiting *waiting,
                                    struct end_point *end, uint8_t sequence);
 
-/* A frame of the sender's was handed out: it no longer waits. */
+/*
+ * A frame of the sender's was handed out: it no longer waits. Its timer, if
+ * it has one, starts at its end: node_frame_end.
+ */
 void sender_handed_out(struct waiting *waiting, struct end_point *end,
                        unsigned item);
 

@@ -23,7 +23,7 @@ size_t record_read(const uint8_t *bytes, size_t length,
 
 bool kind_is_known(uint8_t kind)
 {
-    return kind >= CALL_TABLE && kind <= CALL_HAND_OUT;
+    return kind >= CALL_TABLE && kind <= CALL_FRAME_END;
 }
 
 static bool takes_index(uint8_t kind)

@@ -23,7 +23,7 @@ struct record {
 size_t record_read(const uint8_t *bytes, size_t length,
                    struct record *record);
 
-/* Whether a kind is one of the calls that a trace has, 1 to 8. */
+/* Whether a kind is one of the calls that a trace has, 1 to 9. */
 bool kind_is_known(uint8_t kind);
 
 /*

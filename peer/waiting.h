@@ -1,8 +1,9 @@
 /*
  * What waits: frames to be handed out, each sort in the order it began to
  * wait, and running timers, each entry's in the order they run out. Every
- * item is in one list at most, so it joins and leaves in one step. All zeros
- * is nothing waiting.
+ * item is in one list at most, so it joins and leaves in one step. Beside
+ * the lists, the item whose frame is under way: handed out, its end not yet
+ * reported (02, K3). All zeros is nothing waiting and nothing under way.
  */
 #ifndef PEER_WAITING_H
 #define PEER_WAITING_H
@@ -12,9 +13,14 @@
 
 #include "numbers.h"
 
-/* The sorts of frame in the order of handing out, then the timers. */
+/*
+ * The sorts of frame in the order of handing out, then the timers. Before
+ * them, the Data or Reset under way while its end is to start its timer: it
+ * is the only one there, so nothing is linked.
+ */
 enum list {
     LIST_NONE,
+    LIST_TIMER_AT_END,
     LIST_ACK,
     LIST_RESET,
     LIST_URGENT,
@@ -50,8 +56,9 @@ struct list_ends {
 };
 
 struct waiting {
-    uint32_t now;  /* ticks so far; wraps, no timer runs that long */
-    uint32_t acks; /* bit i: acknowledgement item i waits */
+    uint32_t now;       /* ticks so far; wraps, no timer runs that long */
+    uint32_t acks;      /* bit i: acknowledgement item i waits */
+    uint16_t under_way; /* the item whose frame is, or ITEM_NONE */
     struct list_ends list[LISTS];
     struct item item[ITEMS];
 };
@@ -88,15 +95,11 @@ static inline void waiting_join(struct waiting *waiting, unsigned list,
     ends->last = (uint16_t)number;
 }
 
-/* From whatever list it is in, if any. */
-static inline void waiting_leave(struct waiting *waiting, unsigned number)
+static inline void waiting_unlink(struct waiting *waiting,
+                                  const struct item *item)
 {
-    struct item *item = &waiting->item[number];
     struct list_ends *ends = &waiting->list[item->list];
 
-    if (item->list == LIST_NONE) {
-        return;
-    }
     if (item->before == ITEM_NONE) {
         ends->first = item->next;
     } else {
@@ -106,6 +109,16 @@ static inline void waiting_leave(struct waiting *waiting, unsigned number)
         ends->last = item->before;
     } else {
         waiting->item[item->next].before = item->before;
+    }
+}
+
+/* From whatever list it is in, if any. */
+static inline void waiting_leave(struct waiting *waiting, unsigned number)
+{
+    struct item *item = &waiting->item[number];
+
+    if (item->list > LIST_TIMER_AT_END) {
+        waiting_unlink(waiting, item);
     }
     item->list = LIST_NONE;
 }
@@ -134,6 +147,17 @@ static inline unsigned waiting_first(const struct waiting *waiting)
 static inline bool timers_run(const struct waiting *waiting, unsigned index)
 {
     return waiting->list[LIST_TIMERS + index].first != ITEM_NONE;
+}
+
+/*
+ * Whether the frame under way is the entry's. For senders: the item of an
+ * acknowledgement under way may be another receiver's by now.
+ */
+static inline bool has_under_way(const struct waiting *waiting,
+                                 unsigned index)
+{
+    return waiting->under_way != ITEM_NONE &&
+           waiting->item[waiting->under_way].index == index;
 }
 
 /* An entry's timers all start at its T: the oldest runs out first. */

@@ -23,6 +23,7 @@ enum call {
     URGENT,
     ARRIVAL,
     HAND_OUT,
+    REPORT,
     TICK,
     ENTRY_STATE,
     STORE_NEED,
@@ -50,6 +51,7 @@ static const struct {
     {"urgent", (function)shelugvar_urgent, 7, UINT8_MAX},
     {"arrival", (function)shelugvar_arrival, 9, UINT8_MAX},
     {"hand_out", (function)shelugvar_hand_out, 7, UINT8_MAX},
+    {"report", (function)shelugvar_report, 2, UINT8_MAX},
     {"tick", (function)shelugvar_tick, 2, UINT16_MAX},
     {"entry_state", (function)shelugvar_entry_state, 3, UINT8_MAX},
     {"store_need", (function)shelugvar_store_need, 3, UINT8_MAX},
@@ -232,6 +234,11 @@ static unsigned hand_out(struct side *s)
     return call(HAND_OUT, (const uint64_t[9]){NODE_AND_STORE(s), at(frame), sizeof frame, at(&frame_length)});
 }
 
+static unsigned report(struct side *s)
+{
+    return call(REPORT, (const uint64_t[9]){NODE(s)});
+}
+
 static unsigned tick(struct side *s)
 {
     return call(TICK, (const uint64_t[9]){NODE(s)});
@@ -288,6 +295,18 @@ static void write_for(enum shelugvar_frame_type type, size_t index, unsigned seq
     frame_length = SHELUGVAR_FRAME_ROOM(length);
 }
 
+/* A frame of that length goes out, and is under way; or its end is reported too. */
+static void begin_out(size_t length)
+{
+    must(hand_out(&sides[0]) == SHELUGVAR_DONE && frame_length == length, "hand_out");
+}
+
+static void go_out(size_t length)
+{
+    begin_out(length);
+    must(report(&sides[0]) == SHELUGVAR_DONE, "report");
+}
+
 static void take(enum shelugvar_frame_type type, size_t index, unsigned sequence, size_t length)
 {
     write_for(type, index, sequence, length);
@@ -321,23 +340,23 @@ static void open_all(enum shelugvar_kind kind, size_t count, unsigned window, un
         must(open_entry(&sides[0], i) == SHELUGVAR_DONE, "open");
     for (size_t i = 0; i < count; i++) {
         if (kind == SHELUGVAR_SENDS) {
-            must(hand_out(&sides[0]) == SHELUGVAR_DONE && frame_length == 9, "a Reset goes out");
+            go_out(SHELUGVAR_FRAME_OVERHEAD);
             take(SHELUGVAR_ACKNOWLEDGE, i, 0, 0);
         } else {
             take(SHELUGVAR_RESET, i, 0, 0);
-            must(hand_out(&sides[0]) == SHELUGVAR_DONE && frame_length == 9, "acknowledgement 0 goes out");
+            go_out(SHELUGVAR_FRAME_OVERHEAD);
         }
     }
 }
 
-/* Every number of every window taken by a payload of that length; all of them handed out, or none. */
-static void fill(size_t count, unsigned window, size_t length, int handed)
+/* Every number of every window taken by a payload of that length; all of them have gone out, or none. */
+static void fill(size_t count, unsigned window, size_t length, int gone)
 {
     for (size_t i = 0; i < count; i++)
         for (unsigned k = 0; k < window; k++)
             must(send(&sides[0], i, length) == SHELUGVAR_DONE, "send");
-    for (size_t k = 0; handed && k < count * window; k++)
-        must(hand_out(&sides[0]) == SHELUGVAR_DONE && frame_length == SHELUGVAR_FRAME_ROOM(length), "hand_out");
+    for (size_t k = 0; gone && k < count * window; k++)
+        go_out(SHELUGVAR_FRAME_ROOM(length));
 }
 
 /* Data from one number to another, all held; their acknowledgements go out, or wait. */
@@ -345,7 +364,8 @@ static void hold(unsigned first, unsigned last, size_t length, int acknowledged)
 {
     for (unsigned s = first; s <= last; s++) {
         take(SHELUGVAR_DATA, 0, s, length);
-        must(!acknowledged || (hand_out(&sides[0]) == SHELUGVAR_DONE && frame_length == 9), "an acknowledgement");
+        if (acknowledged)
+            go_out(SHELUGVAR_FRAME_OVERHEAD);
     }
 }
 
@@ -437,6 +457,45 @@ static unsigned do_hand_out(void)
     return hand_out(&sides[0]);
 }
 
+/* An Acknowledge is under way. */
+static void before_report(void)
+{
+    open_all(SHELUGVAR_RECEIVES, MANY, WIDE, SLIM);
+    take(SHELUGVAR_DATA, MANY - 1, 1, 1);
+    begin_out(SHELUGVAR_FRAME_OVERHEAD);
+}
+
+/* Data of the last of 16 senders is under way, number 128, and the numbers before it are not acknowledged. */
+static void before_data_report(void)
+{
+    open_all(SHELUGVAR_SENDS, MANY, WIDE, SLIM);
+    for (unsigned k = 1; k <= WIDE; k++)
+        must(send(&sides[0], MANY - 1, SLIM) == SHELUGVAR_DONE, "send");
+    for (unsigned k = 1; k < WIDE; k++)
+        go_out(SHELUGVAR_FRAME_ROOM(SLIM));
+    begin_out(SHELUGVAR_FRAME_ROOM(SLIM));
+}
+
+/* The same, and in a tick the numbers before it end: the sender is Failing. */
+static void before_failing_report(void)
+{
+    before_data_report();
+    must(tick(&sides[0]) == 0 && entry_state(&sides[0], MANY - 1) == SHELUGVAR_DONE && state == SHELUGVAR_FAILING,
+         "the sender fails");
+}
+
+static void before_reset_report(void)
+{
+    before_open();
+    must(do_open() == SHELUGVAR_DONE, "open");
+    begin_out(SHELUGVAR_FRAME_OVERHEAD);
+}
+
+static unsigned do_report(void)
+{
+    return report(&sides[0]);
+}
+
 /* The check byte is worked out first, over as much as the length bytes say. */
 static void before_noise(void)
 {
@@ -462,7 +521,7 @@ static void before_freeing(void)
 static void before_reset(void)
 {
     before_close_receiver();
-    must(hand_out(&sides[0]) == SHELUGVAR_DONE, "an acknowledgement"); /* with all places taken it would be refused */
+    go_out(SHELUGVAR_FRAME_OVERHEAD); /* with all places taken it would be refused */
     write_for(SHELUGVAR_RESET, 0, 0, 0);
 }
 
@@ -550,6 +609,11 @@ static const struct {
     {"reset", ARRIVAL, before_reset, do_arrival, SHELUGVAR_DONE},
     {"acknowledgement", ARRIVAL, before_acknowledgement, do_arrival, SHELUGVAR_DONE},
     {"hand_out", HAND_OUT, before_hand_out, do_hand_out, SHELUGVAR_DONE},
+    {"report_acknowledge", REPORT, before_report, do_report, SHELUGVAR_DONE},
+    {"report_data", REPORT, before_data_report, do_report, SHELUGVAR_DONE},
+    {"report_failing", REPORT, before_failing_report, do_report, SHELUGVAR_DONE},
+    {"report_reset", REPORT, before_reset_report, do_report, SHELUGVAR_DONE},
+    {"report_refused", REPORT, before_open, do_report, SHELUGVAR_NONE_UNDER_WAY},
     {"tick", TICK, before_tick, do_tick, 65535},
     {"entry_state", ENTRY_STATE, before_counts, do_entry_state, SHELUGVAR_DONE},
     {"store_need", STORE_NEED, before_setup, do_store_need, SHELUGVAR_DONE},
@@ -598,12 +662,16 @@ static void set_up_mirrored(unsigned own)
         open_entry(&sides[own], i);
 }
 
-/* A frame goes over, or is lost; it may come damaged, or twice. */
+/* A frame goes over, or is lost; it may come damaged, or twice. Of eight one is under way until a later report. */
 static void go_over(unsigned from)
 {
     const unsigned fate = below(16);
 
-    if (hand_out(&sides[from]) != SHELUGVAR_DONE || frame_length == 0 || fate < 2)
+    if (hand_out(&sides[from]) != SHELUGVAR_DONE || frame_length == 0)
+        return;
+    if (below(8) != 0)
+        report(&sides[from]);
+    if (fate < 2)
         return;
     frame_read();
     frame[below((unsigned)frame_length)] ^= fate == 2;
@@ -625,6 +693,8 @@ static void loop(void)
             urgent(&sides[side], index, length);
         else if (what < 80)
             go_over(side);
+        else if (what < 85)
+            report(&sides[side]);
         else if (what < 97)
             tick(&sides[side]);
         else if (what < 98) {

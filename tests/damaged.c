@@ -18,7 +18,7 @@ enum {
     MARGIN = 256, /* bytes around each thing lent; what lies in them must stay */
     MARK = 0xa5,
     FLIPS_MOST = 4,
-    CALLS = 8
+    CALLS = 10
 };
 
 enum {
@@ -43,11 +43,12 @@ static struct shelugvar_node node;
 enum {
     ARRIVAL,
     HAND_OUT,
+    REPORT,
     SEND,
     TICK,
     SORTS
 };
-static const char *const names[SORTS] = {"arrival", "hand out", "send and Urgent", "tick"};
+static const char *const names[SORTS] = {"arrival", "hand out", "report", "send and Urgent", "tick"};
 static unsigned long made[SORTS], wrong[SORTS];
 
 static unsigned draw(unsigned below)
@@ -70,7 +71,7 @@ static int marked(const uint8_t *bytes)
 static int is_listed(enum shelugvar_refusal refused)
 {
     return refused <= SHELUGVAR_NOT_OURS ||
-           (refused >= SHELUGVAR_NO_END_POINT && refused <= SHELUGVAR_WRONG_SEQUENCE);
+           (refused >= SHELUGVAR_NO_END_POINT && refused <= SHELUGVAR_NONE_UNDER_WAY);
 }
 
 static void judge(unsigned sort, enum shelugvar_refusal refused, size_t length, size_t lent)
@@ -126,6 +127,11 @@ static void hand_out(void)
     judge(HAND_OUT, refused, refused == SHELUGVAR_DONE ? length : 0, FRAME);
 }
 
+static void report(void)
+{
+    judge(REPORT, shelugvar_node_report(&node), 0, 0);
+}
+
 static void send(void)
 {
     static const uint8_t payload[PAYLOAD] = {4, 5, 6};
@@ -139,19 +145,22 @@ static void send(void)
 
 static void some_call(void)
 {
-    const unsigned sort = draw(10);
+    const unsigned sort = draw(13);
 
     if (sort < 4)
         arrive();
     else if (sort < 7)
         hand_out();
-    else if (sort < 9)
+    else if (sort < 10)
+        report();
+    else if (sort < 12)
         send();
     else
         judge(TICK, SHELUGVAR_DONE, shelugvar_node_tick(&node), UINT16_MAX);
 }
 
-/* A node with both its ends open, by calls alone: all but the first number of a window are held, and payloads wait. */
+/* A node with both its ends open, by calls alone: all but the first number of a window are held, and payloads wait;
+ * some frames have gone out, and the last of them is under way. */
 static void begin(void)
 {
     static const uint8_t table[] = {SHELUGVAR_HEAD(2, OWN, SHELUGVAR_PROTOCOL_ID),
@@ -163,12 +172,18 @@ static void begin(void)
         shelugvar_node_open(&node, SENDER) != SHELUGVAR_DONE || shelugvar_node_open(&node, RECEIVER) != SHELUGVAR_DONE)
         exit(2);
     hand_out();
+    report();
     take(SHELUGVAR_ACKNOWLEDGE, 0);
     take(SHELUGVAR_RESET, 0);
     for (unsigned number = 2; number <= WINDOW; number++)
         take(SHELUGVAR_DATA, number);
     for (unsigned i = 0; i < WINDOW; i++)
         send();
+    hand_out();
+    for (unsigned i = draw(2 * WINDOW); i > 0; i--) {
+        report();
+        hand_out();
+    }
 }
 
 /* A place that is in use, or perhaps not: what is not 0 is. */

@@ -1,6 +1,7 @@
 /* include/shelugvar.h by itself, as C99, C11, C++11 and C++17 (tests/header): it may be included twice; each of its
  * tags may be a typedef's name too, which it cannot where a function has that name; every function with a length takes
- * null where that is 0, and answers what it has to; the macros give the paper's bytes and lengths.
+ * null where that is 0, and answers what it has to; a frame is under way until its end is reported; the macros give the
+ * paper's bytes and lengths.
  * Prints what is wrong and ends with status 1 where anything is. */
 #include "shelugvar.h"
 #include "shelugvar.h"
@@ -99,8 +100,10 @@ static void null_at_a_new_node(void)
     must(arrived.what == 7 && arrived.entry == 7 && arrived.value == 7 && counts.accepted == 7 && need == 7 &&
              state == SHELUGVAR_FAILING,
          "a refused call alters nothing");
+    refuses(shelugvar_node_report(&n), SHELUGVAR_NONE_UNDER_WAY, "report");
     refuses(shelugvar_node_hand_out(&n, NULL, 0, NULL, 0, &length), SHELUGVAR_DONE, "hand out");
     must(length == 0, "nothing waits");
+    refuses(shelugvar_node_report(&n), SHELUGVAR_NONE_UNDER_WAY, "report, nothing went out");
     must(shelugvar_node_tick(&n) == 0, "tick");
 }
 
@@ -125,6 +128,9 @@ static void null_at_a_sender(void)
     refuses(shelugvar_node_hand_out(&n, NULL, 0, frame, sizeof frame, &length), SHELUGVAR_TOO_SHORT,
             "hand out, no store");
     refuses(shelugvar_node_hand_out(&n, store, sizeof store, frame, sizeof frame, &length), SHELUGVAR_DONE, "a Reset");
+    refuses(shelugvar_node_hand_out(&n, NULL, 0, NULL, 0, &length), SHELUGVAR_UNDER_WAY,
+            "hand out, a frame under way and no store");
+    refuses(shelugvar_node_report(&n), SHELUGVAR_DONE, "report");
     refuses(shelugvar_write_frame(frame, sizeof frame, &ack, NULL, 0), SHELUGVAR_DONE, "write, no payload");
     refuses(shelugvar_node_arrival(&n, NULL, 0, NULL, 0, frame, SHELUGVAR_FRAME_OVERHEAD, &arrived),
             SHELUGVAR_TOO_SHORT, "arrival, no store");
@@ -137,6 +143,46 @@ static void null_at_a_sender(void)
     refuses(shelugvar_node_send(&n, NULL, 0, 0, payload, 1), SHELUGVAR_TOO_SHORT, "send, no store");
     refuses(shelugvar_node_urgent(&n, store, sizeof store, 0, NULL, 0), SHELUGVAR_PAYLOAD_LENGTH, "urgent, no payload");
     refuses(shelugvar_node_urgent(&n, NULL, 0, 0, payload, 1), SHELUGVAR_TOO_SHORT, "urgent, no store");
+}
+
+/* The two refusals of the frame under way, by the archive's own functions and by the header's, which alter nothing;
+ * that a timer starts at the report; that a close ends no frame, and a setup does. */
+static void frame_under_way(void)
+{
+    static const uint8_t table[] = {SHELUGVAR_HEAD(1, 64, SHELUGVAR_PROTOCOL_ID),
+                                    SHELUGVAR_SENDER(65, 7, 3, 1, 8, 2)};
+    static shelugvar_node n, before;
+    static uint8_t store[SHELUGVAR_SENDER_STORE(1, 8)];
+    uint8_t frame[SHELUGVAR_FRAME_ROOM(8)];
+    size_t length = 7;
+
+    refuses(shelugvar_node_setup(&n, store, sizeof store, table, sizeof table), SHELUGVAR_DONE, "setup");
+    refuses(shelugvar_node_open(&n, 0), SHELUGVAR_DONE, "open");
+    before = n;
+    must(shelugvar_report(n.node, n.book) == 20, "the archive's refusal of a report");
+    refuses(shelugvar_node_report(&n), SHELUGVAR_NONE_UNDER_WAY, "report, none under way");
+    must(memcmp(&n, &before, sizeof n) == 0, "a refused report alters nothing");
+    refuses(shelugvar_node_hand_out(&n, store, sizeof store, frame, sizeof frame, &length), SHELUGVAR_DONE, "a Reset");
+    must(length == 9, "a Reset's length");
+    before = n;
+    length = 7;
+    must(shelugvar_hand_out(n.node, n.book, store, sizeof store, frame, sizeof frame, &length) == 19,
+         "the archive's refusal of a second frame");
+    refuses(shelugvar_node_hand_out(&n, store, sizeof store, frame, sizeof frame, &length), SHELUGVAR_UNDER_WAY,
+            "hand out, a frame under way");
+    must(length == 7 && memcmp(&n, &before, sizeof n) == 0, "a refused handing out alters nothing");
+    must(shelugvar_node_tick(&n) == 0 && shelugvar_node_tick(&n) == 0 && shelugvar_node_tick(&n) == 0, "ticks");
+    refuses(shelugvar_node_report(&n), SHELUGVAR_DONE, "report");
+    must(shelugvar_node_tick(&n) == 0, "a tick after the report");
+    refuses(shelugvar_node_hand_out(&n, store, sizeof store, frame, sizeof frame, &length), SHELUGVAR_DONE, "none yet");
+    must(length == 0 && shelugvar_node_tick(&n) == 0, "the timer starts at the report");
+    refuses(shelugvar_node_hand_out(&n, store, sizeof store, frame, sizeof frame, &length), SHELUGVAR_DONE, "again");
+    must(length == 9, "the timer has ended");
+    refuses(shelugvar_node_close(&n, 0), SHELUGVAR_DONE, "close");
+    refuses(shelugvar_node_hand_out(&n, store, sizeof store, frame, sizeof frame, &length), SHELUGVAR_UNDER_WAY,
+            "hand out after a close");
+    refuses(shelugvar_node_setup(&n, store, sizeof store, table, sizeof table), SHELUGVAR_DONE, "setup");
+    refuses(shelugvar_node_report(&n), SHELUGVAR_NONE_UNDER_WAY, "report after a setup");
 }
 
 static void null_without_a_node(void)
@@ -187,6 +233,7 @@ int main(void)
     version();
     null_at_a_new_node();
     null_at_a_sender();
+    frame_under_way();
     null_without_a_node();
     bytes_at_fault();
     return wrong;

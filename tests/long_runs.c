@@ -5,8 +5,8 @@
  *   long_runs TRACES
  *
  * First timers by themselves, whose ends are known by hand; then random calls on two nodes whose entries name each
- * other, over a link that loses frames. Prints what was reached, and last 'N passed, M failed': a trace each, and one
- * that everything listed was reached. */
+ * other, over a link that loses frames and through ports that are quick or slow. Prints what was reached, and last 'N
+ * passed, M failed': a trace each, and one that everything listed was reached. */
 #include <stdio.h>
 #include <stdlib.h>
 #include <string.h>
@@ -40,6 +40,15 @@ enum event {
     RECOVERS_ALONE,
     CLOSED_RUNNING,
     SET_UP_RUNNING,
+    SECOND_REFUSED,
+    NONE_REFUSED,
+    STARTED_LATE,
+    STARTED_LATER,
+    DATA_ANSWERED,
+    RESET_ANSWERED,
+    CLOSED_UNDER_WAY,
+    FAILING_UNDER_WAY,
+    SET_UP_UNDER_WAY,
     EVENTS
 };
 static const char *const event_names[EVENTS] = {
@@ -57,6 +66,15 @@ static const char *const event_names[EVENTS] = {
     [RECOVERS_ALONE] = "recovery in a tick at which no timer is due",
     [CLOSED_RUNNING] = "close while the entry's timers run",
     [SET_UP_RUNNING] = "setup while timers run",
+    [SECOND_REFUSED] = "handing out refused, since a frame is under way",
+    [NONE_REFUSED] = "report refused, since none is",
+    [STARTED_LATE] = "a timer starts ticks after its frame was handed out",
+    [STARTED_LATER] = "a timer starts more than the clock's round after that",
+    [DATA_ANSWERED] = "Data is acknowledged while it is under way",
+    [RESET_ANSWERED] = "a Reset is answered while it is under way",
+    [CLOSED_UNDER_WAY] = "close while the entry's frame is under way",
+    [FAILING_UNDER_WAY] = "a Failing end waits for its frame under way alone",
+    [SET_UP_UNDER_WAY] = "setup while a frame is under way",
 };
 static unsigned long seen[EVENTS];
 
@@ -70,6 +88,7 @@ struct side {
 
 static struct side here, there; /* the sender's side, the receiver's */
 static unsigned long ticks;     /* of `here` in this trace */
+static unsigned long went_out;  /* the tick at which `here` last handed out a frame */
 static unsigned long ticks_in_all, calls;
 static const char *trace;
 static unsigned long trace_number;
@@ -133,16 +152,48 @@ static void ask_counts(struct side *s, unsigned i)
     same("confirmed", ours.confirmed, peers.confirmed);
 }
 
-/* The frame's length, 0 where nothing waits. */
+/* The frame's length, 0 where nothing waits or a frame is under way. */
 static size_t hand_out(struct side *s, uint8_t *frame)
 {
     uint8_t peers_frame[FRAME];
     size_t length = 0, peers_length = 0;
+    unsigned long refused =
+        same("hand out", shelugvar_node_hand_out(&s->ours, s->our_store, STORE, frame, FRAME, &length),
+             (unsigned long)node_hand_out(&s->peers, s->peers_store, STORE, peers_frame, FRAME, &peers_length));
 
-    same("hand out", shelugvar_node_hand_out(&s->ours, s->our_store, STORE, frame, FRAME, &length),
-         (unsigned long)node_hand_out(&s->peers, s->peers_store, STORE, peers_frame, FRAME, &peers_length));
+    seen[SECOND_REFUSED] += refused == SHELUGVAR_UNDER_WAY;
     if (same("a frame's length", length, peers_length) == peers_length)
         same("a frame", 0, memcmp(frame, peers_frame, length) != 0);
+    if (s == &here && length != 0)
+        went_out = ticks;
+    return length;
+}
+
+/* Whether the end of the frame under way is to start a timer. */
+static int starts_a_timer(const struct side *s)
+{
+    return s->peers.waiting.item[s->peers.waiting.under_way].list == LIST_TIMER_AT_END;
+}
+
+static unsigned long report(struct side *s)
+{
+    const int late = s == &here && starts_a_timer(s) && ticks > went_out;
+    unsigned long refused =
+        same("report", shelugvar_node_report(&s->ours), (unsigned long)node_frame_end(&s->peers));
+
+    seen[NONE_REFUSED] += refused == SHELUGVAR_NONE_UNDER_WAY;
+    seen[STARTED_LATE] += (unsigned long)late;
+    seen[STARTED_LATER] += late && ticks - went_out > ROUND;
+    return refused;
+}
+
+/* The same by a port that has sent the frame at once. */
+static size_t send_out(struct side *s, uint8_t *frame)
+{
+    const size_t length = hand_out(s, frame);
+
+    if (length != 0)
+        report(s);
     return length;
 }
 
@@ -227,6 +278,9 @@ static unsigned long tick(void)
     seen[SEVERAL_ENTRIES] += ending > 1;
     seen[FAILS_AND_RECOVERS] += (enabled & ~failing) != 0;
     seen[RECOVERS_ALONE] += enabled != 0 && ending == 0;
+    for (unsigned i = 0; i < count; i++)
+        seen[FAILING_UNDER_WAY] += here.peers.failing >> i & 1 && !first_timer(i) &&
+                                   has_under_way(&here.peers.waiting, i);
     return enabled;
 }
 
@@ -237,10 +291,11 @@ static void quiet_ticks(unsigned long many)
         must(tick() == 0, "an end recovers");
 }
 
-/* An acknowledgement comes in at `here`; which timer it stops is seen by what it leaves. */
+/* An acknowledgement comes in at `here`; which timer it stops, or keeps from starting, is seen by what it leaves. */
 static void take_in_here(const uint8_t *frame, size_t length)
 {
     const struct item *first[ENTRIES];
+    const int was_to_start = starts_a_timer(&here), is_data = here.peers.waiting.under_way >= ITEM_DATA;
     unsigned soonest = 0;
     uint32_t due[ENTRIES];
 
@@ -255,6 +310,8 @@ static void take_in_here(const uint8_t *frame, size_t length)
             seen[LONGEST_STOPPED] += timeouts[i] == ROUND;
             seen[STOPPED_FIRST] += i == soonest && runs_any();
         }
+    if (was_to_start && !starts_a_timer(&here))
+        seen[is_data ? DATA_ANSWERED : RESET_ANSWERED]++;
 }
 
 /* ---- two sides whose entries name each other */
@@ -290,7 +347,7 @@ static void set_up_both(void)
 static size_t go_over(void)
 {
     uint8_t frame[FRAME];
-    size_t length = hand_out(&here, frame);
+    size_t length = send_out(&here, frame);
 
     take_in(&there, frame, length);
     return length;
@@ -299,7 +356,7 @@ static size_t go_over(void)
 static size_t come_back(void)
 {
     uint8_t frame[FRAME];
-    size_t length = hand_out(&there, frame);
+    size_t length = send_out(&there, frame);
 
     take_in_here(frame, length);
     return length;
@@ -315,9 +372,10 @@ static void new_trace(const char *name, unsigned long number)
     trace_number = number;
 }
 
-/* ---- a timer by itself: started after so many ticks, it ends after T, is sent again and fails after T more */
+/* ---- a timer by itself: Data is handed out after so many ticks and its end reported some ticks later; the timer ends
+ * T after the report, Data is sent again and fails after T more */
 
-static int alone(unsigned timeout, unsigned long after)
+static int alone(unsigned timeout, unsigned long after, unsigned long under_way)
 {
     uint8_t frame[FRAME], payload[PAYLOAD] = {1};
 
@@ -330,10 +388,12 @@ static int alone(unsigned timeout, unsigned long after)
     must(go_over() == 9 && come_back() == 9, "it does not open");
     quiet_ticks(after);
     must(send_one(&here, 0, payload, PAYLOAD) == 0 && hand_out(&here, frame) == PAYLOAD + 9, "nothing is sent");
+    quiet_ticks(under_way);
+    must(report(&here) == 0, "its end is refused");
     quiet_ticks(timeout - 1);
     must(hand_out(&here, frame) == 0, "it ends too soon");
     quiet_ticks(1);
-    must(hand_out(&here, frame) == PAYLOAD + 9, "it does not end");
+    must(send_out(&here, frame) == PAYLOAD + 9, "it does not end");
     quiet_ticks(timeout - 1);
     must(tick() == 1 && hand_out(&here, frame) == 9, "it does not fail and recover");
     return differs;
@@ -392,12 +452,15 @@ static void random_send(void)
         send_one(&here, i, payload, length);
 }
 
-/* A frame goes over or comes back, if the link does not lose it. */
-static void random_frame(int over, unsigned loss)
+/* A frame goes over or comes back, if the link does not lose it. A slow port reports its end at some later step. */
+static void random_frame(int over, unsigned loss, unsigned slow)
 {
+    struct side *from = over ? &here : &there;
     uint8_t frame[FRAME];
-    size_t length = hand_out(over ? &here : &there, frame);
+    size_t length = hand_out(from, frame);
 
+    if (length != 0 && below(100) >= slow)
+        report(from);
     if (length == 0 || below(100) < loss)
         return;
     if (over)
@@ -411,11 +474,12 @@ static void random_close(void)
     unsigned i = below(count);
 
     seen[CLOSED_RUNNING] += first_timer(i) != NULL;
+    seen[CLOSED_UNDER_WAY] += has_under_way(&here.peers.waiting, i);
     close_entry(&here, i);
     open_entry(&here, i);
 }
 
-static void random_step(unsigned loss)
+static void random_step(unsigned loss, unsigned slow)
 {
     unsigned what = below(1000);
 
@@ -423,15 +487,17 @@ static void random_step(unsigned loss)
     if (what < 200)
         random_send();
     else if (what < 500)
-        random_frame(1, loss);
+        random_frame(1, loss, slow);
     else if (what < 720 && asleep == 0)
-        random_frame(0, loss);
+        random_frame(0, loss, slow);
     else if (what < 740)
         ask_counts(&here, below(count));
     else if (what < 743)
         random_close();
     else if (what < 760)
         asleep = below(60);
+    else if (what < 820)
+        report(what < 800 ? &here : &there);
     else
         tick();
 }
@@ -447,20 +513,21 @@ static int random_trace(unsigned long seed)
     random_table(short_ones);
     set_up_both();
     for (unsigned rounds = 1 + below(3); rounds > 0 && !differs; rounds--) {
-        const unsigned loss = below(3) ? below(100) : 0;
+        const unsigned loss = below(3) ? below(100) : 0, slow = below(3) ? below(60) : 0;
 
         for (unsigned k = 0; k < 1500 && !differs; k++)
-            random_step(loss);
+            random_step(loss, slow);
         const unsigned long to_go = ROUND - ticks % ROUND;
 
         for (unsigned long far = to_go - below(40) % to_go; far > 0 && !differs; far--)
             tick();
         if (below(2) == 0) {
             seen[SET_UP_RUNNING] += (unsigned long)runs_any();
+            seen[SET_UP_UNDER_WAY] += here.peers.waiting.under_way != ITEM_NONE;
             set_up_both();
         }
         for (unsigned k = 0; k < 1500 && !differs; k++)
-            random_step(loss);
+            random_step(loss, slow);
     }
     return differs;
 }
@@ -468,13 +535,14 @@ static int random_trace(unsigned long seed)
 int main(int argc, char **argv)
 {
     static const unsigned alone_timeouts[] = {1, 2, ROUND - 1, ROUND};
-    static const unsigned long afters[] = {0, 1, ROUND - 2, ROUND - 1, ROUND, ROUND + 1};
+    static const unsigned long afters[] = {0, 1, ROUND - 2, ROUND - 1, ROUND, ROUND + 1}, slows[] = {0, 3, ROUND + 1};
     unsigned long traces = argc == 2 ? strtoul(argv[1], NULL, 10) : 0, run = 0, failed = 0;
     int missing = 0;
 
     for (size_t t = 0; t < sizeof alone_timeouts / sizeof *alone_timeouts; t++)
-        for (size_t k = 0; k < sizeof afters / sizeof *afters; k++, run++)
-            failed += (unsigned long)alone(alone_timeouts[t], afters[k]);
+        for (size_t k = 0; k < sizeof afters / sizeof *afters; k++)
+            for (size_t s = 0; s < sizeof slows / sizeof *slows; s++, run++)
+                failed += (unsigned long)alone(alone_timeouts[t], afters[k], slows[s]);
     for (unsigned long seed = 1; seed <= traces; seed++, run++)
         failed += (unsigned long)random_trace(seed);
     printf("%lu traces, %lu ticks, %lu answers compared\n", run, ticks_in_all, calls);

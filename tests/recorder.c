@@ -73,8 +73,9 @@ static void each_kind(void)
     shelugvar_recorded_arrival(&recorder, &node, store, sizeof store, frame, 0, frame, 9, &arrived);
     shelugvar_recorded_tick(&recorder, &node);
     shelugvar_recorded_hand_out(&recorder, &node, store, sizeof store, frame, sizeof frame, &length);
-    must(recorder.count == 8 && recorder.left == 0, "each kind is recorded");
-    leave("each_kind", "1 1 0\n2 2 0\n3 3 0\n4 4 4\n5 5 4\n6 6 10\n7 7 0 0\n8 8 0 0\n");
+    shelugvar_recorded_report(&recorder, &node);
+    must(recorder.count == 9 && recorder.left == 0, "each kind is recorded");
+    leave("each_kind", "1 1 0\n2 2 0\n3 3 0\n4 4 4\n5 5 4\n6 6 10\n7 7 0 0\n8 8 0 0\n9 9 20\n");
 }
 
 /* What alters nothing and cannot be written down, or would not be refused by a replay, is left out. */
@@ -87,6 +88,7 @@ static void left_out(void)
     must(shelugvar_recorded_open(&recorder, &node, 0) == SHELUGVAR_NO_ENTRY && recorder.size == 0, "before a table");
     shelugvar_recorded_tick(&recorder, &node);
     must(recorder.size == 0, "a tick before a table");
+    must(shelugvar_recorded_report(&recorder, &node) != SHELUGVAR_DONE && recorder.size == 0, "a report before it");
     set_up(TABLE, sizeof TABLE);
     must(shelugvar_recorded_open(&recorder, &node, 256) == SHELUGVAR_NO_ENTRY, "an index of 256");
     must(shelugvar_recorded_send(&recorder, &node, store, sizeof store, 0, frame, 65536) == SHELUGVAR_WRONG_STATE,
@@ -99,8 +101,9 @@ static void left_out(void)
          "a short frame buffer");
     shelugvar_recorded_hand_out(&recorder, &node, store, sizeof store, frame, 9, &length);
     must(set_up(NO_TABLE, sizeof NO_TABLE) == SHELUGVAR_BAD_TABLE, "a table that is refused");
-    must(recorder.count == 3 && recorder.left == 0, "what is left out");
-    leave("left_out", "1 1 0\n2 2 0\n3 8 0 9\n");
+    must(shelugvar_recorded_report(&recorder, &node) == SHELUGVAR_DONE, "a report");
+    must(recorder.count == 4 && recorder.left == 0, "what is left out");
+    leave("left_out", "1 1 0\n2 2 0\n3 8 0 9\n4 9 0\n");
 }
 
 /* A setup begins anew; a table that is refused is a trace of its own where there is no other. */
@@ -152,6 +155,7 @@ static void without(void)
     must(shelugvar_recorded_setup(NULL, &node, store, sizeof store, TABLE, sizeof TABLE) == SHELUGVAR_DONE, "setup");
     must(shelugvar_recorded_open(NULL, &node, 0) == SHELUGVAR_DONE, "open");
     must(shelugvar_recorded_tick(NULL, &node) == 0, "tick");
+    must(shelugvar_recorded_report(NULL, &node) != SHELUGVAR_DONE, "report");
 }
 
 int main(int count, char **arguments)

@@ -90,6 +90,10 @@ def refused(t):
     t.given(tx(window=1, largest=4), rx(largest=4))
     refused_by_the_host(t)
     refused_from_the_wire(t)
+    t.begin(1, ACKNOWLEDGE, 200)
+    t.no(19, t.hand_out)
+    t.ok(t.report)
+    t.no(20, t.report)
 
 
 def refused_by_the_host(t):
@@ -208,6 +212,50 @@ def failing(t):
     t.ticks(1)
     t.nothing()
     t.send_out(1, 1)
+
+
+@scene
+def under_way(t):
+    """A frame is under way until the port reports its end, and no other is handed out before. The timers of a Reset and
+    of data start then, and not where an acknowledgement came before the report, or a close and an open; a close ends no
+    frame, a table does. A Failing end waits for its own frame, here data, whose timer then starts, and an Urgent."""
+    t.given(tx(timeout=2, retries=0))
+    t.no(20, t.report)
+    t.ok(t.open, 0)
+    t.begin(0, RESET, 0)
+    t.ok(t.close, 0)
+    t.ok(t.open, 0)
+    t.no(19, t.hand_out)
+    t.ok(t.report)  # of the old Reset; the new one waits
+    t.ticks(2)
+    t.begin(0, RESET, 0)
+    t.ticks(5)
+    t.ok(t.report)
+    t.ticks(2)
+    t.begin(0, RESET, 0)  # again, 2 ticks after the report
+    t.opens(0)
+    t.ok(t.report)
+    t.ok(t.send, 0, b"slew")
+    t.begin(0, DATA, 1, b"slew")
+    t.passes(0, 1, 1)
+    t.ok(t.report)  # acknowledged already
+    t.ticks(2)
+    t.send_out(0, 2)
+    t.ok(t.send, 0, b"stow")
+    t.begin(0, DATA, 3, b"stow")
+    t.ticks(2)  # number 2 fails, 3 is under way
+    t.ticks(3)
+    t.ok(t.report)
+    t.ticks(2, last=1)
+    t.out(0, RESET, 0)
+    t.opens(0)
+    t.send_out(0, 1)
+    t.ok(t.urgent, 0, b"stop")
+    t.begin(0, URGENT, 0, b"stop")
+    t.ticks(3)  # number 1 fails, the Urgent is under way
+    t.ok(t.report)
+    t.ticks(1, last=1)
+    t.begin(0, RESET, 0)
 
 
 @scene

@@ -249,6 +249,106 @@ def failing_for_how_long(t):
     t.out(4, RESET, 0)
 
 
+@scene
+def under_way(t):
+    """a frame is under way until its end is reported: no other goes out, and its timer starts then"""
+    t.opens(4)
+    t.no(20, t.report)
+    t.ok(t.send, 2, of(1))
+    t.begin(2, DATA, 1, of(1))
+    t.no(19, t.hand_out)  # though nothing waits
+    t.ok(t.urgent, 2, of(206))
+    t.no(19, t.hand_out)
+    t.ticks(3)  # T 2: it does not run
+    t.ok(t.report)
+    t.no(20, t.report)
+    t.begin(2, URGENT, 0, of(206))
+    t.ticks(1)
+    t.ok(t.report)  # an Urgent has no timer
+    t.ticks(1, last=0b100)  # M 0, T 2 from its report on
+
+
+@scene
+def acknowledged_meanwhile(t):
+    """acknowledged before the report: that counts, and no timer starts; not of a later number in its slot either"""
+    t.begin(2, RESET, 0)
+    t.opens(2)
+    t.ok(t.report)
+    t.ok(t.send, 4, of(1))
+    t.begin(4, DATA, 1, of(1))
+    t.passes(4, 1, 1)
+    t.ok(t.report)
+    t.ok(t.send, 4, of(2))
+    t.begin(4, DATA, 2, of(2))
+    t.passes(4, 2, 1)
+    for number in (3, 4):  # W 2: 4 is where 2 was
+        t.ok(t.send, 4, of(number))
+    t.ok(t.report)
+    t.ticks(3)  # T 3
+    t.out(4, DATA, 3, of(3))
+
+
+@scene
+def closed_meanwhile(t):
+    """closed before the report, and opened again: no timer starts; the new Reset's own report starts its own"""
+    t.begin(4, DATA, 4, of(4))
+    t.ok(t.close, 4)
+    t.no(19, t.hand_out)
+    t.ok(t.report)
+    t.ok(t.open, 4)
+    t.begin(4, RESET, 0)
+    t.ok(t.close, 4)
+    t.ok(t.report)
+    t.ok(t.open, 4)
+    t.begin(4, RESET, 0)
+    t.ok(t.close, 4)
+    t.ok(t.open, 4)
+    t.ignores(4, 0)  # the Reset of this run waits
+    t.ok(t.report)
+    t.ticks(3)
+    t.out(4, RESET, 0)
+    t.opens(4)
+    t.ok(t.send, 4, of(1))
+    t.begin(4, DATA, 1, of(1))
+    t.ok(t.close, 4)
+    t.ok(t.open, 4)
+    t.ok(t.report)
+    t.ticks(3)
+    t.out(4, RESET, 0)  # once
+    t.ok(t.close, 4)
+    t.nothing()
+
+
+@scene
+def failing_with_its_frame_under_way(t):
+    """Failing waits for its own frame: data, whose timer then starts; data that was acknowledged; an Urgent"""
+    for acknowledged in (False, True):
+        t.send_out(2, 1)
+        t.ok(t.send, 2, of(2))
+        t.begin(2, DATA, 2, of(2))
+        t.ticks(3)  # M 0, T 2: number 1 fails; 2 is under way
+        if acknowledged:
+            t.passes(2, 2, 0)
+            t.ticks(1)
+        t.ok(t.report)
+        t.ticks(1 if acknowledged else 2, last=0b100)
+        t.out(2, RESET, 0)
+        t.opens(2)
+    t.send_out(2, 1)
+    t.ok(t.urgent, 2, of(207))
+    t.begin(2, URGENT, 0, of(207))
+    t.ticks(3)
+    t.ok(t.report)
+    t.ticks(1, last=0b100)
+    t.out(2, RESET, 0)
+    t.opens(2)
+    t.send_out(2, 1)
+    t.ok(t.urgent, 0, of(208))
+    t.begin(0, URGENT, 0, of(208))  # another entry's
+    t.ticks(2, last=0b100)
+    t.ok(t.report)
+
+
 def trace():
     """The whole trace, and the scene of each of its records; the table is of none."""
     out, scenes = Corner("machine"), [""]
@@ -319,6 +419,7 @@ CALLS = {
     model.URGENT_CALL: lambda v: "urges %d %s" % (v.index, argument(v.data)),
     model.ARRIVAL_CALL: lambda v: "arrives (lent %d) %s" % (lent(v), argument(v.data)),
     model.HAND_OUT_CALL: lambda v: "hands-out (lent %d)" % lent(v),
+    model.REPORT_CALL: lambda v: "reports",
     model.TICK_CALL: lambda v: "ticks",
 }
 
@@ -375,7 +476,8 @@ use Rattle.frame.specs.Layout.{payloadOf, headBytes, bodyBytes, frameBytes}
 use Rattle.frame.specs.Reading.{soundOf, headerOf}
 use Rattle.arrive_lookup.specs.Fitting.{fits}
 use Rattle.blocks.specs.Blocks.{offsets, joinedUp, blockOf}
-use Rattle.machine.specs.Calls.{Call, opens, closes, counts, sends, urges, arrives, hands-out, ticks, Answer}
+use Rattle.machine.specs.Calls.{Call, opens, closes, counts, sends, urges, arrives, hands-out, reports, ticks}
+use Rattle.machine.specs.Calls.{Answer}
 use Rattle.machine.specs.Machine as machine
 use Rattle.machine.specs.Machine.{Machine, begun, step}
 
@@ -421,6 +523,7 @@ lineOf (sends i p) a = a .numbers
 lineOf (urges i p) a = a .numbers
 lineOf (arrives block f) a = a .numbers ++ take (blockLength (a .numbers)) (a .out)
 lineOf (hands-out buffer) a = a .numbers ++ take (frameLength (a .numbers)) (a .out)
+lineOf reports a = a .numbers
 lineOf ticks a = 0 ∷ a .numbers
 
 -- call after call, from a machine on
@@ -441,8 +544,8 @@ unfolding get16Of be32 defaultSize timesX timesXs stepByte checkFrom entryOf ent
     machine.without machine.enabled machine.listed machine.opening machine.closing machine.counting machine.sending
     machine.urgentSending machine.ackedRun machine.running machine.acking machine.heldCount machine.heldRun
     machine.receiving machine.resetting machine.takenIn machine.placeOf machine.reading machine.arriving machine.frameOf
-    machine.goingOut machine.inOrder machine.handingOut machine.tickedAll machine.anySpent machine.againFrom
-    machine.ticked machine.each machine.bitsFrom machine.ticking
+    machine.goingOut machine.inOrder machine.handingOut machine.reported machine.reporting machine.tickedAll
+    machine.anySpent machine.againFrom machine.ticked machine.each machine.bitsFrom machine.ticking
 computes = tt
 
 pub vectors-agree : machines (begun table room) vectors ≡ peers vectors
@@ -459,7 +562,7 @@ def whole_file(found):
 
 # 4. THE CHECK
 
-REFUSED = {2, 3, 4, 5, 7, 9, 10, 11, 13, 14, 15, 16, 17, 18}
+REFUSED = {2, 3, 4, 5, 7, 9, 10, 11, 13, 14, 15, 16, 17, 18, 19, 20}
 ARRIVED = {model.IGNORED, model.ACKNOWLEDGED, model.OPENED, model.TOOK_RESET, model.TOOK_DATA, model.TOOK_URGENT}
 TYPES = {DATA, ACKNOWLEDGE, RESET, URGENT}
 LEFT_OUT = {
@@ -468,7 +571,7 @@ LEFT_OUT = {
     "acknowledgement at Failing passes more", "acknowledgement at Failing ignored, outside",
     "acknowledgement at Failing ignored, again", "acknowledgement at Failing ignored, not handed out",
     "a timer of T 65,535 starts",  # would take 65,535 ticks to show more than that
-    "setup while timers run",  # setup is no call of the machine
+    "setup while timers run", "setup while a frame is under way",  # setup is no call of the machine
 }
 EVENTS = set(coverage.TRANSITIONS + coverage.EVENTS) - LEFT_OUT
 

@@ -60,8 +60,8 @@ RUN = {
 }
 QUEUES = {"RESETS": "Resets", "URGENTS": "Urgents", "RESENDS": "retransmissions", "DATAS": "data"}
 # and the others, which say where parts begin and how many there are
-PARTS = {"NODE_WORDS", "ACK_AT", "ACK_PLACES", "ROW_AT", "ENTRY_AT", "ENTRY_WORDS", "BOOK_HALVES", "QUEUES", "RESET_ID",
-         "URGENT_ID", "CELL_ID", "CELLS", "PREV_AT", "LENGTH_AT", "TIMER_AT", "RETRIES_AT"}
+PARTS = {"NODE_WORDS", "ACK_AT", "ACK_PLACES", "ROW_AT", "ENTRY_AT", "ENTRY_WORDS", "BOOK_HALVES", "QUEUES", "UNDER_AT",
+         "RESET_ID", "URGENT_ID", "CELL_ID", "CELLS", "PREV_AT", "LENGTH_AT", "TIMER_AT", "RETRIES_AT"}
 
 LINE, WIDE, GAP, MARGIN, TOP = 17, 360, 26, 20, 96
 BLUE, GREEN, YELLOW, RED, VIOLET, WHITE = "#e6eef9", "#e3f1e5", "#fff3d6", "#f7e3e3", "#ece6f5", "#ffffff"
@@ -130,8 +130,11 @@ def entry(c: dict[str, int]) -> list[Part]:
 def book(c: dict[str, int]) -> list[Part]:
     cells = ENTRIES * c["CELLS"]
     queues = [QUEUES[name] for name in sorted(QUEUES, key=c.__getitem__)]
+    if not c["QUEUES"] <= c["UNDER_AT"] < c["RESET_ID"]:
+        raise BadLayout("layout.rt: what is under way does not lie between the queues and the first Reset")
     links = [f"0 to {c['QUEUES'] - 1}  the queues: " + ", ".join(queues[:2]) + ",",
              "            " + ", ".join(queues[2:]),
+             f"{c['UNDER_AT']}  no link: what is under way, or 0",
              f"{c['RESET_ID']} + i  entry i's Reset", f"{c['URGENT_ID']} + i  entry i's Urgent",
              f"{c['CELL_ID']} + g  the payload in cell g"]
     return whole([
@@ -140,7 +143,8 @@ def book(c: dict[str, int]) -> list[Part]:
              [f"at {c['PREV_AT']} + x, x as above"], VIOLET),
         Part(c["LENGTH_AT"], c["LENGTH_AT"] + cells - 1, "lengths", ["of the payload in cell g"], YELLOW),
         Part(c["TIMER_AT"], c["TIMER_AT"] + cells - 1, "timers",
-             ["of cell g: the tick at which it runs out,", "0 where it does not run"], YELLOW),
+             ["of cell g: the tick at which it runs out, 0 where it", "does not run, 1 while its frame is under way"],
+             YELLOW),
         Part(c["RETRIES_AT"], c["RETRIES_AT"] + cells - 1, "retries",
              ["of cell g", f"cell g = {c['CELLS']} x i + k is slot k of entry i"], YELLOW),
     ], c["BOOK_HALVES"])

@@ -1,8 +1,8 @@
 #!/usr/bin/env python3
 """Calls in words, a line each, to the records that `desk` reads: standard input to standard output.
 
-    table BYTE..        open INDEX       send INDEX BYTE..      arrival BYTE..      hand_out
-                        close INDEX      urgent INDEX BYTE..    tick                counts INDEX
+    table BYTE..        open INDEX       send INDEX BYTE..      arrival BYTE..      hand_out      counts INDEX
+                        close INDEX      urgent INDEX BYTE..    tick                report
 
 Bytes are decimal numbers, as `desk` prints them, so a frame that one node handed out is the arrival of another.
 """

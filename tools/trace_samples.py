@@ -50,9 +50,19 @@ class Side:
         for payload in payloads:
             self.call(files.SEND, index, payload)
 
-    def out(self) -> bytes:
-        """The frame that is handed out next; none where nothing waits."""
+    def begin(self) -> bytes:
+        """The frame that is handed out next and is under way then; none where nothing waits."""
         return bytes(self.call(files.HAND_OUT).fields[1:])
+
+    def report(self) -> None:
+        self.call(files.REPORT)
+
+    def out(self) -> bytes:
+        """The same by a quick port, which reports the frame's end at once."""
+        frame = self.begin()
+        if frame:
+            self.report()
+        return frame
 
     def take(self, frame: bytes) -> None:
         self.call(files.ARRIVAL, 0, frame)
@@ -125,7 +135,8 @@ def moves(*degrees: int) -> list[bytes]:
 @sample
 def morning() -> list[Sample]:
     """A pedestal's morning: both ends open, a plan of six moves goes up and readings come down, frames are lost,
-    damaged, late and twice, and are sent again; an Urgent goes before all data; then both close."""
+    damaged, late and twice, and are sent again; an Urgent goes before all data; the last move is under way for longer
+    than its timer runs, which starts when it has left; then both close."""
     net = link()
     ground, pedestal = net.ground, net.pedestal
     net.open()
@@ -141,8 +152,14 @@ def morning() -> list[Sample]:
     net.pass_on(ground, "passed", "damaged", "passed")
     net.ticks(4)
     net.drain()
-    ground.send(SENDER, *moves(50, 60))
+    ground.send(SENDER, *moves(50))
     ground.call(files.URGENT, SENDER, b"slow")
+    net.drain()
+    ground.send(SENDER, *moves(60))
+    slow = ground.begin()
+    net.ticks(5)  # T is 4
+    ground.report()
+    pedestal.take(slow)
     net.drain()
     net.ticks(1)
     for side in (ground, pedestal):
@@ -223,6 +240,10 @@ def refusals() -> list[Sample]:
     side.take(frame(DATA, 1))
     side.take(header(frame(RESET, 0), b7=1))
     side.take(frame(URGENT, 0, b"bell"))
+    side.begin()
+    side.begin()  # 19: a frame is under way
+    side.report()
+    side.report()  # 20: none is
     return [("refusals", side.records), ("refused_table", [Record(files.TABLE, 0, b"\0\1"), Record(files.TICK)])]
 
 

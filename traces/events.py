@@ -56,6 +56,8 @@ class Event:
     out: Frame | None = None
     arrived: Frame | None = None
     again: bool = False  # a frame that has gone out before
+    begun: Event | None = field(default=None, compare=False)  # of a report, the handing out of the frame that has ended
+    ended: Event | None = field(default=None, compare=False)  # of a handing out, the report of that frame's end, if any
     starts: dict[int, int] = field(default_factory=dict)  # by channel, where a window starts now that moved
     ticks: int = 0
 
@@ -66,6 +68,11 @@ class Event:
     @property
     def idle(self) -> bool:
         return self.words == NOTHING
+
+    @property
+    def at_once(self) -> bool:
+        """A report that is the next record behind its handing out."""
+        return self.begun is not None and self.number == self.begun.number + 1
 
     @property
     def out_data(self) -> bytes:
@@ -115,6 +122,7 @@ class Reader:
 
     def __init__(self, side: int, records: list[Record], answers: list[list[int]]) -> None:
         self.side, self.tick = side, 0
+        self.under_way: Event | None = None  # the handing out whose frame has not ended
         self.own = words.Side(records[0].data).own
         try:
             self.ends = list(map(End, model.read_table(records[0].data)[2]))
@@ -129,6 +137,8 @@ class Reader:
             self.arrival(event, Frame(record.data), answer)
         elif record.kind == files.HAND_OUT:
             self.hand_out(event, answer)
+        elif record.kind == files.REPORT:
+            self.report(event)
         elif record.kind == files.TICK:
             self.ticked(event, answer[1])
         else:
@@ -173,16 +183,27 @@ class Reader:
 
     def hand_out(self, event: Event, answer: list[int]) -> None:
         if event.refused or answer[1] == 0:
-            event.words = "" if event.refused else NOTHING
+            event.words = "hand out" if event.refused else NOTHING
             return
         frame = Frame(bytes(answer[2:]))
         event.out = frame
+        self.under_way = event
         end = self.find(frame.type != "Acknowledge", frame.data[0], frame.channel)
         if frame.type == "Data":
             event.again = frame.number in end.seen
             end.seen.add(frame.number)
         elif frame.type == "Reset":
             event.again, end.reset_out = end.reset_out, True
+
+    def report(self, event: Event) -> None:
+        """The end of the frame under way, in words where it does not follow at once."""
+        if self.under_way is None or event.refused:
+            event.words = "report"
+            return
+        event.begun, self.under_way.ended = self.under_way, event
+        if self.under_way.out and not event.at_once:
+            event.words = self.under_way.out.name + " has left"
+        self.under_way = None
 
     def arrival(self, event: Event, frame: Frame, answer: list[int]) -> None:
         event.arrived = frame

@@ -1,12 +1,13 @@
-"""The trace file of change request K2: a node's recorded calls, behind a header that says where each begins."""
+"""The trace file of change request K2, with the report that K3 adds: a node's recorded calls, behind a header that says
+where each begins."""
 from __future__ import annotations
 
 from collections.abc import Sequence
 from dataclasses import dataclass
 
-TABLE, OPEN, CLOSE, SEND, URGENT, ARRIVAL, TICK, HAND_OUT = range(1, 9)
+TABLE, OPEN, CLOSE, SEND, URGENT, ARRIVAL, TICK, HAND_OUT, REPORT = range(1, 10)
 NAMES = {TABLE: "table", OPEN: "open", CLOSE: "close", SEND: "send", URGENT: "urgent", ARRIVAL: "arrival", TICK: "tick",
-         HAND_OUT: "hand_out"}
+         HAND_OUT: "hand_out", REPORT: "report"}
 TAKES_INDEX = {OPEN, CLOSE, SEND, URGENT}
 TAKES_BYTES = {TABLE, SEND, URGENT, ARRIVAL}
 

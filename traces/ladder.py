@@ -1,4 +1,5 @@
-"""The picture of a trace as a ladder: time goes downwards, a frame is an arrow from end to end.
+"""The picture of a trace as a ladder: time goes downwards, a frame is an arrow from end to end. A bar on an end's line
+shows how long a frame of its was under way, from handing out to the report.
 
 What came twice is drawn twice, what came damaged as damaged, what did not come as lost (matching.py says how that is
 found). Of one trace the other end is a dashed line, and what became of a frame there is not known."""
@@ -16,11 +17,12 @@ LEFT = START + NOTES
 RIGHT = LEFT + GAP
 MIDDLE = LEFT + GAP // 2
 REACH = 170
+BAR = 9  # how far the bar of a frame goes down whose end is reported at once
 COLOURS = {"Data": "#1f5fa8", "Acknowledge": "#6b7280", "Reset": "#8a4b08", "Urgent": "#a3147f", "": "#444444"}
 INK, QUIET, REFUSED, DELIVERED = "#222222", "#8a8f98", "#b3261e", "#1b7a2f"
 BOLD, HALO, SMALL, DASHES = ' font-weight="bold"', ' class="frame"', ' class="start"', ' stroke-dasharray="6 3"'
 
-# 1. ROWS: several ticks in a row are one
+# 1. ROWS: several ticks in a row are one, and so are a handing out and a report that follows at once
 
 
 class Row:
@@ -33,6 +35,9 @@ class Row:
 
     def takes(self, event: Event) -> bool:
         """Ticks go into the row of the ticks before them; behind one that did something, only the other end's."""
+        if event.at_once:
+            self.events.append(event)
+            return True
         told = any(e.words for e in self.events)
         if not event.ticks or not any(self.ticks) or told and self.ticks[event.side] >= self.ticks[1 - event.side]:
             return False
@@ -84,6 +89,7 @@ class Picture:
         self.before, self.rows, self.after = rows[:begin], rows[begin:begin + most], rows[begin + most:]
         self.top = TOP + (CUT if self.before else 0)
         self.place = {e.key: self.top + ROW * k for k, row in enumerate(self.rows) for e in row.events}
+        self.above = {e.key for row in self.before for e in row.events}
         self.bottom = self.top + ROW * len(self.rows)
         self.high = self.bottom + 14 + (CUT if self.after else 0)
         self.wide = RIGHT + (NOTES if len(sides) == 2 else 0) + START
@@ -132,6 +138,20 @@ class Picture:
         yield way(self.x(1 - here), above, self.x(here), y, colour, False)
         yield self.label(1 - here, above, frame, False, colour)
 
+    def under_way(self) -> Iterator[str]:
+        """The bars; those of frames that are not reported go on to the end."""
+        for event in (event for reader in self.sides for event in reader.events):
+            begin, end = self.height(event), self.height(event.ended) if event.ended else self.bottom
+            if event.out is not None and begin != end:
+                x = self.x(event.side)
+                yield stroke(x, begin, x, end, COLOURS[event.out.type], ' stroke-width="5"')
+
+    def height(self, event: Event) -> float:
+        """Where an event stands, or the edge beyond which it is left out."""
+        if event.key in self.place:
+            return self.place[event.key] + (BAR if event.at_once else 0)
+        return self.top - ROW if event.key in self.above else self.bottom
+
     # a row
 
     def event(self, event: Event, y: float) -> Iterator[str]:
@@ -169,11 +189,13 @@ class Picture:
             yield text(RIGHT, 22, "the other end", QUIET, "middle", ' font-size="14"')
 
     def legend(self) -> Iterator[str]:
-        x = LEFT - 60
+        x = LEFT - 110
         for name, colour in COLOURS.items():
             yield stroke(x, 56, x + 24, 56, colour, ' stroke-width="2"' + ("" if name else DASHES))
             yield text(x + 28, 60, name or "again", colour)
-            x += 50 + 8 * len(name)
+            x += 50 + 8 * len(name or "again")
+        yield stroke(x, 50, x, 62, INK, ' stroke-width="5"')
+        yield text(x + 6, 60, "under way", INK)
 
     def lifelines(self) -> Iterator[str]:
         for side in range(2):
@@ -197,10 +219,10 @@ class Picture:
         placed = [(row, self.top + ROW * k) for k, row in enumerate(self.rows)]
         for row, y in placed:  # ticks first, so that no arrow ends behind them
             out += self.ticks(row, y) if any(row.ticks) else ()
-        out += self.lifelines()
+        out += [*self.lifelines(), *self.under_way()]
         for row, y in placed:
             for event in row.events:
-                out += self.event(event, y) if event.words or not event.ticks else ()
+                out += self.event(event, y) if event.words or not (event.ticks or event.at_once) else ()
         return "\n".join(filter(None, [*out, *self.cuts(), "</svg>"])) + "\n"
 
 

@@ -65,8 +65,10 @@ def in_order(sides: list[Reader], matched: Matched) -> list[Event]:
 
     while any(left):
         heads = [events[0] for events in left if events]
-        # else the end that is behind in ticks goes on
-        heads.sort(key=lambda e: (not may_go(e), e.tick, e.ticks, not is_due(e.side), e.side))
+        # a report that came at once stays with its handing out; else the end that is behind in ticks goes on, and a
+        # report goes before what arrives at the other end
+        heads.sort(key=lambda e: (not e.at_once, not may_go(e), e.tick, e.ticks, not e.begun, not is_due(e.side),
+                                  e.side))
         event = heads[0]
         if not may_go(event):  # the two traces are not of one time: an arrow would go back
             del matched.source[event.key]

@@ -3,12 +3,13 @@
     table OWN PROTOCOL [sends REMOTE CHANNEL RETRIES WINDOW LARGEST TIMEOUT | receives REMOTE CHANNEL WINDOW LARGEST]..
     open INDEX        send INDEX PAYLOAD        arrival Data SOURCE CHANNEL NUMBER PAYLOAD       tick
     close INDEX       urgent INDEX PAYLOAD      arrival Acknowledge SOURCE CHANNEL NUMBER        hand_out
-                                                arrival Reset SOURCE CHANNEL
+                                                arrival Reset SOURCE CHANNEL                     report
                                                 arrival Urgent SOURCE CHANNEL PAYLOAD
 
 Numbers are decimal, payloads hexadecimal, with or without spaces between bytes. A frame that arrives goes to the
 table's own address, with its protocol ID, and its length and check byte fit. `table hex BYTES` and `arrival hex BYTES`
-are for all others, damaged ones too. What follows a # is for the reader, and so is an empty line."""
+are for all others, damaged ones too. A report is the port's, that the frame handed out last has ended. What follows a #
+is for the reader, and so is an empty line."""
 from __future__ import annotations
 
 from collections.abc import Iterator

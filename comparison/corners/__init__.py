@@ -11,6 +11,7 @@ from comparison.corners import acknowledging
 from comparison.corners import failing
 from comparison.corners import ticks
 from comparison.corners import handing_out
+from comparison.corners import reporting
 from comparison.corners import slots
 from comparison.corners import addresses
 from comparison.corners import timers

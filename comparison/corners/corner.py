@@ -51,10 +51,16 @@ class Corner(trace.Trace):
 
     # handing out
 
-    def out(self, index: int, control: int, sequence: int, payload: bytes = b"") -> None:
+    def begin(self, index: int, control: int, sequence: int, payload: bytes = b"") -> None:
+        """A frame is handed out, and is under way from then on."""
         entry = self.node.ends[index].entry
         frame = model.frame(entry.remote, PROTOCOL, OWN, control, entry.channel, sequence, payload)
         self.ok(self.hand_out, gives=[len(frame)] + list(frame))
+
+    def out(self, index: int, control: int, sequence: int, payload: bytes = b"") -> None:
+        """A frame is handed out, and its end reported before anything else happens."""
+        self.begin(index, control, sequence, payload)
+        self.ok(self.report)
 
     def nothing(self) -> None:
         self.ok(self.hand_out, gives=[0])
@@ -109,7 +115,7 @@ class Corner(trace.Trace):
                 self.out(index, ACKNOWLEDGE, 0)
 
     def send_out(self, index: int, *sequences: int) -> None:
-        """Sends and hands out a payload for each number, which are the next."""
+        """Sends and hands out a payload for each number, which are the next, and reports the ends."""
         for sequence in sequences:
             self.ok(self.send, index, b"%d" % sequence)
             self.out(index, DATA, sequence, b"%d" % sequence)

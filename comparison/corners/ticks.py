@@ -118,23 +118,3 @@ def timeout_longer_than_a_byte(t: Corner) -> None:
     t.ticks(4999)
     t.nothing()
     t.ticks(1, last=1)
-
-
-@corner
-def timer_starts_at_handing_out(t: Corner) -> None:
-    t.given(tx(timeout=2, retries=1))
-    t.ok(t.open, 0)
-    t.ticks(9)
-    t.out(0, RESET, 0)
-    t.nothing()
-    t.opens(0)
-    t.ok(t.send, 0, b"1")
-    t.ticks(9)
-    t.out(0, DATA, 1, b"1")
-    t.ticks(1)
-    t.nothing()
-    t.ticks(1)
-    t.ticks(9)  # a waiting retransmission has no timer
-    t.out(0, DATA, 1, b"1")
-    t.ticks(1)
-    t.ticks(1, last=1)

@@ -39,7 +39,9 @@ def open_both(a: Corner, b: Corner, channel: history.Channel) -> None:
 
 
 def handed_out(t: Corner) -> bytes:
-    return bytes(t.hand_out().fields[1:])
+    frame = bytes(t.hand_out().fields[1:])
+    t.ok(t.report)
+    return frame
 
 
 def take_in(b: Corner, channel: history.Channel, carried: history.Carried) -> None:

@@ -76,11 +76,11 @@ ackAnswer e (Failing n) s = pick (counts (e .run) s) (was.Acknowledged (passing 
 
 -- ---- what it leaves
 
--- a Reset that waits again goes (one waits where its timer, at t, does not run) [E10]
+-- a Reset that waits again goes (one waits where its timer's place, t, is 0) [E10]
 abbrev pub resetGone : List ℕ → ℕ → ℕ → List ℕ
 resetGone b i t = pick (eqb t 0) (unlinked b (resetId i)) b
 
--- its timer stops; a waiting retransmission goes (at Open one waits where the timer does not run) [A3]
+-- its timer stops; a waiting retransmission goes (at Open one waits where the timer's place is 0) [A3]
 unfoldable pub stopped : List ℕ → ℕ → List ℕ
 stopped b g = set (pick (eqb (timerIn b g) 0) (unlinked b (cellId g)) b) (timerAt g) 0
 

@@ -124,7 +124,7 @@ fn at_enabled(
     Was::Opened
 }
 
-// The timer of cell g stops, and a waiting retransmission goes: at Open one waits where the timer does not run.
+// The timer of cell g stops, and a waiting retransmission goes: at Open one waits where the timer's place is 0.
 fn stop(book: &mut [u16], g: u16)
     requires { ⌜ g < 33024 ⌝ }
     ensures { λ _. ⌜ now (book .exit) ≡ stopped (now (book .entry)) g ⌝ }

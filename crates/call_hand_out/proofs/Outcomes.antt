@@ -18,6 +18,7 @@ use Rattle.end_points.specs.Lent.{Lent}
 use Rattle.end_points.specs.declared.answers.HandedOut.{HandedOut}
 use Rattle.end_points.specs.declared.answers.HandedOut.the-variants.{Length, Refused}
 use Rattle.call_hand_out.specs.declared.Next.{Next}
+use Rattle.waiting.specs.Port.{underIn}
 use Rattle.call_hand_out.specs.Handing.{nextOut, frameOut, fitted, once, outNode, outBook, handOutAnswer, handOutAfter}
 
 -- ---- the buffer
@@ -56,6 +57,7 @@ after-next x n (Length k) h = rw h
 
 pub outcome :
     (x : Lent) (n : Next) (r : HandedOut) (ws b f : List ℕ) →
+    underIn (x .book) ≡ 0 →
     ltb (length (x .store)) (needIn (x .node)) ≡ false →
     nextOut (x .node) (x .book) ≡ n →
     r ≡ fitted (x .out) (frameOut x n) →
@@ -64,4 +66,5 @@ pub outcome :
     f ≡ once r (x .out) (sets (x .out) 0 (frameOut x n)) →
     (r ≡ handOutAnswer x) × (record { node = ws; book = b; store = x .store; out = f } ≡ handOutAfter x r)
 unfolding handOutAnswer
-outcome x n r ws b f long next answer node book out = (rw (long, next) answer, rw (node, book, out) (after-next x n r next))
+outcome x n r ws b f none long next answer node book out =
+    (rw (none, long, next) answer, rw (node, book, out) (after-next x n r next))

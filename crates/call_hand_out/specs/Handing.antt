@@ -1,18 +1,19 @@
 -- Handing out, one frame a call: which answer, and what all that was lent holds afterwards. Cited by the call.
 -- Assumes nothing.
 use Prim.Native.Nat.{ℕ, _+_, _%_}
-use mathlib.Core.Bool.{true}
+use mathlib.Core.Bool.{true, not}
 use mathlib.Core.List.{List, []}
 use lib.ListN.{length, take, drop, set}
 use lib.Seq.{sets}
-use lib.Dec.{leb, ltb}
+use lib.Dec.{eqb, leb, ltb}
 use Rattle.units.specs.Refusals.{pick}
 use Rattle.units.specs.declared.refusals.Refusal.the-variants as refusal
 use Rattle.memory.specs.Layout.{entryAt, handedWord, resets, urgents, resends, datas, queues, timerAt}
 use Rattle.memory.specs.Layout.{resetEntry, urgentEntry, idCell, idEntry, idSlot}
-use Rattle.timing.specs.Timing.{clockIn, later, heeded}
+use Rattle.timing.specs.Timing.{standing}
 use Rattle.waiting.specs.Queues.{nextOf, unlinked}
 use Rattle.waiting.specs.Acks.{waitingOf, oldestOf, ackOf, popped}
+use Rattle.waiting.specs.Port.{underIn, begun}
 use Rattle.waiting.specs.declared.acks.Ack.{Ack}
 use Rattle.table.specs.declared.Entry.{Entry}
 use Rattle.frame.specs.Layout.{frameBytes}
@@ -98,17 +99,18 @@ frameOut x (next.Urgent n) = urgentFrame (x .node) (x .store) n
 frameOut x (next.Resend n) = dataFrame (x .node) (x .book) (x .store) n
 frameOut x (next.Data n) = dataFrame (x .node) (x .book) (x .store) n
 
--- ---- the answer: 6 for the store, then with something waiting 6 for the frame buffer
+-- ---- the answer: 19, then 6 for the store, then with something waiting 6 for the frame buffer
 
 -- a frame and its buffer [H4, H5, R6]
 abbrev pub fitted : List ℕ → List ℕ → HandedOut
 fitted out f = pick (ltb (length out) (length f)) (Refused refusal.TooShort) (Length (length f))
 
--- 6 for the store, then the frame and its buffer [R38, R42]
+-- 19 while a frame is under way, then 6 for the store, then the frame and its buffer [H8, R19, R38, R42]
 unfoldable pub handOutAnswer : Lent → HandedOut
 handOutAnswer x =
-    pick (ltb (length (x .store)) (needIn (x .node))) (Refused refusal.TooShort)
-    (fitted (x .out) (frameOut x (nextOut (x .node) (x .book))))
+    pick (not (eqb (underIn (x .book)) 0)) (Refused refusal.UnderWay)
+    (pick (ltb (length (x .store)) (needIn (x .node))) (Refused refusal.TooShort)
+    (fitted (x .out) (frameOut x (nextOut (x .node) (x .book)))))
 
 -- ---- what it leaves
 
@@ -129,10 +131,9 @@ handedRun r =
       urgent = r .urgent;
     }
 
--- a Reset's timer starts at T, and one went out [E2, D2]
+-- a Reset went out; its timer stands while it is under way [E2, D2]
 abbrev pub resetNode : List ℕ → ℕ → EndPoint → List ℕ
-resetNode ws i e =
-    heeded (saved ws i (Enabled (later (clockIn ws) (e .entry .timeout)) true) (e .run)) (e .entry .timeout)
+resetNode ws i e = saved ws i (Enabled standing true) (e .run)
 
 -- its Urgent waits no more [H1]
 abbrev pub urgentNode : List ℕ → ℕ → EndPoint → List ℕ
@@ -143,33 +144,35 @@ urgentNode ws i e = saved ws i (e .state) (urgentGone (e .run))
 abbrev pub handedNode : List ℕ → ℕ → Run → List ℕ
 handedNode ws i r = set ws (entryAt i + handedWord) ((r .handed + 1) % 256)
 
--- so of data; its timer starts, as that of a retransmission does [D2]
-abbrev pub dataNode : List ℕ → ℕ → EndPoint → List ℕ
-dataNode ws i e = heeded (handedNode ws i (e .run)) (e .entry .timeout)
+-- a slot's timer stands while its frame is under way [D2]
+abbrev pub stood : List ℕ → ℕ → List ℕ
+stood b n = set (unlinked b n) (timerAt (idCell n)) standing
 
-abbrev pub againNode : List ℕ → EndPoint → List ℕ
-againNode ws e = heeded ws (e .entry .timeout)
+-- a frame of entry i with number s goes under way [H8]
+abbrev pub sent : List ℕ → FrameType → ℕ → ℕ → List ℕ
+sent b t i s = begun b (typeNumber t) i s
 
--- a slot's timer starts at T [D2]
-abbrev pub timed : List ℕ → List ℕ → ℕ → List ℕ
-timed ws b n = set (unlinked b n) (timerAt (idCell n)) (later (clockIn ws) (endOf ws (idEntry n) .entry .timeout))
+-- so does the data in a slot, first time or again [D2, H8]
+unfoldable pub dataSent : List ℕ → List ℕ → ℕ → List ℕ
+dataSent ws b n =
+    sent (stood b n) type.Data (idEntry n) (numberIn (endOf ws (idEntry n) .run .window) (idSlot n))
 
--- what each sort leaves of node and book [D2, H1]
+-- what each sort leaves of node and book [D2, H1, H8]
 unfoldable pub outNode : List ℕ → Next → List ℕ
 outNode ws next.Nothing = ws
 outNode ws (next.Ack a) = popped ws
 outNode ws (next.Reset n) = resetNode ws (resetEntry n) (endOf ws (resetEntry n))
 outNode ws (next.Urgent n) = urgentNode ws (urgentEntry n) (endOf ws (urgentEntry n))
-outNode ws (next.Resend n) = againNode ws (endOf ws (idEntry n))
-outNode ws (next.Data n) = dataNode ws (idEntry n) (endOf ws (idEntry n))
+outNode ws (next.Resend n) = ws
+outNode ws (next.Data n) = handedNode ws (idEntry n) (endOf ws (idEntry n) .run)
 
 unfoldable pub outBook : List ℕ → List ℕ → Next → List ℕ
 outBook ws b next.Nothing = b
-outBook ws b (next.Ack a) = b
-outBook ws b (next.Reset n) = unlinked b n
-outBook ws b (next.Urgent n) = unlinked b n
-outBook ws b (next.Resend n) = timed ws b n
-outBook ws b (next.Data n) = timed ws b n
+outBook ws b (next.Ack a) = sent b type.Acknowledge (a .entry) (a .seq .0)
+outBook ws b (next.Reset n) = sent (unlinked b n) type.Reset (resetEntry n) 0
+outBook ws b (next.Urgent n) = sent (unlinked b n) type.Urgent (urgentEntry n) 0
+outBook ws b (next.Resend n) = dataSent ws b n
+outBook ws b (next.Data n) = dataSent ws b n
 
 -- the frame stands at the buffer's start, and the bytes after it stay [H1, H4]
 abbrev pub handedOut : Lent → Next → Lent

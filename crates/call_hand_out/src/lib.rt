@@ -1,5 +1,5 @@
 // Handing out: one frame a call, acknowledgements first, then Resets, Urgents, retransmissions, data; each sort in
-// the order in which it began to wait.
+// the order in which it began to wait. The frame is under way then, and no other goes out before its end is reported.
 // Proved: the answer, and what node, book and frame buffer hold afterwards, are those of specs/Handing.antt, for every
 // memory; a call that is refused alters nothing, and bytes after the frame stay.
 use end_points::answers::HandedOut;
@@ -8,6 +8,7 @@ use memory::layout;
 use units::refusals::Refusal;
 use waiting::acks;
 use waiting::acks::Ack;
+use waiting::port;
 use waiting::queues;
 ghost use mathlib.Core.Path.{_≡_};
 ghost use Rattle.end_points.specs.Lent.{whole};
@@ -52,7 +53,7 @@ fn next_out(node: &[u64], book: &[u16]) -> Next
     Next::Nothing
 }
 
-// One frame is handed out into the buffer: its length, 0 where nothing waits, or refusal 6.
+// One frame is handed out into the buffer: its length, 0 where nothing waits, or refusal 19 or 6.
 pub fn hand_out(node: &mut [u64], book: &mut [u16], store: &[u8], frame: &mut [u8]) -> HandedOut
     ensures answer { λ r.
         let x = whole (now (node .entry)) (now (book .entry)) (now (store .entry)) (now (frame .entry)) in
@@ -61,12 +62,15 @@ pub fn hand_out(node: &mut [u64], book: &mut [u16], store: &[u8], frame: &mut [u
         let x = whole (now (node .entry)) (now (book .entry)) (now (store .entry)) (now (frame .entry)) in
         ⌜ whole (now (node .exit)) (now (book .exit)) (now (store .entry)) (now (frame .exit)) ≡ handOutAfter x r ⌝ }
 {
+    if port::under(book) != 0 {
+        return HandedOut::Refused(Refusal::UnderWay);
+    }
     if store.len() < heads::need(node) {
         return HandedOut::Refused(Refusal::TooShort);
     }
     match next_out(node, book) {
         Next::Nothing => HandedOut::Length(0),
-        Next::Ack(a) => sorts::put_ack(node, frame, a),
+        Next::Ack(a) => sorts::put_ack(node, book, frame, a),
         Next::Reset(x) => sorts::put_reset(node, book, frame, x),
         Next::Urgent(x) => sorts::put_urgent(node, book, store, frame, x),
         Next::Resend(x) => sorts::put_again(node, book, store, frame, x),

@@ -11,15 +11,18 @@ use end_points::load_run;
 use end_points::save;
 use end_points::states::without_urgent;
 use frame::FrameType;
+use frame::type_number;
 use memory::layout;
 use memory::put_word;
 use slots::cells;
 use slots::number_in;
 use slots::part;
 use slots::spot_of;
+use timing::STANDING;
 use units::Seq;
 use waiting::acks;
 use waiting::acks::Ack;
+use waiting::port;
 use waiting::queues;
 ghost use mathlib.Core.Path.{_≡_};
 ghost use Prim.Native.Nat.{_-_, _<_};
@@ -29,9 +32,9 @@ ghost use Rattle.waiting.specs.Acks.{popped};
 ghost use Rattle.end_points.specs.Ends.{endOf};
 ghost use Rattle.call_hand_out.specs.Handing.{fitted, once, ackFrame, resetFrame, urgentFrame, dataFrame};
 ghost use Rattle.memory.specs.Layout.{resetEntry};
-ghost use Rattle.call_hand_out.specs.Handing.{resetNode, urgentNode, dataNode, againNode};
+ghost use Rattle.call_hand_out.specs.Handing.{resetNode, urgentNode, handedNode, stood, sent, dataSent};
 ghost use Rattle.memory.specs.Layout.{urgentEntry, idEntry};
-ghost use Rattle.call_hand_out.specs.Handing.{timed, handedNode};
+ghost use Rattle.frame.specs.declared.FrameType.the-variants as type;
 
 // a less b, and 0 where b is more.
 fn less(a: u16, b: u16) -> u16
@@ -44,9 +47,11 @@ fn less(a: u16, b: u16) -> u16
 }
 
 // An acknowledgement.
-pub fn put_ack(node: &mut [u64], frame: &mut [u8], a: Ack) -> HandedOut
+pub fn put_ack(node: &mut [u64], book: &mut [u16], frame: &mut [u8], a: Ack) -> HandedOut
     ensures answer { λ r. ⌜ r ≡ fitted (now (frame .entry)) (ackFrame (now (node .entry)) a) ⌝ }
     ensures node { λ r. ⌜ now (node .exit) ≡ once r (now (node .entry)) (popped (now (node .entry))) ⌝ }
+    ensures book { λ r. ⌜ now (book .exit) ≡ once r (now (book .entry))
+        (sent (now (book .entry)) type.Acknowledge (a .entry) (a .seq .0)) ⌝ }
     ensures frame { λ r. ⌜ now (frame .exit) ≡ once r (now (frame .entry))
         (sets (now (frame .entry)) 0 (ackFrame (now (node .entry)) a)) ⌝ }
 {
@@ -56,17 +61,19 @@ pub fn put_ack(node: &mut [u64], frame: &mut [u8], a: Ack) -> HandedOut
         HandedOut::Refused(w) => HandedOut::Refused(w),
         HandedOut::Length(n) => {
             acks::pop(node);
+            port::begin(book, type_number(FrameType::Acknowledge), a.entry, a.seq);
             HandedOut::Length(n)
         }
     }
 }
 
-// Hands out the Reset whose number in the book is x; its timer starts, and the end point notes that one went out.
+// Hands out the Reset whose number in the book is x; its timer stands, and the end point notes that one went out.
 pub fn put_reset(node: &mut [u64], book: &mut [u16], frame: &mut [u8], x: u16) -> HandedOut
     ensures answer { λ r. ⌜ r ≡ fitted (now (frame .entry)) (resetFrame (now (node .entry)) x) ⌝ }
     ensures node { λ r. ⌜ now (node .exit) ≡ once r (now (node .entry))
         (resetNode (now (node .entry)) (resetEntry x) (endOf (now (node .entry)) (resetEntry x))) ⌝ }
-    ensures book { λ r. ⌜ now (book .exit) ≡ once r (now (book .entry)) (unlinked (now (book .entry)) x) ⌝ }
+    ensures book { λ r. ⌜ now (book .exit) ≡ once r (now (book .entry))
+        (sent (unlinked (now (book .entry)) x) type.Reset (resetEntry x) 0) ⌝ }
     ensures frame { λ r. ⌜ now (frame .exit) ≡ once r (now (frame .entry))
         (sets (now (frame .entry)) 0 (resetFrame (now (node .entry)) x)) ⌝ }
 {
@@ -77,9 +84,8 @@ pub fn put_reset(node: &mut [u64], book: &mut [u16], frame: &mut [u8], x: u16) -
         HandedOut::Refused(w) => HandedOut::Refused(w),
         HandedOut::Length(n) => {
             queues::unlink(book, x);
-            let over = timing::later(timing::clock(node), e.entry.timeout);
-            save(node, i, State::Enabled(over, true), e.run);
-            timing::heed(node, e.entry.timeout);
+            port::begin(book, type_number(FrameType::Reset), i as u8, Seq(0));
+            save(node, i, State::Enabled(STANDING, true), e.run);
             HandedOut::Length(n)
         }
     }
@@ -96,7 +102,8 @@ pub fn put_urgent(
     ensures answer { λ r. ⌜ r ≡ fitted (now (frame .entry)) (urgentFrame (now (node .entry)) (now (store .entry)) x) ⌝ }
     ensures node { λ r. ⌜ now (node .exit) ≡ once r (now (node .entry))
         (urgentNode (now (node .entry)) (urgentEntry x) (endOf (now (node .entry)) (urgentEntry x))) ⌝ }
-    ensures book { λ r. ⌜ now (book .exit) ≡ once r (now (book .entry)) (unlinked (now (book .entry)) x) ⌝ }
+    ensures book { λ r. ⌜ now (book .exit) ≡ once r (now (book .entry))
+        (sent (unlinked (now (book .entry)) x) type.Urgent (urgentEntry x) 0) ⌝ }
     ensures frame { λ r. ⌜ now (frame .exit) ≡ once r (now (frame .entry))
         (sets (now (frame .entry)) 0 (urgentFrame (now (node .entry)) (now (store .entry)) x)) ⌝ }
 {
@@ -110,6 +117,7 @@ pub fn put_urgent(
         HandedOut::Refused(w) => HandedOut::Refused(w),
         HandedOut::Length(n) => {
             queues::unlink(book, x);
+            port::begin(book, type_number(FrameType::Urgent), i as u8, Seq(0));
             save(node, i, state, without_urgent(run));
             HandedOut::Length(n)
         }
@@ -131,9 +139,23 @@ fn run_of(node: &[u64], i: usize) -> Run
     load_run(node, i, (load_entry(node, i).window % 256) as u8)
 }
 
-// The retransmission that is x in its queue: its timer starts.
+// The slot that is x in its queue waits no more: its timer stands, and its frame, with this number, is under way.
+fn put_sent(book: &mut [u16], x: u16, number: Seq)
+    ensures { λ _. ⌜ now (book .exit) ≡ sent (stood (now (book .entry)) x) type.Data (idEntry x) (number .0) ⌝ }
+{
+    queues::unlink(book, x);
+    cells::put_timer(book, less(x, layout::CELL_ID), STANDING);
+    port::begin(
+        book,
+        type_number(FrameType::Data),
+        entry_of(x) as u8,
+        number,
+    )
+}
+
+// The retransmission that is x in its queue.
 pub fn put_again(
-    node: &mut [u64],
+    node: &[u64],
     book: &mut [u16],
     store: &[u8],
     frame: &mut [u8],
@@ -141,10 +163,8 @@ pub fn put_again(
 ) -> HandedOut
     ensures answer { λ r. ⌜ r ≡ fitted (now (frame .entry))
         (dataFrame (now (node .entry)) (now (book .entry)) (now (store .entry)) x) ⌝ }
-    ensures node { λ r. ⌜ now (node .exit)
-        ≡ once r (now (node .entry)) (againNode (now (node .entry)) (endOf (now (node .entry)) (idEntry x))) ⌝ }
     ensures book { λ r. ⌜ now (book .exit) ≡ once r (now (book .entry))
-        (timed (now (node .entry)) (now (book .entry)) x) ⌝ }
+        (dataSent (now (node .entry)) (now (book .entry)) x) ⌝ }
     ensures frame { λ r. ⌜ now (frame .exit) ≡ once r (now (frame .entry))
         (sets (now (frame .entry)) 0 (dataFrame (now (node .entry)) (now (book .entry)) (now (store .entry)) x)) ⌝ }
 {
@@ -159,9 +179,7 @@ pub fn put_again(
     match put_frame(frame, fields, part(store, spot, length as usize)) {
         HandedOut::Refused(w) => HandedOut::Refused(w),
         HandedOut::Length(n) => {
-            queues::unlink(book, x);
-            cells::put_timer(book, g, timing::later(timing::clock(node), entry.timeout));
-            timing::heed(node, entry.timeout);
+            put_sent(book, x, number);
             HandedOut::Length(n)
         }
     }
@@ -180,8 +198,8 @@ fn put_handed(node: &mut [u64], i: usize, r: Run)
     )
 }
 
-// The data that is x in its queue: its timer starts, and one number more is handed out. The same as `put_again` and
-// more, but not by it: with one caller each the compiler takes both in, and the end point is read once.
+// The data that is x in its queue: one number more is handed out. The same as `put_again` and more, but not by it:
+// with one caller each the compiler takes both in, and the end point is read once.
 pub fn put_data(
     node: &mut [u64],
     book: &mut [u16],
@@ -192,9 +210,9 @@ pub fn put_data(
     ensures answer { λ r. ⌜ r ≡ fitted (now (frame .entry))
         (dataFrame (now (node .entry)) (now (book .entry)) (now (store .entry)) x) ⌝ }
     ensures node { λ r. ⌜ now (node .exit) ≡ once r (now (node .entry))
-        (dataNode (now (node .entry)) (idEntry x) (endOf (now (node .entry)) (idEntry x))) ⌝ }
+        (handedNode (now (node .entry)) (idEntry x) (endOf (now (node .entry)) (idEntry x) .run)) ⌝ }
     ensures book { λ r. ⌜ now (book .exit) ≡ once r (now (book .entry))
-        (timed (now (node .entry)) (now (book .entry)) x) ⌝ }
+        (dataSent (now (node .entry)) (now (book .entry)) x) ⌝ }
     ensures frame { λ r. ⌜ now (frame .exit) ≡ once r (now (frame .entry))
         (sets (now (frame .entry)) 0 (dataFrame (now (node .entry)) (now (book .entry)) (now (store .entry)) x)) ⌝ }
 {
@@ -210,10 +228,8 @@ pub fn put_data(
     match put_frame(frame, fields, part(store, spot, length as usize)) {
         HandedOut::Refused(w) => HandedOut::Refused(w),
         HandedOut::Length(n) => {
-            queues::unlink(book, x);
-            cells::put_timer(book, g, timing::later(timing::clock(node), entry.timeout));
+            put_sent(book, x, number);
             put_handed(node, i, run);
-            timing::heed(node, entry.timeout);
             HandedOut::Length(n)
         }
     }

@@ -61,7 +61,7 @@ closeAnswer x i =
     ∷ (isClosed (endOf (x .node) i .state), refusal.WrongState)
     ∷ [])
 
--- what of a sender waits, waits no more: at Enabled its Reset, where its timer does not run; at Open Urgent, data and
+-- what of a sender waits, waits no more: at Enabled its Reset, where its timer's place is 0; at Open Urgent, data and
 -- retransmissions [E7]
 unfoldable pub silenced : ℕ → State → Run → List ℕ → List ℕ
 silenced i state.Closed r b = b

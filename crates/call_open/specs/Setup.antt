@@ -12,6 +12,7 @@ use Rattle.units.specs.declared.refusals.Verdict.{Verdict}
 use Rattle.units.specs.declared.refusals.Verdict.the-variants.{Passed, Refused}
 use Rattle.memory.specs.Layout.{resets, urgents, resends, datas}
 use Rattle.waiting.specs.Queues.{joined}
+use Rattle.waiting.specs.Port.{ended}
 use Rattle.window.specs.Windows.{newOf}
 use Rattle.table.specs.Layout.{countOf, ownOf, protocolOf, entryOf}
 use Rattle.table.specs.Areas.{placeOf, storeOf}
@@ -62,13 +63,13 @@ tabled t (suc k) ws = entered t k (tabled t k ws)
 unfoldable pub emptied : List ℕ → List ℕ
 emptied b = joined (joined (joined (joined b resets resets) urgents urgents) resends resends) datas datas
 
--- refused, all is as it was; else the node is the table's, and nothing waits [E3, R44]
+-- refused, all is as it was; else the node is the table's, nothing waits and no frame is under way [E3, R44]
 unfoldable pub setupAfter : Lent → List ℕ → Verdict → Lent
 setupAfter x t (Refused w) = x
 setupAfter x t Passed =
     record {
       node = tabled t (countOf t) (headed t (replicate (length (x .node)) 0));
-      book = emptied (x .book);
+      book = ended (emptied (x .book));
       store = x .store;
       out = x .out;
     }

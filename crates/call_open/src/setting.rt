@@ -1,4 +1,4 @@
-// Setup: a node made from a channel table. All end points are Closed and nothing waits.
+// Setup: a node made from a channel table. All end points are Closed, nothing waits and no frame is under way.
 use arrive_lookup::put_in_index;
 use end_points::Run;
 use end_points::State;
@@ -13,6 +13,7 @@ use timing::ROUND;
 use units::Unfolded;
 use units::refusals::Refusal;
 use units::refusals::Verdict;
+use waiting::port;
 use window::Window;
 ghost use mathlib.Core.Path.{_≡_};
 ghost use mathlib.Core.Bool.{true};
@@ -56,6 +57,7 @@ pub fn setup(node: &mut [u64], book: &mut [u16], store: &[u8], table: &[u8]) -> 
     put_head(node, table);
     put_entries(node, table);
     empty(book);
+    port::end(book);
     Verdict::Passed
 }
 

@@ -1,5 +1,5 @@
 -- The bits that a tick answers: a bit fits 16 of them, and those of the first n entries come to less than 2 ^ n. Assumes nothing.
-use mathlib.Core.Bool.{Bool, true, false}
+use mathlib.Core.Bool.{Bool, true, false, not, _&&_}
 use mathlib.Core.Path.{_≡_}
 use Prim.Native.Nat.{ℕ, _+_, _*_, _%_, _^_, _≤_, _<_}
 use native.Mathlib.Nat.{one-mul, mod-eq-of-lt, pow-le-pow-right, two-pow-succ}
@@ -7,6 +7,7 @@ use native.Mathlib.Numerals.{add-one}
 use native.Mathlib.Omega.{arith}
 use Rattle.units.specs.Refusals.{pick}
 use Rattle.end_points.specs.Ends.{endOf}
+use Rattle.waiting.specs.Port.{isOwn}
 use Rattle.call_tick.specs.Ticking.{Recovered, again, recover}
 use Rattle.end_points.specs.States.{isOver}
 
@@ -25,4 +26,4 @@ pub bits-lt : (i : ℕ) (r : Recovered) → r .bits < 2 ^ i → recover i r .bit
 unfolding recover
 bits-lt i r h =
     let d : 2 ^ (i + 1) ≡ 2 ^ i + 2 ^ i = rw add-one (two-pow-succ i) in
-    pick-bits (isOver (endOf (r .lent .node) i .state)) (again i r) r _ (omega arith) (omega arith)
+    pick-bits (isOver (endOf (r .lent .node) i .state) && not (isOwn (r .lent .book) i)) (again i r) r _ (omega arith) (omega arith)

@@ -1,6 +1,6 @@
 -- What a tick makes of one entry leaves the head, the waiting acknowledgements, the table's words and every other end point as they
 -- were; so what becomes of an end point is decided at its own turn. Assumes nothing.
-use mathlib.Core.Bool.{Bool, true, false}
+use mathlib.Core.Bool.{Bool, true, false, not, _&&_}
 use mathlib.Core.List.{List, _++_}
 use mathlib.Core.Path.{_≡_, refl, sym, ap, _∙_}
 use Prim.Native.Nat.{ℕ, zero, suc, _+_, _≤_, _<_}
@@ -19,6 +19,7 @@ use Rattle.end_points.specs.declared.EndPoint.{EndPoint}
 use Rattle.end_points.specs.declared.Run.{Run}
 use Rattle.end_points.specs.declared.State.{State}
 use Rattle.end_points.specs.declared.State.the-variants.{Closed, Enabled, Open, Failing}
+use Rattle.waiting.specs.Port.{underIn, isOwn, isReset}
 use Rattle.call_tick.specs.Ticking.{ticked, Scanned, tickState, tickEntry, tickEntries, Recovered, again, recover, recoverAll, entries, scanned, scanBoth}
 use Rattle.end_points.specs.States.{isOver}
 
@@ -96,7 +97,8 @@ unfolding tickState
 state-only c y i e Closed = only-same i (y .lent .node)
 state-only c y i e (Enabled d sent) =
     pick-scanned (eqb d 0) _ _ (only-same i (y .lent .node))
-    (pick-scanned (eqb d c) _ _ (only-saved (y .lent .node) i _ _) (only-same i (y .lent .node)))
+    (pick-scanned (isReset (underIn (y .lent .book)) i) _ _ (only-same i (y .lent .node))
+    (pick-scanned (eqb d c) _ _ (only-saved (y .lent .node) i _ _) (only-same i (y .lent .node))))
 state-only c y i e Open = pick-only (ticked c i e false (y .lent .book) (y .least) .failing) (only-saved (y .lent .node) i _ _) (only-same i (y .lent .node))
 state-only c y i e (Failing n) = only-saved (y .lent .node) i _ _
 
@@ -111,7 +113,7 @@ pick-recovered false x y p q = q
 pub recover-only : (i : ℕ) (r : Recovered) → Only i (r .lent .node) (recover i r .lent .node)
 unfolding recover
 recover-only i r =
-    pick-recovered (isOver (endOf (r .lent .node) i .state)) (again i r) r (only-saved (r .lent .node) i _ _) (only-same i (r .lent .node))
+    pick-recovered (isOver (endOf (r .lent .node) i .state) && not (isOwn (r .lent .book) i)) (again i r) r (only-saved (r .lent .node) i _ _) (only-same i (r .lent .node))
 
 -- ---- turns in table order, each of which alters its own entry alone
 

@@ -1,9 +1,9 @@
 -- A tick: every running timer falls by one, entries in table order, an entry's timers in window order; then each
--- Failing end with none running becomes Enabled. A timer's place holds the tick at which it runs out (crates/timing),
--- so that it falls by the clock alone, and the entries are gone through only where one can run out. Cited by the
--- call. Assumes nothing.
+-- Failing end with none running and no frame of its own under way becomes Enabled. A timer's place holds the tick at
+-- which it runs out (crates/timing), so that it falls by the clock alone, and the entries are gone through only where
+-- one can run out. Cited by the call. Assumes nothing.
 use Prim.Native.Nat.{ℕ, zero, suc, _+_, _-_, _^_, min}
-use mathlib.Core.Bool.{Bool, true, false}
+use mathlib.Core.Bool.{Bool, true, false, not, _&&_}
 use mathlib.Core.List.{List, []}
 use lib.ListN.{set}
 use lib.Dec.{eqb, ltb}
@@ -12,6 +12,7 @@ use Rattle.units.specs.Limits.{mostEntries}
 use Rattle.units.specs.Refusals.{pick}
 use Rattle.memory.specs.Layout.{resets, resends, resetId, cellId, timerAt, retriesAt}
 use Rattle.waiting.specs.Queues.{appended}
+use Rattle.waiting.specs.Port.{underIn, isOwn, isReset, dataOut}
 use Rattle.end_points.specs.Ends.{endOf, saved}
 use Rattle.end_points.specs.Heads.{countIn}
 use Rattle.end_points.specs.States.{isOver}
@@ -59,20 +60,29 @@ tickCell c i e g d t =
     (pick (eqb d c) (expired i e g t)
     (record { book = t .book; failing = t .failing; running = t .running + 1; least = soonest (t .least) c d }))
 
--- the timer of the number k past the start [D7]
-unfoldable pub tickSlot : ℕ → ℕ → EndPoint → ℕ → Ticked → Ticked
-tickSlot c i e k t =
-    tickCell c i e (cell i (e .run .window) (past (e .run .window) k))
-    (timerIn (t .book) (cell i (e .run .window) (past (e .run .window) k))) t
+-- the timer of Data that is under way, with d in its place: it stands, and the end waits for it [D2, D10]
+abbrev pub stoodCell : ℕ → Ticked → Ticked
+stoodCell d t =
+    pick (eqb d 0) t
+    (record { book = t .book; failing = t .failing; running = t .running + 1; least = t .least })
 
-unfoldable pub tickSlots : ℕ → ℕ → EndPoint → ℕ → Ticked → Ticked
-tickSlots c i e zero t = t
-tickSlots c i e (suc k) t = tickSlot c i e k (tickSlots c i e k t)
+-- the timer of the number k past the start, where the number o is under way [D2, D7]
+unfoldable pub tickSlot : ℕ → ℕ → EndPoint → ℕ → ℕ → Ticked → Ticked
+tickSlot c i e o k t =
+    pick (eqb (past (e .run .window) k) o)
+    (stoodCell (timerIn (t .book) (cell i (e .run .window) (past (e .run .window) k))) t)
+    (tickCell c i e (cell i (e .run .window) (past (e .run .window) k))
+    (timerIn (t .book) (cell i (e .run .window) (past (e .run .window) k))) t)
+
+unfoldable pub tickSlots : ℕ → ℕ → EndPoint → ℕ → ℕ → Ticked → Ticked
+tickSlots c i e o zero t = t
+tickSlots c i e o (suc k) t = tickSlot c i e o k (tickSlots c i e o k t)
 
 -- those of all numbers handed out
 abbrev pub ticked : ℕ → ℕ → EndPoint → Bool → List ℕ → ℕ → Ticked
 ticked c i e failing b least =
-    tickSlots c i e (e .run .handed) (record { book = b; failing = failing; running = 0; least = least })
+    tickSlots c i e (dataOut b i) (e .run .handed)
+    (record { book = b; failing = failing; running = 0; least = least })
 
 -- ---- an entry
 
@@ -88,10 +98,12 @@ pub record Scanned : Type 0 where
 abbrev pub scanOf : List ℕ → List ℕ → ℕ → Scanned
 scanOf ws b least = record { lent = record { node = ws; book = b; store = []; out = [] }; least = least }
 
--- at Enabled the Reset's timer, which runs out at tick d: then it waits again [D4]
+-- at Enabled the Reset's timer, which runs out at tick d: then it waits again; while it is under way its timer stands
+-- [D2, D4]
 abbrev pub tickEnabled : ℕ → Scanned → ℕ → EndPoint → ℕ → Bool → Scanned
 tickEnabled c y i e d sent =
     pick (eqb d 0) y
+    (pick (isReset (underIn (y .lent .book)) i) y
     (pick (eqb d c)
     (record {
       lent =
@@ -99,7 +111,7 @@ tickEnabled c y i e d sent =
           (appended (y .lent .book) resets (resetId i));
       least = y .least;
     })
-    (record { lent = y .lent; least = soonest (y .least) c d }))
+    (record { lent = y .lent; least = soonest (y .least) c d })))
 
 -- at Open it is Failing where a timer ran out after M retries [D6, D8]
 abbrev pub tickOpen : Scanned → ℕ → EndPoint → Ticked → Scanned
@@ -152,9 +164,9 @@ again i r =
       bits = r .bits + 2 ^ i;
     }
 
--- an entry that is Failing with no timer running [D10]
+-- an entry that is Failing with no timer running and no frame of its own under way [D10]
 unfoldable pub recover : ℕ → Recovered → Recovered
-recover i r = pick (isOver (endOf (r .lent .node) i .state)) (again i r) r
+recover i r = pick (isOver (endOf (r .lent .node) i .state) && not (isOwn (r .lent .book) i)) (again i r) r
 
 -- the first n entries, in table order [D10]
 unfoldable pub recoverAll : ℕ → Recovered → Recovered

@@ -1,6 +1,6 @@
 // A tick of the driver's: every running timer falls by one, entries in table order, an entry's timers in window order;
-// then each Failing end with no timer running becomes Enabled. A timer falls by the clock, and a tick in which none can
-// run out does no more than move that.
+// then each Failing end with no timer running and no frame of its own under way becomes Enabled. A timer falls by the
+// clock, and a tick in which none can run out does no more than move that.
 // Proved: `tick` is the definition of specs/Ticking.antt, for every memory; it refuses nothing. proofs/Apart.antt: what
 // a tick makes of an entry leaves every other entry as it was.
 mod timers; // timers.rt: an entry's timers
@@ -19,6 +19,7 @@ use end_points::states::is_open;
 use end_points::states::without_urgent;
 use memory::layout;
 use timers::tick_slots;
+use waiting::port;
 use waiting::queues;
 ghost use mathlib.Core.Path.{_≡_};
 ghost use mathlib.Core.List.{[]};
@@ -31,8 +32,8 @@ ghost use Rattle.call_tick.specs.Ticking.{recover as recovered, recoverA
 ghost use Rattle.call_tick.specs.Ticking.{scanOf, tickAnswer, tickAfter};
 ghost use Rattle.end_points.specs.States.{isOver};
 
-// In tick c entry i at Enabled, with its Reset's timer running out at tick d: then the Reset waits again. Answers the
-// least that is left of a timer, as each of these does.
+// In tick c entry i at Enabled, with its Reset's timer running out at tick d: then the Reset waits again. While it is
+// under way its timer stands. Answers the least that is left of a timer, as each of these does.
 fn tick_enabled(
     node: &mut [u64],
     book: &mut [u16],
@@ -47,6 +48,9 @@ fn tick_enabled(
         d sent ⌝ }
 {
     if d == 0 {
+        return least;
+    }
+    if port::is_reset(port::under(book), i) {
         return least;
     }
     if d != c {
@@ -143,13 +147,17 @@ fn is_over(s: State) -> bool
     }
 }
 
-// Entry i becomes Enabled with a Reset waiting, and its bit is set, where it is Failing with no timer running.
+// Entry i becomes Enabled with a Reset waiting, and its bit is set, where it is Failing with no timer running and no
+// frame of its own under way.
 fn recover(node: &mut [u64], book: &mut [u16], i: u8, bits: u16) -> u16
     requires { ⌜ (i < 16) × (bits < 2 ^ i) ⌝ }
     ensures { λ r. ⌜ record { lent = bare (now (node .exit)) (now (book .exit)); bits = r }
         ≡ recovered i (record { lent = bare (now (node .entry)) (now (book .entry)); bits = bits }) ⌝ }
 {
     if is_over(load_state(node, i as usize)) {
+        if port::is_own(book, i) {
+            return bits;
+        }
         let run = anew_run(load(node, i as usize).run);
         save(node, i as usize, State::Enabled(0, false), run);
         queues::append(book, layout::RESETS, layout::RESET_ID + i as u16);

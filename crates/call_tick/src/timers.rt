@@ -7,13 +7,14 @@ use memory::layout;
 use memory::put_half;
 use slots::idle;
 use slots::slot_for;
+use waiting::port;
 use waiting::queues;
 use window::advance;
 ghost use mathlib.Core.Path.{_≡_};
 ghost use Prim.Native.Nat.{_<_};
 ghost use lib.ListN.{set};
 ghost use Rattle.memory.specs.Layout.{timerAt};
-ghost use Rattle.call_tick.specs.Ticking.{expired, tickCell, tickSlot, ticked};
+ghost use Rattle.call_tick.specs.Ticking.{expired, tickCell, stoodCell, tickSlot, ticked};
 
 // How far the tick of an entry's timers has come: whether the end is Failing, how many timers still run, and the least
 // that is left of one.
@@ -90,17 +91,37 @@ fn tick_cell(book: &mut [u16], i: u8, e: EndPoint, c: u16, g: usize, d: u16, t: 
     expire(book, i, e, g, t)
 }
 
-// The timer of the number k past the start.
-fn tick_slot(book: &mut [u16], i: u8, e: EndPoint, c: u16, k: u8, t: Timers) -> Timers
+// The timer of Data that is under way, with d in its place: it stands, and the end waits for it.
+fn stand(book: &[u16], d: u16, t: Timers) -> Timers
+    requires { ⌜ t .running < 256 ⌝ }
+    ensures { λ r. ⌜ record { book = now (book .entry); failing = r .failing; running = r .running; least = r .least }
+        ≡ stoodCell d
+        (record { book = now (book .entry); failing = t .failing; running = t .running; least = t .least }) ⌝ }
+{
+    if d == 0 {
+        return t;
+    }
+    Timers {
+        failing: t.failing,
+        running: t.running + 1,
+        least: t.least,
+    }
+}
+
+// The timer of the number k past the start, where the number `out` is under way.
+fn tick_slot(book: &mut [u16], i: u8, e: EndPoint, c: u16, out: u16, k: u8, t: Timers) -> Timers
     requires { ⌜ t .running < 256 ⌝ }
     ensures { λ r. ⌜ record { book = now (book .exit); failing = r .failing; running = r .running; least = r .least }
-        ≡ tickSlot c i e k
+        ≡ tickSlot c i e out k
         (record { book = now (book .entry); failing = t .failing; running = t .running; least = t .least }) ⌝ }
 {
     let window = e.run.window;
     let s = advance(window.start, k);
     let g = (layout::CELLS * i as u16) as usize + slot_for(window, s) as usize;
     let d = half_at(book, layout::TIMER_AT + g);
+    if s.0 as u16 == out {
+        return stand(book, d, t);
+    }
     tick_cell(book, i, e, c, g, d, t)
 }
 
@@ -119,6 +140,7 @@ pub fn tick_slots(
     ensures { λ r. ⌜ r .running < 256 ⌝ }
 {
     let handed = e.run.handed;
+    let out = port::data_out(book, i);
     let mut running: u64 = 0;
     let mut k: u8 = 0;
     while k < handed {
@@ -127,6 +149,7 @@ pub fn tick_slots(
             i,
             e,
             c,
+            out,
             k,
             Timers {
                 failing,

@@ -11,6 +11,7 @@ use Rattle.node.proofs.send.Reads as node-send
 use Rattle.node.proofs.urgent.Reads as node-urgent
 use Rattle.node.proofs.arrival.Reads as node-arrival
 use Rattle.node.proofs.hand_out.Reads as node-hand-out
+use Rattle.node.proofs.report.Reads as node-report
 use Rattle.node.proofs.tick.Reads as node-tick
 use Rattle.end_points.specs.Lent as lent
 use Rattle.end_points.specs.Answers.{answerOf, countedOf, arrivedOf, handedOf}
@@ -18,8 +19,9 @@ use Rattle.call_open.specs.Setup.{setupAfter}
 use Rattle.call_open.specs.Opening.{openAfter, closeAfter}
 use Rattle.call_send.specs.Sending.{sendAfter, urgentAfter}
 use Rattle.call_hand_out.specs.Handing.{handOutAfter}
+use Rattle.call_report.specs.Reporting.{reportAfter}
 use Rattle.good.specs.Calls.{kept, keptBare, answer, after}
-use Rattle.machine.specs.Calls.{opens, closes, counts, sends, urges, arrives, hands-out, ticks}
+use Rattle.machine.specs.Calls.{opens, closes, counts, sends, urges, arrives, hands-out, reports, ticks}
 use Rattle.contracts.specs.Gives.{memory, plain, Gives, SetsUp}
 
 -- a setup that passed; node and book have the lengths of their types, and a table's bytes are bytes
@@ -109,6 +111,17 @@ hand-out-gives u a r e p f =
     let left = p .1 ∙ ap (handOutAfter x) (p .0) in
     let out = ap (λ (y : lent.Lent). y .out) left in
     record { fed = f; answered = cc (p .0, out); left = ap kept left }
+
+pub report-gives : (s : List ℕ) → Gives node-report.Post (λ a. reports) (λ r e. plain (answerOf r))
+    (λ a. memory (a .0) (a .1 .0) s) (λ a e. memory (e .0) (e .1 .0) s)
+unfolding answer after
+report-gives s u a r e p f =
+    let x = lent.bare (now (a .0)) (now (a .1 .0)) in
+    record {
+      fed = f;
+      answered = cc (p .0);
+      left = ap (keptBare (memory (a .0) (a .1 .0) s)) (p .1 ∙ ap (reportAfter x) (p .0));
+    }
 
 pub tick-gives : (s : List ℕ) → Gives node-tick.Post (λ a. ticks) (λ r e. plain (r ∷ []))
     (λ a. memory (a .0) (a .1 .0) s) (λ a e. memory (e .0) (e .1 .0) s)

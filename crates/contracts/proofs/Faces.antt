@@ -16,6 +16,7 @@ use Rattle.firmware.proofs.nodes.shelugvar_send.Reads as shelugvar-send
 use Rattle.firmware.proofs.nodes.shelugvar_urgent.Reads as shelugvar-urgent
 use Rattle.firmware.proofs.nodes.shelugvar_arrival.Reads as shelugvar-arrival
 use Rattle.firmware.proofs.nodes.shelugvar_hand_out.Reads as shelugvar-hand-out
+use Rattle.firmware.proofs.nodes.shelugvar_report.Reads as shelugvar-report
 use Rattle.firmware.proofs.nodes.shelugvar_tick.Reads as shelugvar-tick
 use Rattle.firmware.proofs.nodes.shelugvar_entry_state.Reads as shelugvar-entry-state
 use Rattle.firmware.proofs.nodes.shelugvar_store_need.Reads as shelugvar-store-need
@@ -81,6 +82,9 @@ shelugvar-hand-out-one u v a r₁ r₂ e₁ e₂ p q =
     ≡ whole (now (e₂ .0)) (now (e₂ .1 .0)) [] (now (e₂ .1 .1 .1 .0)) =
     but-store (now (a .1 .1 .0)) (cc (p .1 .0, q .1 .0)) in
     (cc (p .0, q .0), cc (l, p .1 .1, q .1 .1))
+
+pub shelugvar-report-one : One shelugvar-report.Post (λ e. bare (now (e .0)) (now (e .1 .0)))
+shelugvar-report-one u v a r₁ r₂ e₁ e₂ p q = (cc (p .0, q .0), cc (p .1, q .1))
 
 pub shelugvar-tick-one : One shelugvar-tick.Post (λ e. bare (now (e .0)) (now (e .1 .0)))
 shelugvar-tick-one u v a r₁ r₂ e₁ e₂ p q = (cc (p .0, q .0), cc (p .1, q .1))

@@ -23,6 +23,7 @@ use Rattle.arrive_data.proofs.take_data.Reads as arrive-data-take-data
 use Rattle.arrive_data.proofs.take_urgent.Reads as arrive-data-take-urgent
 use Rattle.call_arrive.proofs.arrive.Reads as call-arrive-arrive
 use Rattle.call_hand_out.proofs.hand_out.Reads as call-hand-out-hand-out
+use Rattle.call_report.proofs.report.Reads as call-report-report
 use Rattle.call_tick.proofs.tick.Reads as call-tick-tick
 use Rattle.end_points.specs.Lent.{Lent, bare, stored, whole}
 use Rattle.contracts.proofs.Stores.{but-store}
@@ -104,6 +105,11 @@ pub call-hand-out-hand-out-one : One call-hand-out-hand-out.Post
     (λ e. whole (now (e .0)) (now (e .1 .0)) [] (now (e .1 .1 .1 .0)))
 call-hand-out-hand-out-one u v a r₁ r₂ e₁ e₂ p
     q = (cc (p .0, q .0), but-store (now (a .1 .1 .0)) (cc (p .0, q .0, p .1, q .1)))
+
+-- ---- call_report
+
+pub call-report-report-one : One call-report-report.Post (λ e. bare (now (e .0)) (now (e .1 .0)))
+call-report-report-one u v a r₁ r₂ e₁ e₂ p q = (cc (p .0, q .0), cc (p .0, q .0, p .1, q .1))
 
 -- ---- call_tick
 

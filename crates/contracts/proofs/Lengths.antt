@@ -2,7 +2,7 @@
 -- at most the length lent, and the entry that an arrival answers is one that a table can have. By the contract's own text. Assumes nothing.
 use Prim.Native.Nat.{ℕ, zero, suc, _+_, _≤_, _<_}
 use mathlib.Core.Path.{_≡_, refl, sym, ap, subst, _∙_}
-use mathlib.Core.Bool.{Bool, true, false, true≢false, _&&_}
+use mathlib.Core.Bool.{Bool, true, false, true≢false, not, _&&_}
 use mathlib.Core.List.{List, [], _∷_}
 use native.Mathlib.Decide.{decLt}
 use native.Mathlib.Omega.{arith}
@@ -15,6 +15,8 @@ use Rattle.units.specs.Limits.{mostEntries}
 use Rattle.units.specs.Refusals.{pick, verdict}
 use Rattle.units.proofs.Judging.{clear, refused-some}
 use Rattle.memory.specs.Layout.{nodeWords, entryAt, stateWord}
+use Rattle.waiting.specs.Port.{underIn}
+use Rattle.units.specs.declared.refusals.Refusal.{Refusal}
 use Rattle.units.specs.declared.refusals.Refusal.the-variants as refusal
 use Rattle.units.specs.declared.refusals.Verdict.{Verdict}
 use Rattle.units.specs.declared.refusals.Verdict.the-variants as verdicts
@@ -118,12 +120,15 @@ fitted-within out f = sides (ltb (length out) (length f)) refl
 
 hand-within : (x : Lent) → frameLength (handOutAnswer x) ≤ length (x .out)
 unfolding handOutAnswer
-hand-within x = sides (ltb (length (x .store)) _) _ (fitted-within (x .out) (frameOut x (nextOut (x .node) (x .book))))
+hand-within x =
+    refused (not (eqb (underIn (x .book)) 0)) refusal.UnderWay _
+    (refused (ltb (length (x .store)) _) refusal.TooShort _
+    (fitted-within (x .out) (frameOut x (nextOut (x .node) (x .book)))))
   where
-    sides : (b : Bool) (a : HandedOut) → frameLength a ≤ length (x .out)
-        → frameLength (pick b (handed.Refused refusal.TooShort) a) ≤ length (x .out)
-    sides true a h = omega arith
-    sides false a h = h
+    refused : (b : Bool) (w : Refusal) (a : HandedOut) → frameLength a ≤ length (x .out)
+        → frameLength (pick b (handed.Refused w) a) ≤ length (x .out)
+    refused true w a h = omega arith
+    refused false w a h = h
 
 pub node-hand-out-within : LengthWithin node-hand-out.Post (λ r. Unit {0}) (λ r e. frameLength r) (λ a. now (a .1 .1 .1 .0))
 node-hand-out-within u a r e p d =

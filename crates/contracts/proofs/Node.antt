@@ -13,6 +13,7 @@ use Rattle.node.proofs.send.Reads as node-send
 use Rattle.node.proofs.urgent.Reads as node-urgent
 use Rattle.node.proofs.arrival.Reads as node-arrival
 use Rattle.node.proofs.hand_out.Reads as node-hand-out
+use Rattle.node.proofs.report.Reads as node-report
 use Rattle.node.proofs.tick.Reads as node-tick
 use Rattle.end_points.specs.Lent.{Lent, bare, stored, whole}
 use Rattle.contracts.proofs.Stores.{but-store}
@@ -50,6 +51,9 @@ node-arrival-one u v a r₁ r₂ e₁ e₂ p q = (cc (p .0, q .0), cc (p .1, q .
 
 pub node-hand-out-one : One node-hand-out.Post (λ e. whole (now (e .0)) (now (e .1 .0)) [] (now (e .1 .1 .1 .0)))
 node-hand-out-one u v a r₁ r₂ e₁ e₂ p q = (cc (p .0, q .0), but-store (now (a .1 .1 .0)) (cc (p .0, q .0, p .1, q .1)))
+
+pub node-report-one : One node-report.Post (λ e. bare (now (e .0)) (now (e .1 .0)))
+node-report-one u v a r₁ r₂ e₁ e₂ p q = (cc (p .0, q .0), cc (p .0, q .0, p .1, q .1))
 
 pub node-tick-one : One node-tick.Post (λ e. bare (now (e .0)) (now (e .1 .0)))
 node-tick-one u v a r₁ r₂ e₁ e₂ p q = (cc (p .0, q .0), cc (p .1, q .1))

@@ -32,6 +32,7 @@ use Rattle.call_send.specs.Sending.{sendAnswer, sendAfter, urgentAnswer, urgent
 use Rattle.call_arrive.specs.Arriving.{frameTests, entryOf, entryVerdict, answerAs, afterAs, entryAnswer}
 use Rattle.call_arrive.specs.Arriving.{entryAfter, readAnswer, readAfter, arrivalAnswer, arrivalAfter}
 use Rattle.call_hand_out.specs.Handing.{handOutAnswer, handOutAfter}
+use Rattle.call_report.specs.Reporting.{reportAnswer, reportAfter}
 use Rattle.firmware.specs.Firmware.{readNumber, readFields, fieldsIn, writeNumber}
 use Rattle.firmware.specs.Nodes.{refusalIn, valueIn, countsIn, arrivedIn}
 use Rattle.node.proofs.setup.Reads as node-setup
@@ -41,6 +42,7 @@ use Rattle.node.proofs.send.Reads as node-send
 use Rattle.node.proofs.urgent.Reads as node-urgent
 use Rattle.node.proofs.arrival.Reads as node-arrival
 use Rattle.node.proofs.hand_out.Reads as node-hand-out
+use Rattle.node.proofs.report.Reads as node-report
 use Rattle.call_open.proofs.setup.Reads as call-open-setup
 use Rattle.call_open.proofs.open.Reads as call-open-open
 use Rattle.call_open.proofs.close.Reads as call-open-close
@@ -48,6 +50,7 @@ use Rattle.call_send.proofs.send.Reads as call-send-send
 use Rattle.call_send.proofs.urgent.Reads as call-send-urgent
 use Rattle.call_arrive.proofs.arrive.Reads as call-arrive-arrive
 use Rattle.call_hand_out.proofs.hand_out.Reads as call-hand-out-hand-out
+use Rattle.call_report.proofs.report.Reads as call-report-report
 use Rattle.frame.proofs.writing.write.Reads as frame-write
 use Rattle.firmware.proofs.shelugvar_frame_read.Reads as shelugvar-frame-read
 use Rattle.firmware.proofs.shelugvar_frame_write.Reads as shelugvar-frame-write
@@ -61,6 +64,7 @@ use Rattle.firmware.proofs.nodes.shelugvar_send.Reads as shelugvar-send
 use Rattle.firmware.proofs.nodes.shelugvar_urgent.Reads as shelugvar-urgent
 use Rattle.firmware.proofs.nodes.shelugvar_arrival.Reads as shelugvar-arrival
 use Rattle.firmware.proofs.nodes.shelugvar_hand_out.Reads as shelugvar-hand-out
+use Rattle.firmware.proofs.nodes.shelugvar_report.Reads as shelugvar-report
 use Rattle.contracts.specs.Outcome.{Spares, IsRefused, NotZero}
 use Rattle.contracts.proofs.Stores.{but-store}
 
@@ -92,6 +96,10 @@ pub node-hand-out-refused : Spares node-hand-out.Post (IsRefused handed.Refused)
     (λ e. whole (now (e .0)) (now (e .1 .0)) [] (now (e .1 .1 .1 .0)))
 unfolding handOutAfter
 node-hand-out-refused u a r e p w = but-store (now (a .1 .1 .0)) (cc (p .1, w .1))
+
+pub node-report-refused : Spares node-report.Post (IsRefused verdicts.Refused) (λ e. bare (now (e .0)) (now (e .1 .0)))
+unfolding reportAfter
+node-report-refused u a r e p w = cc (p .1, w .1)
 
 -- ---- an arrival: refused by a test, it alters nothing; taken in, it is not refused
 
@@ -155,6 +163,11 @@ pub call-hand-out-hand-out-refused : Spares call-hand-out-hand-out.Post (IsRefus
     (λ e. whole (now (e .0)) (now (e .1 .0)) [] (now (e .1 .1 .1 .0)))
 unfolding handOutAfter
 call-hand-out-hand-out-refused u a r e p w = but-store (now (a .1 .1 .0)) (cc (p .1, w .1))
+
+pub call-report-report-refused : Spares call-report-report.Post (IsRefused verdicts.Refused)
+    (λ e. bare (now (e .0)) (now (e .1 .0)))
+unfolding reportAfter
+call-report-report-refused u a r e p w = cc (p .1, w .1)
 
 -- ---- the frame writer
 
@@ -228,6 +241,14 @@ pub shelugvar-urgent-refused : Spares shelugvar-urgent.Post NotZero
 shelugvar-urgent-refused u a r e p z =
     let x = stored (now (a .0)) (now (a .1 .0)) (now (a .1 .1 .0)) in p .1 ∙ urgent-told x (a .1 .1 .1 .0)
     (now (a .1 .1 .1 .1 .0)) (subst NotZero (p .0) z)
+
+report-told : (x : Lent) → NotZero (refusalIn (answerOf (reportAnswer x))) → reportAfter x (reportAnswer x) ≡ x
+unfolding reportAfter
+report-told x = told x (reportAfter x) (λ w. refl) (reportAnswer x)
+
+pub shelugvar-report-refused : Spares shelugvar-report.Post NotZero (λ e. bare (now (e .0)) (now (e .1 .0)))
+shelugvar-report-refused u a r e p z =
+    let x = bare (now (a .0)) (now (a .1 .0)) in p .1 ∙ report-told x (subst NotZero (p .0) z)
 
 -- the place of a value, of a sender's counts and of what an arrival was
 value-spared : (a : List ℕ) (old : ℕ) → NotZero (refusalIn a) → valueIn a old ≡ old

@@ -17,6 +17,15 @@ use Rattle.waiting.proofs.acks.drop.Reads as waiting-drop
 use Rattle.waiting.proofs.queues.first.Reads as waiting-first
 use Rattle.waiting.proofs.queues.append.Reads as waiting-append
 use Rattle.waiting.proofs.queues.unlink.Reads as waiting-unlink
+use Rattle.waiting.proofs.port.under.Reads as waiting-under
+use Rattle.waiting.proofs.port.begin.Reads as waiting-begin
+use Rattle.waiting.proofs.port.end.Reads as waiting-end
+use Rattle.waiting.proofs.port.is_own.Reads as waiting-is-own
+use Rattle.waiting.proofs.port.entry.Reads as waiting-entry
+use Rattle.waiting.proofs.port.number.Reads as waiting-number
+use Rattle.waiting.proofs.port.is_data.Reads as waiting-is-data
+use Rattle.waiting.proofs.port.is_reset.Reads as waiting-is-reset
+use Rattle.waiting.proofs.port.data_out.Reads as waiting-data-out
 use Rattle.timing.proofs.clock.Reads as timing-clock
 use Rattle.timing.proofs.quiet.Reads as timing-quiet
 use Rattle.timing.proofs.later.Reads as timing-later
@@ -103,6 +112,33 @@ waiting-append-one u v a r₁ r₂ e₁ e₂ p q = cc
 
 pub waiting-unlink-one : OneAfter waiting-unlink.Post (λ e. now (e .0))
 waiting-unlink-one u v a r₁ r₂ e₁ e₂ p q = cc
+
+pub waiting-under-one : OneAnswer waiting-under.Post (λ r. r)
+waiting-under-one u v a r₁ r₂ e₁ e₂ p q = cc
+
+pub waiting-begin-one : OneAfter waiting-begin.Post (λ e. now (e .0))
+waiting-begin-one u v a r₁ r₂ e₁ e₂ p q = cc
+
+pub waiting-end-one : OneAfter waiting-end.Post (λ e. now (e .0))
+waiting-end-one u v a r₁ r₂ e₁ e₂ p q = cc
+
+pub waiting-is-own-one : OneAnswer waiting-is-own.Post (λ r. r)
+waiting-is-own-one u v a r₁ r₂ e₁ e₂ p q = cc
+
+pub waiting-entry-one : OneAnswer waiting-entry.Post (λ r. r)
+waiting-entry-one u v a r₁ r₂ e₁ e₂ p q = cc
+
+pub waiting-number-one : OneAnswer waiting-number.Post (λ r. r .0)
+waiting-number-one u v a r₁ r₂ e₁ e₂ p q = cc
+
+pub waiting-is-data-one : OneAnswer waiting-is-data.Post (λ r. r)
+waiting-is-data-one u v a r₁ r₂ e₁ e₂ p q = cc
+
+pub waiting-is-reset-one : OneAnswer waiting-is-reset.Post (λ r. r)
+waiting-is-reset-one u v a r₁ r₂ e₁ e₂ p q = cc
+
+pub waiting-data-out-one : OneAnswer waiting-data-out.Post (λ r. r)
+waiting-data-out-one u v a r₁ r₂ e₁ e₂ p q = cc
 
 -- ---- timing
 

@@ -13,7 +13,9 @@ use Rattle.call_open.specs.Setup.{setupAnswer, setupAfter}
 use Rattle.call_open.specs.Opening.{openAfter, closeAfter}
 use Rattle.call_send.specs.Sending.{sendAfter, urgentAfter}
 use Rattle.call_hand_out.specs.Handing.{handOutAfter}
-use Rattle.trace.specs.Kinds.{tableKind, openKind, closeKind, sendKind, urgentKind, arrivalKind, tickKind, handOutKind}
+use Rattle.call_report.specs.Reporting.{reportAfter}
+use Rattle.trace.specs.Kinds.{tableKind, openKind, closeKind, sendKind, urgentKind, arrivalKind}
+use Rattle.trace.specs.Kinds.{tickKind, handOutKind, reportKind}
 use Rattle.trace.specs.Layout.{countOf, beginOf, headFrom, bytesFrom}
 use Rattle.trace_step.specs.Steps.{Outcome, storedOf, callOf, stepOf}
 use Rattle.trace_step.specs.declared.Told.the-variants as told
@@ -97,7 +99,7 @@ module _ (x : Lent) where
   Keeps o = ToldRefused (o .told) → o .lent ≡ x
 
   called : (kind i : ℕ) (b : List ℕ) → Keeps (callOf x kind i b)
-  unfolding callOf setupAfter openAfter closeAfter sendAfter urgentAfter handOutAfter
+  unfolding callOf setupAfter openAfter closeAfter sendAfter urgentAfter handOutAfter reportAfter
   called kind i b =
       either Keeps (eqb kind tableKind) (λ r. rw (r .1))
       (either Keeps (eqb kind openKind) (λ r. rw (r .1))
@@ -107,7 +109,8 @@ module _ (x : Lent) where
       (either Keeps (eqb kind arrivalKind) (λ r. arrival-spared (r .0) x b (r .1))
       (either Keeps (eqb kind tickKind) (λ r. absurd r)
       (either Keeps (eqb kind handOutKind) (λ r. rw (r .1))
-      (λ r. refl))))))))
+      (either Keeps (eqb kind reportKind) (λ r. rw (r .1))
+      (λ r. refl)))))))))
 
   stepped : (f : List ℕ) (k : ℕ) → Keeps (stepOf x f k)
   unfolding stepOf

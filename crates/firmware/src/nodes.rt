@@ -21,6 +21,7 @@ ghost use Rattle.call_open.specs.Opening.{stateAnswer};
 ghost use Rattle.call_send.specs.Sending.{sendAnswer, sendAfter, urgentAnswer, urgentAfter};
 ghost use Rattle.call_arrive.specs.Arriving.{arrivalAnswer, arrivalAfter};
 ghost use Rattle.call_hand_out.specs.Handing.{handOutAnswer, handOutAfter};
+ghost use Rattle.call_report.specs.Reporting.{reportAnswer, reportAfter};
 ghost use Rattle.call_tick.specs.Ticking.{tickAnswer, tickAfter};
 ghost use Rattle.firmware.specs.Nodes.{refusalIn, valueIn, countsIn, arrivedIn, versionOf};
 
@@ -207,6 +208,18 @@ pub extern "C" fn shelugvar_hand_out(
     }
 }
 
+// The frame under way has ended: Data or a Reset starts its timer. Refuses 20.
+#[no_mangle]
+pub extern "C" fn shelugvar_report(node: &mut Node, book: &mut Book) -> u8
+    ensures answer { λ r. ⌜ r
+        ≡ refusalIn (answerOf (reportAnswer (bare (now (node .entry)) (now (book .entry))))) ⌝ }
+    ensures after { λ _.
+        let x = bare (now (node .entry)) (now (book .entry)) in
+        ⌜ bare (now (node .exit)) (now (book .exit)) ≡ reportAfter x (reportAnswer x) ⌝ }
+{
+    told(node::report(node, book))
+}
+
 // Every running timer falls by one: the entries that became Enabled, entry 0 lowest. Refuses nothing.
 #[no_mangle]
 pub extern "C" fn shelugvar_tick(node: &mut Node, book: &mut Book) -> u16
@@ -252,14 +265,14 @@ pub extern "C" fn shelugvar_store_need(table: &[u8], need: &mut usize) -> u8
 
 const MAJOR: u32 = 0;
 
-const MINOR: u32 = 2;
+const MINOR: u32 = 3;
 
-const PATCH: u32 = 1;
+const PATCH: u32 = 0;
 
 // The version of this archive, a byte a number.
 #[no_mangle]
 pub extern "C" fn shelugvar_version() -> u32
-    ensures { λ r. ⌜ r ≡ versionOf 0 2 1 ⌝ }
+    ensures { λ r. ⌜ r ≡ versionOf 0 3 0 ⌝ }
 {
     (MAJOR * 256 + MINOR) * 256 + PATCH
 }

@@ -34,6 +34,8 @@ bytes-agree refusal.UnknownType = refl
 bytes-agree refusal.UserBits = refl
 bytes-agree refusal.LengthAgainstType = refl
 bytes-agree refusal.WrongSequence = refl
+bytes-agree refusal.UnderWay = refl
+bytes-agree refusal.NoneUnderWay = refl
 bytes-agree refusal.BadTrace = refl
 
 -- the first number that has a byte

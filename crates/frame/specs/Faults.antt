@@ -31,6 +31,8 @@ byteIn refusal.UnknownType = typeByte ∷ []
 byteIn refusal.UserBits = typeByte ∷ []
 byteIn refusal.LengthAgainstType = lengthByte ∷ []
 byteIn refusal.WrongSequence = sequenceByte ∷ []
+byteIn refusal.UnderWay = []
+byteIn refusal.NoneUnderWay = []
 byteIn refusal.BadTrace = []
 
 -- a refusal in the paper's numbers: its own, then the byte's [R47, O3]

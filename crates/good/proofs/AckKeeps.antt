@@ -11,6 +11,7 @@ use borrow.Author.Tests.{eqb-true, ltb-true}
 use Rattle.units.specs.Refusals.{pick}
 use Rattle.memory.specs.Layout.{allCells, cellsAt, resets, urgents, resends, datas, resetId, lengthAt, timerAt, quietAt}
 use Rattle.waiting.specs.Queues.{unlinked}
+use Rattle.waiting.specs.Port.{underIn}
 use Rattle.window.specs.Windows.{offsetOf}
 use Rattle.window.proofs.Resetting.{reset-held, reset-good}
 use Rattle.window.proofs.WindowLaw.{distance-back}
@@ -25,8 +26,8 @@ use Rattle.end_points.specs.declared.answers.Was.the-variants as was
 use Rattle.slots.specs.Slots.{cell, past, lengthIn, timerIn}
 use Rattle.arrive_ack.specs.Acking.{counts, passing, ackedRun, openedRun, ackAnswer, resetGone, stopped, fewer}
 use Rattle.arrive_ack.specs.Acking.{countedNode, ackNode, ackBook, ackAfter}
-use Rattle.good.specs.Good.{Lists, mine, ids, Silent, Sending, OpenSender, FailingSender, Outlasts, Timely, Good}
-use Rattle.good.proofs.Lined.{less, unlink-cells}
+use Rattle.good.specs.Good.{Lists, mine, ids, Silent, Sending, OpenSender, FailingSender, Outlast, Timely, Good}
+use Rattle.good.proofs.Lined.{less, unlink-cells, unlink-under}
 use Rattle.good.proofs.Framing.{Within, within-same, within-unlink, Apart, apart-same, apart-then, apart-saved}
 use Rattle.good.proofs.Framing.{outlasts-fewer, timely-fewer, entry-low}
 use Rattle.good.proofs.Offsets.{reset-owner}
@@ -35,7 +36,7 @@ use Rattle.good.proofs.RunSets.{counted-puts, counted-end}
 use Rattle.good.proofs.Senders.{Timed, timed-set, within-timed, reset-waited, reset-gone, entry-window, sender-stated, sender-entered}
 use Rattle.timing.specs.Timing.{clockIn, quietIn, roused}
 use Rattle.good.proofs.Clocked.{Clocked, clocked-set, clocked-end, clocked-waiting, clocked-acks, roused-apart, roused-quiet}
-use Rattle.good.proofs.AckRuns.{Passes, Counts, counts-says, passes, moved-sending, moved-fits, moved-outlasts, moved-timers, moved-resends, moved-datas, Gone, open-book}
+use Rattle.good.proofs.AckRuns.{Passes, Counts, counts-says, passes, moved-sending, moved-fits, moved-outlasts, moved-standing, moved-timers, moved-resends, moved-datas, Gone, open-book}
 
 -- ---- what a call comes to
 
@@ -53,6 +54,7 @@ record Outcome (t ws b : List ℕ) (l : Lists) (ws′ b′ : List ℕ) (i s : �
   good : Good t ws′ b′ lists
   apart : Apart i ws ws′
   within : Within i b b′ l lists
+  under : underIn b′ ≡ underIn b
   ends : Acked ws b ws′ b′ i s
   lengths : (c : ℕ) → c < allCells → lengthIn b′ c ≡ lengthIn b c
 
@@ -97,6 +99,7 @@ module _ (t ws b : List ℕ) (l : Lists) (G : Good t ws b l) (i s : ℕ) (li : i
             };
             resends = moved-resends b b′ i (entry-low t ws b l G i li) r (entry-window t ws b l G i li) (run-fits ws i) (endOf ws i .entry .largest) (o .sending) k (says .handed) (passing r s) pass (z .timed)
                 l (z .lists) (o .resends) (z .gone) (z .kept);
+            standing = moved-standing b b′ i (entry-low t ws b l G i li) r (entry-window t ws b l G i li) (run-fits ws i) (endOf ws i .entry .largest) (o .sending) k (says .handed) (passing r s) pass (z .timed) (o .standing);
           }
 
       open-fits : RunFits (ackedRun (endOf ws i .run) s)
@@ -140,6 +143,7 @@ module _ (t ws b : List ℕ) (l : Lists) (G : Good t ws b l) (i s : ℕ) (li : i
                 (sender-entered t ws b l G i li kind book-then (z .lists) Open r (pass .good) open-sender) soon;
             apart = p .apart;
             within = z .within;
+            under = z .timed .under;
             ends = counted q c (open-end q);
             lengths = z .timed .lengths;
           }
@@ -173,6 +177,7 @@ module _ (t ws b : List ℕ) (l : Lists) (G : Good t ws b l) (i s : ℕ) (li : i
             timers =
                 ap (λ (x : ℕ). fewer (timerIn b (cell i (r .window) x)) n) (sym number-here)
                 ∙ moved-timers b b′ i (entry-low t ws b l G i li) r (entry-window t ws b l G i li) (run-fits ws i) (endOf ws i .entry .largest) (o .sending) k (says .handed) (passing r s) pass failing-timed n (o .timers);
+            standing = moved-standing b b′ i (entry-low t ws b l G i li) r (entry-window t ws b l G i li) (run-fits ws i) (endOf ws i .entry .largest) (o .sending) k (says .handed) (passing r s) pass failing-timed (o .standing);
           }
 
       failing-fits : RunFits (ackedRun (endOf ws i .run) s)
@@ -189,14 +194,13 @@ module _ (t ws b : List ℕ) (l : Lists) (G : Good t ws b l) (i s : ℕ) (li : i
           sides true h = h
           sides false h = omega arith
 
-      failing-timely : (q′ : ℕ) → q′ ≤ quietIn ws → (j : ℕ) → j < ackedRun (endOf ws i .run) s .handed
-          → Outlasts (clockIn ws) q′ (timerIn (set b (timerAt (cell i (endOf ws i .run .window) s)) 0) (cell i (ackedRun (endOf ws i .run) s .window) (past (ackedRun (endOf ws i .run) s .window) j)))
+      failing-timely : (q′ : ℕ) → q′ ≤ quietIn ws → Outlast (clockIn ws) q′ (set b (timerAt (cell i (endOf ws i .run .window) s)) 0) i (ackedRun (endOf ws i .run) s)
       unfolding ackedRun
       failing-timely q′ f =
           let r = endOf ws i .run in
           let was = subst (Timely (clockIn ws) (quietIn ws) b i (endOf ws i)) q (G .timely i li) in
           moved-outlasts b (set b (timerAt (cell i (r .window) s)) 0) i (entry-low t ws b l G i li) r (entry-window t ws b l G i li) (run-fits ws i) (endOf ws i .entry .largest) (o .sending) (offsetOf (r .window) s) (says .handed) (passing r s) pass
-          failing-timed (clockIn ws) q′ (λ j h. outlasts-fewer (clockIn ws) (quietIn ws) q′ _ f (was .0 j h))
+          failing-timed (clockIn ws) q′ (λ j h d. outlasts-fewer (clockIn ws) (quietIn ws) q′ _ f (was .0 j h d))
 
       failing-outcome :
           Outcome t ws b l (roused (saved ws i (Failing (fewer (timerIn b (cell i (endOf ws i .run .window) s)) n)) (ackedRun (endOf ws i .run) s)))
@@ -216,9 +220,10 @@ module _ (t ws b : List ℕ) (l : Lists) (G : Good t ws b l) (i s : ℕ) (li : i
             lists = l;
             good = sender-put t ws b l G i li kind (roused ws′) apart (clocked-waiting ws′ (roused ws′) c′ ∙ acks .0) (clocked-acks ws′ (roused ws′) c′ ∙ acks .1) b′ l failing-within
                 (turnedTo (endOf ws i) (Failing m) r) end (sender-entered t ws b l G i li kind b′ l (Failing m) r (pass .good) failing-sender)
-                (failing-timely (quietIn (roused ws′)) (apart .quiet), λ z. roused-quiet ws′ (saves .long ∙ G .long));
+                (failing-timely (quietIn (roused ws′)) (apart .quiet), λ z o. roused-quiet ws′ (saves .long ∙ G .long));
             apart = apart;
             within = failing-within;
+            under = failing-timed .under;
             ends = failed n q c end;
             lengths = failing-timed .lengths;
           }
@@ -249,6 +254,7 @@ module _ (t ws b : List ℕ) (l : Lists) (G : Good t ws b l) (i s : ℕ) (li : i
           each = λ x m. absurd (List·Memᴰ·not-nil (subst (λ (ys : List ℕ). List·Memᴰ x ys) (h .resends) m));
           all = λ x p. absurd (omega (arith, p .handed));
         };
+        standing = λ k h. absurd (omega arith);
       }
 
   fresh-fits : RunFits (openedRun (endOf ws i .run))
@@ -256,17 +262,18 @@ module _ (t ws b : List ℕ) (l : Lists) (G : Good t ws b l) (i s : ℕ) (li : i
   fresh-fits =
       record { start = omega arith; taken = omega arith; handed = omega arith; accepted = omega arith; confirmed = omega arith; urgent = omega arith }
 
-  opened-outcome : (t₀ : ℕ) → endOf ws i .state ≡ Enabled t₀ true → s ≡ 0 → (b′ : List ℕ) (l′ : Lists) → Within i b b′ l l′ → ((c : ℕ) → cellsAt ≤ c → getD b′ c 0 ≡ getD b c 0) → Silent l′ i []
+  opened-outcome : (t₀ : ℕ) → endOf ws i .state ≡ Enabled t₀ true → s ≡ 0 → (b′ : List ℕ) (l′ : Lists) → Within i b b′ l l′ → ((c : ℕ) → cellsAt ≤ c → getD b′ c 0 ≡ getD b c 0) → underIn b′ ≡ underIn b → Silent l′ i []
       → Outcome t ws b l (saved ws i Open (openedRun (endOf ws i .run))) b′ i s
   unfolding openedRun
-  opened-outcome t₀ q z b′ l′ v same h =
+  opened-outcome t₀ q z b′ l′ v same under h =
       let r = openedRun (endOf ws i .run) in
       record {
         lists = l′;
         good = sender-turn t ws b l G i li kind Open r tt fresh-fits refl b′ l′ v
-            (sender-entered t ws b l G i li kind b′ l′ Open r (reset-good (endOf ws i .run .window) (entry-window t ws b l G i li)) (fresh-sender b′ l′ h)) (λ k n. absurd (omega arith));
+            (sender-entered t ws b l G i li kind b′ l′ Open r (reset-good (endOf ws i .run .window) (entry-window t ws b l G i li)) (fresh-sender b′ l′ h)) (λ k n d. absurd (omega arith));
         apart = apart-saved i ws Open r;
         within = v;
+        under = under;
         ends = opened t₀ q z (end-saved ws i Open r (G .long) (entry-low t ws b l G i li) tt fresh-fits refl);
         lengths = λ c l. same (lengthAt c) (omega arith);
       }
@@ -277,8 +284,9 @@ module _ (t ws b : List ℕ) (l : Lists) (G : Good t ws b l) (i s : ℕ) (li : i
   opened-kept t₀ q e true a =
       opened-outcome t₀ q e (unlinked b (resetId i)) (less l (resetId i))
       (within-unlink i b l (G .lines) resets (resetId i) (omega arith) (reset-waited b l (G .lines) i a) (reset-owner i (entry-low t ws b l G i li)))
-      (unlink-cells b l (G .lines) resets (resetId i) (omega arith) (reset-waited b l (G .lines) i a)) (reset-gone b l (G .lines) i a)
-  opened-kept t₀ q e false a = opened-outcome t₀ q e b l (within-same i b l (G .lines)) (λ c h. refl) a
+      (unlink-cells b l (G .lines) resets (resetId i) (omega arith) (reset-waited b l (G .lines) i a))
+      (unlink-under b l (G .lines) resets (resetId i) (omega arith) (reset-waited b l (G .lines) i a)) (reset-gone b l (G .lines) i a)
+  opened-kept t₀ q e false a = opened-outcome t₀ q e b l (within-same i b l (G .lines)) (λ c h. refl) refl a
 
   -- nothing
   nothing : ackAnswer (endOf ws i) (endOf ws i .state) s ≡ was.Ignored → Outcome t ws b l ws b i s
@@ -288,6 +296,7 @@ module _ (t ws b : List ℕ) (l : Lists) (G : Good t ws b l) (i s : ℕ) (li : i
         good = G;
         apart = apart-same i ws;
         within = within-same i b l (G .lines);
+        under = refl;
         ends = ignored refl refl h;
         lengths = λ c g. refl;
       }
@@ -328,7 +337,7 @@ module _ (t : List ℕ) (x : Lent) (l : Lists) (i s : ℕ) (g : Good t (x .node)
   whole = outcome t (x .node) (x .book) l g i s li kind hs (endOf (x .node) i .state) refl
 
   pub ack-keeps : Kept t x (ackAfter x i (endOf (x .node) i) (endOf (x .node) i .state) s) l i
-  ack-keeps = record { lists = whole .lists; good = whole .good; apart = whole .apart; within = whole .within }
+  ack-keeps = record { lists = whole .lists; good = whole .good; apart = whole .apart; within = whole .within; under = whole .under }
 
   -- what becomes of the end point
   pub ack-ends : Acked (x .node) (x .book) (ackAfter x i (endOf (x .node) i) (endOf (x .node) i .state) s .node)

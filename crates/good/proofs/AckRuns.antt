@@ -13,6 +13,7 @@ use borrow.Author.Tests.{eqb-true, eqb-false, ltb-true}
 use Rattle.units.specs.Refusals.{pick}
 use Rattle.memory.specs.Layout.{resends, cellId, timerAt}
 use Rattle.waiting.specs.Queues.{unlinked}
+use Rattle.waiting.specs.Port.{dataOut}
 use Rattle.window.specs.Windows.{held, offsetOf, insideOf, acceptOf, Good as GoodWindow}
 use Rattle.window.specs.declared.Window.{Window}
 use Rattle.window.specs.declared.Passed.{Passed}
@@ -25,12 +26,12 @@ use Rattle.end_points.specs.Runs.{isNew}
 use Rattle.end_points.specs.declared.Run.{Run}
 use Rattle.slots.specs.Slots.{cell, past, timerIn}
 use Rattle.arrive_ack.specs.Acking.{counts, passing, moved, stopped, fewer}
-use Rattle.good.specs.Good.{Lists, Lines, mine, idAt, ids, Resend, Resends, Filled, Sending, running, Outlasts}
+use Rattle.good.specs.Good.{Lists, Lines, mine, idAt, ids, Resend, Resends, Filled, Sending, running, Standing, Outlasts, Outlast}
 use Rattle.good.proofs.Members.{without-in, without-keeps, mine-in, mine-without}
-use Rattle.good.proofs.Lined.{less, unlink-lines, unlink-cells}
+use Rattle.good.proofs.Lined.{less, unlink-lines, unlink-cells, unlink-under}
 use Rattle.good.proofs.Known.{is-new, either, neither}
-use Rattle.good.proofs.Framing.{Within, within-then, within-unlink, cell-low}
-use Rattle.good.proofs.Offsets.{cell-pass, id-inj}
+use Rattle.good.proofs.Framing.{same-under, Within, within-then, within-unlink, cell-low}
+use Rattle.good.proofs.Offsets.{number-pass, cell-pass, id-inj}
 use Rattle.good.proofs.Senders.{Timed, timed-outlasts, timed-set, timed-after, within-timed, running-stopped, running-moved, gone-other}
 
 -- ---- the window once a number is acknowledged
@@ -39,6 +40,7 @@ use Rattle.good.proofs.Senders.{Timed, timed-outlasts, timed-set, timed
 pub record Passes (i : ℕ) (w : Window) (k p : ℕ) (u : Window) : Type 0 where
   pub good : GoodWindow u
   pub size : u .size ≡ w .size
+  pub numbers : (j : ℕ) → past u j ≡ past w (p + j)
   pub cells : (j : ℕ) → cell i u (past u j) ≡ cell i w (past w (p + j))
   pub first : held u 0 ≡ false
   pub each : (j : ℕ) → held u j ≡ true → (p + j ≡ k) ⊎ (held w (p + j) ≡ true)
@@ -73,6 +75,7 @@ module _ (i : ℕ) (r : Run) (s : ℕ) (g : GoodWindow (r .window)) (c : Counts 
       record {
         good = pass-good a ga;
         size = pass-size a ∙ accept-size (r .window) s;
+        numbers = λ j. number-pass (r .window) s j ∙ ap (λ (n : ℕ). past (r .window) (n + j)) (sym (pass-run a));
         cells = λ j. cell-pass i (r .window) s j ∙ ap (λ (n : ℕ). cell i (r .window) (past (r .window) (n + j))) (sym (pass-run a));
         first = pass-first a ga;
         each = λ j h. either (passing r s .run + j) (offsetOf (r .window) s) (held (r .window) (passing r s .run + j)) (sym (held-then j) ∙ h);
@@ -144,12 +147,23 @@ module _ (b b′ : List ℕ) (i : ℕ) (low : i < 16) (r : Run) (g : GoodWindow 
         urgent = fits .urgent;
       }
 
+  -- what is under way is the same number
+  moved-under : (j : ℕ) → past (v .window) j ≡ dataOut b′ i → past (r .window) (v .run + j) ≡ dataOut b i
+  moved-under j o = sym (P .numbers j) ∙ o ∙ same-under i b b′ (T .under) .data!
+
   -- the timers of the numbers that are left stay timely
-  pub moved-outlasts : (c q : ℕ) → ((j : ℕ) → j < r .handed → Outlasts c q (timerIn b (cell i (r .window) (past (r .window) j))))
-      → (j : ℕ) → j < r .handed - v .run → Outlasts c q (timerIn b′ (cell i (v .window) (past (v .window) j)))
-  moved-outlasts c q h j m =
+  pub moved-outlasts : (c q : ℕ) → Outlast c q b i r → Outlast c q b′ i (moved r v)
+  moved-outlasts c q h j m d =
       subst (λ (z : ℕ). Outlasts c q (timerIn b′ z)) (sym (P .cells j))
-      (timed-outlasts b b′ i (r .window) k 0 T c q (λ runs. absurd (runs refl)) (r .handed) (omega (arith, S .taken, S .handed)) (λ n l d. h n l) (v .run + j) (omega arith))
+      (timed-outlasts b b′ i (r .window) k 0 T c q (λ n. past (r .window) n ≢ dataOut b i) (λ z runs. absurd (runs refl)) (r .handed) (omega (arith, S .taken, S .handed))
+      (λ n l e z. h n l z) (v .run + j) (omega arith) (λ o. d (P .numbers j ∙ o ∙ sym (same-under i b b′ (T .under) .data!))))
+
+  -- and the one that is under way stands
+  pub moved-standing : Standing b i r → Standing b′ i (moved r v)
+  moved-standing s j m missing o z =
+      let p = P .none j missing in
+      s (v .run + j) (omega arith) (p .1) (moved-under j o)
+      (sym (T .there (v .run + j) (omega (arith, S .taken, S .handed)) (p .0)) ∙ ap (timerIn b′) (sym (P .cells j)) ∙ z)
 
   -- at Failing: the timers that run then
   pub moved-timers : (n : ℕ) → n ≡ running b i (r .window) (r .handed)
@@ -273,7 +287,7 @@ module _ (b : List ℕ) (l : Lists) (L : Lines b l) (i : ℕ) (low : i < 16) (r 
             (within-unlink i b l L resends x (omega arith) (p .0) (p .1))
             (within-timed i low (r .window) g k fit 0 (unlinked b x) (less l x) lines);
         timed = timed-after i low (r .window) g k fit 0 b (unlinked b x) (set (unlinked b x) (timerAt (cell i (r .window) (past (r .window) k))) 0)
-            (unlink-cells b l L resends x (omega arith) (p .0))
+            (unlink-cells b l L resends x (omega arith) (p .0)) (unlink-under b l L resends x (omega arith) (p .0))
             (timed-set i low (r .window) g k fit 0 (unlinked b x) (lines .long));
         others = λ q h n. gone-other b l L resends x (omega arith) (p .0) q h n;
         gone = λ y m. let d = without-in x y (mine i (l resends)) (subst (λ (ys : List ℕ). List·Memᴰ y ys) same m) in (d .0, inl (d .1));

@@ -32,7 +32,7 @@ module _ (t : List ℕ) (x : Lent) (l : Lists) (g : Good t (x .node) (x .book) l
   taken-keeps type.Data k o m n w = data-keeps t x l g i li k (o refl) s byte p (n refl) (m refl) (w refl)
   taken-keeps type.Acknowledge k o m n w = ack-keeps t x l i s g li k byte
   taken-keeps type.Reset k o m n w = reset-keeps t x l g i li k (w refl)
-  taken-keeps type.Urgent k o m n w = record { lists = l; good = g; apart = apart-same i (x .node); within = within-same i (x .book) l (g .lines) }
+  taken-keeps type.Urgent k o m n w = record { lists = l; good = g; apart = apart-same i (x .node); within = within-same i (x .book) l (g .lines); under = refl }
 
 pub arrive-keeps : (t : List ℕ) (x : Lent) (l : Lists) (f : List ℕ) → Good t (x .node) (x .book) l → ((k : ℕ) → getD f k 0 < 256) → (a : Taken x f)
     → Kept t x (arrivalAfter x f) l (a .entry)

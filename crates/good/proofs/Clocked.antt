@@ -123,5 +123,6 @@ module _ (ws ws′ : List ℕ) (c : Clocked ws ws′) where
         lines = g .lines;
         known = λ q h x m. let p = g .known q h x m in (rw clocked-count (p .0), p .1);
         entered = λ i h. subst (Entered b l i) (sym (clocked-end i)) (g .entered i (rw clocked-count at h));
+        under = λ h. rw clocked-count (g .under h);
         timely = λ i h. subst (λ (z : EndPoint). Timely (clockIn ws′) (quietIn ws′) b i z (z .state)) (sym (clocked-end i)) (soon i (rw clocked-count at h));
       }

@@ -17,6 +17,7 @@ use Rattle.memory.specs.Layout.{resets, resetId}
 use Rattle.waiting.specs.Queues.{unlinked}
 use Rattle.waiting.specs.Acks.{dropped}
 use Rattle.waiting.specs.Order.{acksIn}
+use Rattle.waiting.specs.Port.{underIn}
 use Rattle.waiting.proofs.Ringed.{Ring, drop-acks, drop-ring}
 use Rattle.window.specs.Windows.{Good as GoodWindow}
 use Rattle.end_points.specs.Ends.{endOf, saved}
@@ -30,7 +31,7 @@ use Rattle.end_points.specs.declared.EndPoint.{EndPoint}
 use Rattle.call_open.specs.Opening.{closeAnswer, silenced, closeAfter}
 use Rattle.timing.specs.Timing.{clockIn, quietIn}
 use Rattle.good.specs.Good.{Lists, Lines, Silent, Stated, Entered, Timely, Good}
-use Rattle.good.proofs.Lined.{less}
+use Rattle.good.proofs.Lined.{less, unlink-under}
 use Rattle.good.proofs.Known.{stated-as, receiver-silent}
 use Rattle.good.proofs.Framing.{Within, within-same, within-unlink, Apart, apart-then, apart-saved, framed, apart-count, apart-timely, entry-low}
 use Rattle.good.proofs.Offsets.{reset-owner}
@@ -43,11 +44,12 @@ use Rattle.good.proofs.Idling.{idle}
 record Quiet (i : ℕ) (b b′ : List ℕ) (l : Lists) : Type 0 where
   lists : Lists
   within : Within i b b′ l lists
+  under : underIn b′ ≡ underIn b
   silent : Silent lists i []
 
 module _ (b : List ℕ) (l : Lists) (i : ℕ) (low : i < 16) (L : Lines b l) where
   quiet-same : Silent l i [] → Quiet i b b l
-  quiet-same s = record { lists = l; within = within-same i b l L; silent = s }
+  quiet-same s = record { lists = l; within = within-same i b l L; under = refl; silent = s }
 
   -- its Reset, where one waits
   quiet-reset : (t : Bool) → Silent l i (pick t (resetId i ∷ []) []) → Quiet i b (pick t (unlinked b (resetId i)) b) l
@@ -55,6 +57,7 @@ module _ (b : List ℕ) (l : Lists) (i : ℕ) (low : i < 16) (L : Lines b l) whe
       record {
         lists = less l (resetId i);
         within = within-unlink i b l L resets (resetId i) (omega arith) (reset-waited b l L i s) (reset-owner i low);
+        under = unlink-under b l L resets (resetId i) (omega arith) (reset-waited b l L i s);
         silent = reset-gone b l L i s;
       }
   quiet-reset false s = quiet-same s
@@ -66,7 +69,7 @@ module _ (b : List ℕ) (l : Lists) (i : ℕ) (low : i < 16) (L : Lines b l) whe
     quiet-sender (Enabled t sent) h = quiet-reset (eqb t 0) (h .silent)
     quiet-sender Open h =
         let d = idle b l i low L e g h in
-        record { lists = d .lists; within = d .within; silent = subst (Silent (d .lists) i) (h .share .resets) (d .silent) }
+        record { lists = d .lists; within = d .within; under = d .under; silent = subst (Silent (d .lists) i) (h .share .resets) (d .silent) }
     quiet-sender (Failing n) h = quiet-same (h .silent)
 
 -- the entry then
@@ -142,6 +145,7 @@ module _ (x : Lent) (i : ℕ) (t : List ℕ) (l : Lists) (g : Good t (x .node) (
             (closed-entered b (q .lists) i e (n .window) (q .silent)) tt;
         apart = apart-saved i (x .node) Closed (anew (e .run));
         within = q .within;
+        under = q .under;
       }
   closed-kept false h =
       let e = endOf (x .node) i in
@@ -154,6 +158,7 @@ module _ (x : Lent) (i : ℕ) (t : List ℕ) (l : Lists) (g : Good t (x .node) (
             apart-then i (x .node) (dropped i (x .node)) (saved (dropped i (x .node)) i Closed (anew (e .run))) (apart t (x .node) (x .book) l g i li)
             (apart-saved i (dropped i (x .node)) Closed (anew (e .run)));
         within = within-same i (x .book) l (g .lines);
+        under = refl;
       }
 
   closed-end : (k : Bool) → endOf (closedAs x i (endOf (x .node) i) k .node) i ≡ turnedTo (endOf (x .node) i) Closed (anew (endOf (x .node) i .run))

@@ -3,20 +3,21 @@
 use Prim.Native.Nat.{ℕ, zero, suc, _+_, _%_, _≤_, _<_}
 use mathlib.Core.Path.{_≡_, refl, sym, ap, subst, _∙_}
 use mathlib.Core.Logic.{_≢_, _⊎_, inl, inr}
-use mathlib.Core.Bool.{Bool, true, false}
+use mathlib.Core.Bool.{Bool, true, false, not, _&&_}
 use mathlib.Core.List.{List, [], _∷_, _++_, List·Memᴰ, append-nil}
 use native.Mathlib.Decide.{ℕ-discrete, decLe}
 use native.Mathlib.Nat.{mod-lt}
 use native.Mathlib.Omega.{arith}
 use lib.ListN.{length, getD, set}
-use lib.Seq.{getD-set-other, length-sets}
+use lib.Seq.{getD-set-same, getD-set-other, length-sets}
 use lib.Dec.{eqb}
 use borrow.Author.Tests.{ne-eqb}
 use Rattle.units.specs.Refusals.{pick}
-use Rattle.memory.specs.Layout.{allCells, cellsAt, idsEnd, resets, urgents, resends, datas, clockAt, quietAt, rowAt, entryAt, lengthAt, timerAt, retriesAt, cellOwner}
+use Rattle.memory.specs.Layout.{allCells, cellsAt, idsEnd, underAt, resets, urgents, resends, datas, clockAt, quietAt, rowAt, entryAt, lengthAt, timerAt, retriesAt, cellOwner}
 use Rattle.waiting.specs.Queues.{appended, unlinked}
 use Rattle.waiting.specs.Acks.{waitingOf}
 use Rattle.waiting.specs.Order.{acksIn}
+use Rattle.waiting.specs.Port.{underIn, outEntry, outNumber, isOwn, isData, isReset, noNumber, dataOut}
 use Rattle.end_points.proofs.Kept.{end-ext, saved-word, saved-head, saved-other}
 use Rattle.window.specs.Windows.{Good as GoodWindow}
 use Rattle.window.specs.declared.Window.{Window}
@@ -34,11 +35,34 @@ use Rattle.slots.specs.Slots.{slotFor, cell, past, lengthIn, timerIn}
 use Rattle.timing.specs.Timing.{clockIn, quietIn}
 use Rattle.table.proofs.Good.{good-head}
 use Rattle.memory.specs.Layout.{ownerOf, Ranged}
-use Rattle.good.specs.Good.{Lists, Lines, mine, Share, Resends, Silent, Filled, Sending, Receiving, running, Anew, Stated, Entered, Outlasts, Timely, Tabled, Owed, Good}
+use Rattle.good.specs.Good.{Lists, Lines, mine, Share, Resends, Silent, Filled, Sending, Receiving, running, Standing, Anew, Stated, Entered, Outlasts, Outlast, Timely, Tabled, Owed, UnderWay, Good}
 use Rattle.good.proofs.Members.{mine-append, mine-other, mine-apart, without-in, rest, rest-append, rest-own, rest-without}
-use Rattle.good.proofs.Lined.{added, less, added-here, added-there, added-in, append-lines, append-cells, unlink-lines, unlink-cells, set-lines}
+use Rattle.good.proofs.Lined.{added, less, added-here, added-there, added-in, append-lines, append-cells, append-under, unlink-lines, unlink-cells, unlink-under, port-lines, set-lines}
 
 -- ---- the book: only entry i's cells and share alter
+
+-- what entry j has under way is the same
+pub record SameUnder (j : ℕ) (b b′ : List ℕ) : Type 0 where
+  pub data! : dataOut b′ j ≡ dataOut b j
+  pub reset : isReset (underIn b′) j ≡ isReset (underIn b) j
+  pub own : isOwn b′ j ≡ isOwn b j
+
+pub same-under : (j : ℕ) (b b′ : List ℕ) → underIn b′ ≡ underIn b → SameUnder j b b′
+same-under j b b′ e =
+    record {
+      data! = ap (λ (u : ℕ). pick (isData u j) (outNumber u) noNumber) e;
+      reset = ap (λ (u : ℕ). isReset u j) e;
+      own = ap (λ (u : ℕ). not (eqb u 0) && eqb (outEntry u) j) e;
+    }
+
+under-then : {j : ℕ} {a b c : List ℕ} → SameUnder j a b → SameUnder j b c → SameUnder j a c
+under-then v w = record { data! = w .data! ∙ v .data!; reset = w .reset ∙ v .reset; own = w .own ∙ v .own }
+
+-- a frame of entry i, of one of the four types
+pub record Own (i u : ℕ) : Type 0 where
+  pub entry : outEntry u ≡ i
+  pub least : 4096 ≤ u
+  pub most : u < 20480
 
 pub record Within (i : ℕ) (b b′ : List ℕ) (l l′ : Lists) : Type 0 where
   pub lines : Lines b′ l′
@@ -47,9 +71,12 @@ pub record Within (i : ℕ) (b b′ : List ℕ) (l l′ : Lists) : Type 0 where
   pub known : (q : ℕ) → q < 4 → (x : ℕ) → List·Memᴰ x (l′ q) → List·Memᴰ x (l q) ⊎ ((ownerOf x ≡ i) × Ranged q x)
   -- what is not entry i's keeps its order
   pub order : (q : ℕ) → q < 4 → rest i (l′ q) ≡ rest i (l q)
+  -- what is under way is the same, but perhaps for entry i's
+  pub under : (j : ℕ) → j < 16 → j ≢ i → SameUnder j b b′
+  pub port : underIn b′ ≢ 0 → (underIn b′ ≡ underIn b) ⊎ Own i (underIn b′)
 
 pub within-same : (i : ℕ) (b : List ℕ) (l : Lists) → Lines b l → Within i b b l l
-within-same i b l L = record { lines = L; cells = λ k h n. refl; shares = λ j n q h. refl; known = λ q h x m. inl m; order = λ q h. refl }
+within-same i b l L = record { lines = L; cells = λ k h n. refl; shares = λ j n q h. refl; known = λ q h x m. inl m; order = λ q h. refl; under = λ j h n. same-under j b b refl; port = λ h. inl refl }
 
 pub within-then : (i : ℕ) (a b c : List ℕ) (k l m : Lists) → Within i a b k l → Within i b c l m → Within i a c k m
 within-then i a b c k l m v w =
@@ -59,15 +86,25 @@ within-then i a b c k l m v w =
       shares = λ j n q h. w .shares j n q h ∙ v .shares j n q h;
       known = λ q h x e. sides q x (v .known q h x) (w .known q h x e);
       order = λ q h. w .order q h ∙ v .order q h;
+      under = λ j h n. under-then (v .under j h n) (w .under j h n);
+      port = λ h. by h (w .port h);
     }
   where
+    more : underIn c ≡ underIn b → (underIn b ≡ underIn a) ⊎ Own i (underIn b) → (underIn c ≡ underIn a) ⊎ Own i (underIn c)
+    more e (inl d) = inl (e ∙ d)
+    more e (inr o) = inr (subst (Own i) (sym e) o)
+
+    by : underIn c ≢ 0 → (underIn c ≡ underIn b) ⊎ Own i (underIn c) → (underIn c ≡ underIn a) ⊎ Own i (underIn c)
+    by h (inl e) = more e (v .port (λ z. h (e ∙ z)))
+    by h (inr o) = inr o
+
     sides : (q x : ℕ) → (List·Memᴰ x (l q) → List·Memᴰ x (k q) ⊎ ((ownerOf x ≡ i) × Ranged q x)) → List·Memᴰ x (l q) ⊎ ((ownerOf x ≡ i) × Ranged q x)
         → List·Memᴰ x (k q) ⊎ ((ownerOf x ≡ i) × Ranged q x)
     sides q x f (inl e) = f e
     sides q x f (inr o) = inr o
 
 -- one of entry i's more
-pub within-append : (i : ℕ) (b : List ℕ) (l : Lists) → Lines b l → (q x : ℕ) → q < 4 → 4 ≤ x → x < idsEnd → ((r : ℕ) → r < 4 → List·Memᴰ x (l r) → ⊥)
+pub within-append : (i : ℕ) (b : List ℕ) (l : Lists) → Lines b l → (q x : ℕ) → q < 4 → 16 ≤ x → x < idsEnd → ((r : ℕ) → r < 4 → List·Memᴰ x (l r) → ⊥)
     → ownerOf x ≡ i → Ranged q x → Within i b (appended b q x) l (added l q x)
 within-append i b l L q x hq low hx none o g =
     record {
@@ -76,6 +113,8 @@ within-append i b l L q x hq low hx none o g =
       shares = λ j n r hr. share j n r (ℕ-discrete r q);
       known = λ r hr y m. sides r y (added-in l q x r y m);
       order = λ r hr. stays r (ℕ-discrete r q);
+      under = λ j h n. same-under j b (appended b q x) (append-under b l L q x hq low hx none);
+      port = λ h. inl (append-under b l L q x hq low hx none);
     }
   where
     stays : (r : ℕ) → Dec (r ≡ q) → rest i (added l q x r) ≡ rest i (l r)
@@ -104,6 +143,8 @@ within-unlink i b l L q x hq m o =
       shares = λ j n r hr. mine-apart j x (l r) (λ e. n (sym e ∙ o));
       known = λ r hr y k. inl (without-in x y (l r) k .0);
       order = λ r hr. rest-without i x (l r) o;
+      under = λ j h n. same-under j b (unlinked b x) (unlink-under b l L q x hq m);
+      port = λ h. inl (unlink-under b l L q x hq m);
     }
 
 -- a store in a cell of entry i's
@@ -115,7 +156,26 @@ within-set i b l L k v h o =
       shares = λ j n q g. refl;
       known = λ q g x m. inl m;
       order = λ q g. refl;
+      under = λ j g n. same-under j b (set b k v) (getD-set-other b k underAt v 0 (λ e. omega arith));
+      port = λ g. inl (getD-set-other b k underAt v 0 (λ e. omega arith));
     }
+
+-- another frame of entry i is under way, or none
+pub within-port : (i : ℕ) (b : List ℕ) (l : Lists) → Lines b l → (u : ℕ) → ((j : ℕ) → j < 16 → j ≢ i → SameUnder j b (set b underAt u))
+    → (u ≢ 0 → Own i u) → Within i b (set b underAt u) l l
+within-port i b l L u others own =
+    record {
+      lines = port-lines b l L u;
+      cells = λ j g n. getD-set-other b underAt j u 0 (λ e. omega arith);
+      shares = λ j n q g. refl;
+      known = λ q g x m. inl m;
+      order = λ q g. refl;
+      under = others;
+      port = λ h. inr (subst (Own i) (sym here) (own (λ z. h (here ∙ z))));
+    }
+  where
+    here : underIn (set b underAt u) ≡ u
+    here = getD-set-same b underAt u 0 (omega (arith, L .long))
 
 -- ---- the node: only entry i's end point alters, and perhaps the waiting acknowledgements; no tick passes, and no more may than before
 
@@ -214,24 +274,24 @@ unfolding running
 running-ext b b′ i w zero h = refl
 running-ext b b′ i w (suc n) h = rw (h n (omega arith), running-ext b b′ i w n (λ k l. h k (omega arith)))
 
--- the same numbers handed out with the same timers are as timely
-module _ (c q : ℕ) (b b′ : List ℕ) (i : ℕ) (e e′ : EndPoint) (w : e′ .run .window ≡ e .run .window) (n : e′ .run .handed ≡ e .run .handed)
+-- the same numbers handed out with the same timers, and the same under way, are as timely
+module _ (c q : ℕ) (b b′ : List ℕ) (i : ℕ) (e e′ : EndPoint) (u : SameUnder i b b′) (w : e′ .run .window ≡ e .run .window) (n : e′ .run .handed ≡ e .run .handed)
     (timers : (k : ℕ) → timerIn b′ (cell i (e .run .window) (past (e .run .window) k)) ≡ timerIn b (cell i (e .run .window) (past (e .run .window) k))) where
-  outlasts-as : ((k : ℕ) → k < e .run .handed → Outlasts c q (timerIn b (cell i (e .run .window) (past (e .run .window) k))))
-      → (k : ℕ) → k < e′ .run .handed → Outlasts c q (timerIn b′ (cell i (e′ .run .window) (past (e′ .run .window) k)))
-  outlasts-as h k m =
+  outlasts-as : Outlast c q b i (e .run) → Outlast c q b′ i (e′ .run)
+  outlasts-as h k m d =
       subst (λ (z : Window). Outlasts c q (timerIn b′ (cell i z (past z k)))) (sym w)
-      (subst (Outlasts c q) (sym (timers k)) (h k (subst (λ (z : ℕ). k < z) n m)))
+      (subst (Outlasts c q) (sym (timers k))
+      (h k (subst (λ (z : ℕ). k < z) n m) (λ z. d (ap (λ (y : Window). past y k) w ∙ z ∙ sym (u .data!)))))
 
   pub timely-as : (s : State) → Timely c q b i e s → Timely c q b′ i e′ s
   timely-as Closed h = tt
-  timely-as (Enabled d sent) h = h
+  timely-as (Enabled d sent) h = λ z. h (sym (u .reset) ∙ z)
   timely-as Open h = outlasts-as h
-  timely-as (Failing m) h = (outlasts-as (h .0), h .1)
+  timely-as (Failing m) h = (outlasts-as (h .0), λ z o. h .1 z (sym (u .own) ∙ o))
 
 module _ (j : ℕ) (low : j < 16) (b b′ : List ℕ) (l l′ : Lists)
     (cells : (k : ℕ) → cellsAt ≤ k → cellOwner k ≡ j → getD b′ k 0 ≡ getD b k 0)
-    (shares : (q : ℕ) → q < 4 → mine j (l′ q) ≡ mine j (l q)) where
+    (shares : (q : ℕ) → q < 4 → mine j (l′ q) ≡ mine j (l q)) (under : (s : ℕ) → s < 256 → s ≡ dataOut b′ j → s ≡ dataOut b j) (reset : isReset (underIn b′) j ≡ true → isReset (underIn b) j ≡ true) where
   module _ (r : Run) (g : GoodWindow (r .window)) where
     same-length : (s : ℕ) → lengthIn b′ (cell j (r .window) s) ≡ lengthIn b (cell j (r .window) s)
     same-length s = cells (lengthAt (cell j (r .window) s)) (omega arith) (length-owner j low (r .window) g s)
@@ -269,6 +329,9 @@ module _ (j : ℕ) (low : j < 16) (b b′ : List ℕ) (l l′ : Lists)
               (s .all x (record { at = p .at; handed = p .handed; missing = p .missing; idle = sym (same-timer (past (r .window) (p .at))) ∙ p .idle; is = p .is }));
         }
 
+    same-standing : Standing b j r → Standing b′ j r
+    same-standing s k h m o z = s k h m (under (past (r .window) k) (omega arith) o) (sym (same-timer (past (r .window) k)) ∙ z)
+
   same-share : (rs us ds : List ℕ) → Share l j rs us ds → Share l′ j rs us ds
   same-share rs us ds s =
       record {
@@ -285,13 +348,20 @@ module _ (j : ℕ) (low : j < 16) (b b′ : List ℕ) (l l′ : Lists)
 
   same-stated : (e : EndPoint) → GoodWindow (e .run .window) → (sends : Bool) (s : State) → Stated b l j e sends s → Stated b′ l′ j e sends s
   same-stated e g sends Closed a = same-anew e [] a
-  same-stated e g true (Enabled t sent) a = same-anew e (pick (eqb t 0) _ []) a
+  same-stated e g true (Enabled t sent) a =
+      record {
+        fresh = a .fresh;
+        silent = same-silent (pick (eqb t 0) _ []) (a .silent);
+        unsent = a .unsent;
+        standing = λ z. a .standing (reset z);
+      }
   same-stated e g false (Enabled t sent) a = (same-anew e [] (a .0), a .1, a .2)
   same-stated e g true Open a =
       record {
         sending = same-sending (e .run) g (e .entry .largest) (a .sending);
         share = same-share _ _ _ (a .share);
         resends = same-resends (e .run) g (a .resends);
+        standing = same-standing (e .run) g (a .standing);
       }
   same-stated e g false Open a = record { receiving = same-receiving (e .run) g (e .entry .largest) (a .receiving); silent = same-silent [] (a .silent) }
   same-stated e g true (Failing n) a =
@@ -300,14 +370,19 @@ module _ (j : ℕ) (low : j < 16) (b b′ : List ℕ) (l l′ : Lists)
         urgent = a .urgent;
         silent = same-silent [] (a .silent);
         timers = a .timers ∙ sym (running-ext b b′ j (e .run .window) (e .run .handed) (λ k h. same-timer (e .run) g (past (e .run .window) k)));
+        standing = same-standing (e .run) g (a .standing);
       }
   same-stated e g false (Failing n) a = a
 
   pub same-entered : (e : EndPoint) → Entered b l j e → Entered b′ l′ j e
   same-entered e a = record { window = a .window; stated = same-stated e (a .window) (isSends (e .entry .kind)) (e .state) (a .stated) }
 
-  pub same-timely : (c q : ℕ) (e : EndPoint) → GoodWindow (e .run .window) → (s : State) → Timely c q b j e s → Timely c q b′ j e s
-  same-timely c q e g s h = timely-as c q b b′ j e e refl refl (λ k. same-timer (e .run) g (past (e .run .window) k)) s h
+-- the same timers are as timely
+pub same-timely : (j : ℕ) → j < 16 → (b b′ : List ℕ) → ((k : ℕ) → cellsAt ≤ k → cellOwner k ≡ j → getD b′ k 0 ≡ getD b k 0) → SameUnder j b b′
+    → (c q : ℕ) (e : EndPoint) → GoodWindow (e .run .window) → (s : State) → Timely c q b j e s → Timely c q b′ j e s
+same-timely j low b b′ cells u c q e g s h =
+    timely-as c q b b′ j e e u refl refl
+    (λ k. cells (timerAt (cell j (e .run .window) (past (e .run .window) k))) (omega arith) (timer-owner j low (e .run .window) g (past (e .run .window) k))) s h
 
 -- where fewer ticks may pass
 pub outlasts-fewer : (c q q′ d : ℕ) → q′ ≤ q → Outlasts c q d → Outlasts c q′ d
@@ -315,9 +390,9 @@ outlasts-fewer c q q′ d f h runs = let p = h runs in (p .0, omega (arith, f, p
 
 pub timely-fewer : (c q q′ : ℕ) (b : List ℕ) (j : ℕ) (e : EndPoint) (s : State) → q′ ≤ q → Timely c q b j e s → Timely c q′ b j e s
 timely-fewer c q q′ b j e Closed f h = tt
-timely-fewer c q q′ b j e (Enabled d sent) f h = outlasts-fewer c q q′ d f h
-timely-fewer c q q′ b j e Open f h = λ k m. outlasts-fewer c q q′ _ f (h k m)
-timely-fewer c q q′ b j e (Failing n) f h = (λ k m. outlasts-fewer c q q′ _ f (h .0 k m), λ z. let y = h .1 z in omega (arith, f, y))
+timely-fewer c q q′ b j e (Enabled d sent) f h = λ z. outlasts-fewer c q q′ d f (h z)
+timely-fewer c q q′ b j e Open f h = λ k m o. outlasts-fewer c q q′ _ f (h k m o)
+timely-fewer c q q′ b j e (Failing n) f h = (λ k m o. outlasts-fewer c q q′ _ f (h .0 k m o), λ z o. let y = h .1 z o in omega (arith, f, y))
 
 -- ---- the node as a whole
 
@@ -390,9 +465,14 @@ module _ (i : ℕ) (ws ws′ : List ℕ) (a : Apart i ws ws′) where
         lines = v .lines;
         known = λ q h x m. known q x (g .known q h x) (v .known q h x m);
         entered = λ j h. there j (rw (← apart-count) h) (ℕ-discrete j i);
+        under = λ h. under (v .port h) h;
         timely = λ j h. on j (rw (← apart-count) h) (ℕ-discrete j i);
       }
     where
+      under : (underIn b′ ≡ underIn b) ⊎ Own i (underIn b′) → underIn b′ ≢ 0 → UnderWay (countIn ws′) (underIn b′)
+      under (inl e) h = subst (λ (u : ℕ). UnderWay (countIn ws′) u) (sym e) (rw apart-count (g .under (λ z. h (e ∙ z))))
+      under (inr o) h = record { known = rw (apart-count, o .entry) li; least = o .least; most = o .most }
+
       known : (q x : ℕ) → (List·Memᴰ x (l q) → (ownerOf x < countIn ws) × Ranged q x) → List·Memᴰ x (l q) ⊎ ((ownerOf x ≡ i) × Ranged q x) → (ownerOf x < countIn ws′) × Ranged q x
       known q x f (inl m) = let p = f m in (rw apart-count (p .0), p .1)
       known q x f (inr o) = (rw (apart-count, o .0) li, o .1)
@@ -401,12 +481,14 @@ module _ (i : ℕ) (ws ws′ : List ℕ) (a : Apart i ws ws′) where
       there j h (yes e) = subst (λ (k : ℕ). Entered b′ l′ k (endOf ws′ k)) (sym e) here
       there j h (no n) =
           subst (Entered b′ l′ j) (sym (a .others j n))
-          (same-entered j (entry-low t ws b l g j h) b b′ l l′ (λ k m o. v .cells k m (λ e. n (sym o ∙ e))) (λ q m. v .shares j n q m) (endOf ws j) (g .entered j h))
+          (same-entered j (entry-low t ws b l g j h) b b′ l l′ (λ k m o. v .cells k m (λ e. n (sym o ∙ e))) (λ q m. v .shares j n q m)
+          (λ s m o. o ∙ v .under j (entry-low t ws b l g j h) n .data!) (λ z. sym (v .under j (entry-low t ws b l g j h) n .reset) ∙ z) (endOf ws j) (g .entered j h))
 
       on : (j : ℕ) → j < countIn ws → Dec (j ≡ i) → Timely (clockIn ws′) (quietIn ws′) b′ j (endOf ws′ j) (endOf ws′ j .state)
       on j h (yes e) = subst (λ (k : ℕ). Timely (clockIn ws′) (quietIn ws′) b′ k (endOf ws′ k) (endOf ws′ k .state)) (sym e) soon
       on j h (no n) =
           subst (λ (z : EndPoint). Timely (clockIn ws′) (quietIn ws′) b′ j z (z .state)) (sym (a .others j n))
           (apart-timely b′ j (endOf ws j) (endOf ws j .state)
-          (same-timely j (entry-low t ws b l g j h) b b′ l l′ (λ k m o. v .cells k m (λ e. n (sym o ∙ e))) (λ q m. v .shares j n q m) (clockIn ws) (quietIn ws) (endOf ws j)
+          (same-timely j (entry-low t ws b l g j h) b b′ (λ k m o. v .cells k m (λ e. n (sym o ∙ e)))
+          (v .under j (entry-low t ws b l g j h) n) (clockIn ws) (quietIn ws) (endOf ws j)
           (g .entered j h .window) (endOf ws j .state) (g .timely j h)))

@@ -6,11 +6,12 @@ use mathlib.Core.Logic.{_≢_}
 use mathlib.Core.Bool.{Bool, true, false}
 use mathlib.Core.List.{List, [], List·Memᴰ}
 use native.Mathlib.Omega.{arith}
-use lib.ListN.{length, set}
-use Rattle.memory.specs.Layout.{resets, urgents, resends, datas, timerAt, quietAt, nodeWords}
+use lib.ListN.{getD, set}
+use Rattle.memory.specs.Layout.{allCells, cellsAt, resets, urgents, resends, datas, lengthAt, timerAt}
 use Rattle.waiting.specs.Queues.{unlinked}
 use Rattle.waiting.specs.Acks.{waitingOf}
 use Rattle.waiting.specs.Order.{acksIn, Distinct}
+use Rattle.waiting.specs.Port.{underIn, dataOut}
 use Rattle.window.specs.Windows.{held, Good as GoodWindow}
 use Rattle.window.proofs.Sizes.{size-le}
 use Rattle.end_points.specs.Ends.{endOf}
@@ -19,30 +20,26 @@ use Rattle.end_points.specs.Lent.{Lent}
 use Rattle.end_points.specs.declared.State.{State}
 use Rattle.end_points.specs.declared.State.the-variants.{Open}
 use Rattle.end_points.specs.declared.Run.{Run}
-use Rattle.slots.specs.Slots.{cell, past, lengthIn, timerIn}
-use Rattle.timing.specs.Timing.{clockIn, quietIn, later, heeded}
-use Rattle.timing.proofs.Falling.{later-runs}
-use Rattle.good.proofs.Clocked.{Clocked, clocked-set, clocked-end, clocked-waiting, clocked-acks, heeded-apart, heeded-quiet, starts}
+use Rattle.slots.specs.Slots.{cell, past, numberIn, lengthIn, timerIn}
+use Rattle.timing.specs.Timing.{clockIn, quietIn, standing}
+use Rattle.frame.specs.declared.FrameType.the-variants as type
 use Rattle.call_hand_out.specs.declared.Next.the-variants as next
-use Rattle.call_hand_out.specs.Handing.{handedRun, handedNode, timed, againNode, outNode, outBook, handedOut}
-use Rattle.memory.specs.Layout.{idCell, idEntry}
-use Rattle.good.specs.Good.{Lists, mine, idAt, ids, Resend, Resends, OpenSender, Stated, Outlasts, Timely, Good}
+use Rattle.call_hand_out.specs.Handing.{handedRun, handedNode, stood, sent, dataSent, outNode, outBook, handedOut}
+use Rattle.memory.specs.Layout.{idCell, idEntry, idSlot}
+use Rattle.good.specs.Good.{Lists, mine, idAt, ids, Resend, Resends, OpenSender, Standing, Stated, Outlasts, Outlast, Timely, Good}
 use Rattle.good.proofs.Members.{without-in, without-keeps, mine-in, mine-without}
-use Rattle.good.proofs.Lined.{less}
-use Rattle.good.proofs.Framing.{Within, within-then, Apart, apart-then, outlasts-fewer, entry-low}
+use Rattle.good.proofs.Lined.{less, unlink-under}
+use Rattle.good.proofs.Porting.{none-idle, within-begun, begun-data, port-cells}
+use Rattle.good.proofs.Framing.{Within, within-then, Apart, apart-same, timely-fewer, entry-low}
 use Rattle.good.proofs.Turns.{turnedTo, sender-put}
-use Rattle.good.proofs.Senders.{Timed, timed-outlasts, timed-set, timed-after, within-timed, entry-window, sender-entered, sender-timeout, timeout-fits}
+use Rattle.good.proofs.Senders.{Timed, timed-set, timed-after, within-timed, sending-kept, resends-kept, entry-window, sender-entered}
 use Rattle.good.proofs.HandRuns.{withHanded, NextData, handed-sending, timed-sending, timed-resends, id-cell, id-slot, id-number, share-first, share-rest, next-data}
 use Rattle.good.proofs.RunSets.{handed-puts, handed-end}
 use Rattle.good.proofs.Handed.{Went, SlotOut, HandKept, resent, handed}
 use Rattle.good.proofs.HandFirst.{First, first-in, Whose, ranged-slot, slot-owner, whose}
 use Rattle.good.proofs.HandSorts.{open-state, open-sender, open-within, open-beyond, open-share}
 
--- the tick at which the timer of what waits as n runs out
-abbrev over : Lent → ℕ → ℕ
-over x n = later (clockIn (x .node)) (endOf (x .node) (idEntry n) .entry .timeout)
-
-module _ (t : List ℕ) (x : Lent) (l : Lists) (G : Good t (x .node) (x .book) l) where
+module _ (t : List ℕ) (x : Lent) (l : Lists) (G : Good t (x .node) (x .book) l) (none : underIn (x .book) ≡ 0) where
   -- a slot: the number k past the start
   module _ (q : ℕ) (n : ℕ) (m : List·Memᴰ n (l (suc (suc q)))) (hq : suc (suc q) < 4) where
     slot-whose : Whose (x .node) l (suc (suc q)) n (idEntry n)
@@ -57,24 +54,13 @@ module _ (t : List ℕ) (x : Lent) (l : Lists) (G : Good t (x .node) (x .book) l
     slot-window = entry-window t (x .node) (x .book) l G (idEntry n) (slot-whose .known)
 
     slot-state : (isSends (endOf (x .node) (idEntry n) .entry .kind) ≡ true) × (endOf (x .node) (idEntry n) .state ≡ Open)
-    slot-state = open-state t x l G (suc (suc q)) hq (λ e. omega arith) n (idEntry n) slot-whose
+    slot-state = open-state t x l G none (suc (suc q)) hq (λ e. omega arith) n (idEntry n) slot-whose
 
     slot-sender : OpenSender (x .book) l (idEntry n) (endOf (x .node) (idEntry n))
-    slot-sender = open-sender t x l G (suc (suc q)) hq (λ e. omega arith) n (idEntry n) slot-whose
-
-    slot-length : (1 ≤ endOf (x .node) (idEntry n) .entry .timeout) × (endOf (x .node) (idEntry n) .entry .timeout ≤ 65535)
-    slot-length = (
-      sender-timeout t (x .node) (x .book) l G (idEntry n) (slot-whose .known) (slot-state .0),
-      omega (arith, timeout-fits (x .node) (idEntry n)),
-    )
-
-    slot-timeout : 1 ≤ over x n
-    slot-timeout =
-        let h = later-runs (clockIn (x .node)) (endOf (x .node) (idEntry n) .entry .timeout) (omega arith) (slot-length .0) (slot-length .1) in
-        omega (arith, h .0)
+    slot-sender = open-sender t x l G none (suc (suc q)) hq (λ e. omega arith) n (idEntry n) slot-whose
 
     slot-share : (r : ℕ) → r < 4 → r ≢ suc (suc q) → (xs : List ℕ) → mine (idEntry n) (l r) ≡ xs → mine (idEntry n) (less l n r) ≡ xs
-    slot-share = open-share t x l G (suc (suc q)) hq (λ e. omega arith) n (idEntry n) slot-whose
+    slot-share = open-share t x l G none (suc (suc q)) hq (λ e. omega arith) n (idEntry n) slot-whose
 
     module _ (k : ℕ) (is : n ≡ idAt (idEntry n) (endOf (x .node) (idEntry n) .run .window) k) (taken : k < endOf (x .node) (idEntry n) .run .taken) where
       slot-fit : k < endOf (x .node) (idEntry n) .run .window .size
@@ -83,41 +69,83 @@ module _ (t : List ℕ) (x : Lent) (l : Lists) (G : Good t (x .node) (x .book) l
       slot-cell : idCell n ≡ cell (idEntry n) (endOf (x .node) (idEntry n) .run .window) (past (endOf (x .node) (idEntry n) .run .window) k)
       slot-cell = id-cell (idEntry n) slot-low (endOf (x .node) (idEntry n) .run .window) slot-window n k is
 
-      slot-within : Within (idEntry n) (x .book) (timed (x .node) (x .book) n) l (less l n)
-      slot-within =
+      -- its timer stands
+      slot-stood : Within (idEntry n) (x .book) (stood (x .book) n) l (less l n)
+      slot-stood =
           let i = idEntry n in
           let w = endOf (x .node) i .run .window in
-          let v = over x n in
-          let one = open-within t x l G (suc (suc q)) hq (λ e. omega arith) n i slot-whose in
-          subst (λ (c : ℕ). Within i (x .book) (set (unlinked (x .book) n) (timerAt c) v) l (less l n)) (sym slot-cell)
-          (within-then i (x .book) (unlinked (x .book) n) (set (unlinked (x .book) n) (timerAt (cell i w (past w k))) v) l (less l n) (less l n) one
-          (within-timed i slot-low w slot-window k slot-fit v (unlinked (x .book) n) (less l n) (one .lines)))
+          let one = open-within t x l G none (suc (suc q)) hq (λ e. omega arith) n i slot-whose in
+          subst (λ (c : ℕ). Within i (x .book) (set (unlinked (x .book) n) (timerAt c) standing) l (less l n)) (sym slot-cell)
+          (within-then i (x .book) (unlinked (x .book) n) (set (unlinked (x .book) n) (timerAt (cell i w (past w k))) standing) l (less l n) (less l n) one
+          (within-timed i slot-low w slot-window k slot-fit standing (unlinked (x .book) n) (less l n) (one .lines)))
 
-      slot-timed : Timed (x .book) (timed (x .node) (x .book) n) (idEntry n) (endOf (x .node) (idEntry n) .run .window) k (over x n)
+      slot-timed : Timed (x .book) (stood (x .book) n) (idEntry n) (endOf (x .node) (idEntry n) .run .window) k standing
       slot-timed =
           let i = idEntry n in
           let w = endOf (x .node) i .run .window in
-          let v = over x n in
           let b′ = unlinked (x .book) n in
-          subst (λ (c : ℕ). Timed (x .book) (set b′ (timerAt c) v) i w k v) (sym slot-cell)
-          (timed-after i slot-low w slot-window k slot-fit v (x .book) b′ (set b′ (timerAt (cell i w (past w k))) v)
-          (open-beyond t x l G (suc (suc q)) hq (λ e. omega arith) n i slot-whose)
-          (timed-set i slot-low w slot-window k slot-fit v b′ (open-within t x l G (suc (suc q)) hq (λ e. omega arith) n i slot-whose .lines .long)))
+          subst (λ (c : ℕ). Timed (x .book) (set b′ (timerAt c) standing) i w k standing) (sym slot-cell)
+          (timed-after i slot-low w slot-window k slot-fit standing (x .book) b′ (set b′ (timerAt (cell i w (past w k))) standing)
+          (open-beyond t x l G none (suc (suc q)) hq (λ e. omega arith) n i slot-whose)
+          (unlink-under (x .book) l (G .lines) (suc (suc q)) n hq m)
+          (timed-set i slot-low w slot-window k slot-fit standing b′ (open-within t x l G none (suc (suc q)) hq (λ e. omega arith) n i slot-whose .lines .long)))
 
-      -- its timer starts, and those of the other numbers handed out run on; fewer ticks than it takes may pass
-      slot-outlasts : (h q′ : ℕ) → h ≤ endOf (x .node) (idEntry n) .run .window .size → ((j : ℕ) → j < h → j ≢ k → j < endOf (x .node) (idEntry n) .run .handed)
-          → q′ ≤ quietIn (x .node) → q′ < endOf (x .node) (idEntry n) .entry .timeout → (j : ℕ) → j < h
-          → Outlasts (clockIn (x .node)) q′ (timerIn (timed (x .node) (x .book) n)
-          (cell (idEntry n) (endOf (x .node) (idEntry n) .run .window) (past (endOf (x .node) (idEntry n) .run .window) j)))
-      slot-outlasts h q′ few others fewer soon =
+      slot-number : numberIn (endOf (x .node) (idEntry n) .run .window) (idSlot n) ≡ past (endOf (x .node) (idEntry n) .run .window) k
+      slot-number = id-number (idEntry n) slot-low (endOf (x .node) (idEntry n) .run .window) slot-window n k is slot-fit
+
+      -- and it is under way
+      slot-book : dataSent (x .node) (x .book) n ≡ sent (stood (x .book) n) type.Data (idEntry n) (past (endOf (x .node) (idEntry n) .run .window) k)
+      unfolding dataSent
+      slot-book = ap (sent (stood (x .book) n) type.Data (idEntry n)) slot-number
+
+      slot-idle : underIn (stood (x .book) n) ≡ 0
+      slot-idle = slot-timed .under ∙ none
+
+      slot-within : Within (idEntry n) (x .book) (dataSent (x .node) (x .book) n) l (less l n)
+      slot-within =
+          let s = past (endOf (x .node) (idEntry n) .run .window) k in
+          subst (λ (b : List ℕ). Within (idEntry n) (x .book) b l (less l n)) (sym slot-book)
+          (within-then (idEntry n) (x .book) (stood (x .book) n) (sent (stood (x .book) n) type.Data (idEntry n) s) l (less l n) (less l n) slot-stood
+          (within-begun (stood (x .book) n) (less l n) (slot-stood .lines) 0 (idEntry n) s slot-low (omega arith) slot-idle))
+
+      slot-under : dataOut (dataSent (x .node) (x .book) n) (idEntry n) ≡ past (endOf (x .node) (idEntry n) .run .window) k
+      slot-under =
+          let s = past (endOf (x .node) (idEntry n) .run .window) k in
+          ap (λ (b : List ℕ). dataOut b (idEntry n)) slot-book
+          ∙ begun-data (stood (x .book) n) (less l n) (slot-stood .lines) 0 (idEntry n) s slot-low (omega arith) refl
+
+      slot-beyond : (j : ℕ) → cellsAt ≤ j → getD (dataSent (x .node) (x .book) n) j 0 ≡ getD (stood (x .book) n) j 0
+      slot-beyond j h = ap (λ (b : List ℕ). getD b j 0) slot-book ∙ port-cells (stood (x .book) n) _ j h
+
+      slot-timer : (j : ℕ) → timerIn (dataSent (x .node) (x .book) n) (cell (idEntry n) (endOf (x .node) (idEntry n) .run .window) (past (endOf (x .node) (idEntry n) .run .window) j))
+          ≡ timerIn (stood (x .book) n) (cell (idEntry n) (endOf (x .node) (idEntry n) .run .window) (past (endOf (x .node) (idEntry n) .run .window) j))
+      slot-timer j = slot-beyond (timerAt (cell (idEntry n) (endOf (x .node) (idEntry n) .run .window) (past (endOf (x .node) (idEntry n) .run .window) j))) (omega arith)
+
+      slot-lengths : (c : ℕ) → c < allCells → lengthIn (dataSent (x .node) (x .book) n) c ≡ lengthIn (x .book) c
+      slot-lengths c h = slot-beyond (lengthAt c) (omega arith) ∙ slot-timed .lengths c h
+
+      -- the number under way has a timer that stands
+      slot-standing : (h : ℕ) → Standing (dataSent (x .node) (x .book) n) (idEntry n) (withHanded (endOf (x .node) (idEntry n) .run) h)
+      slot-standing h j g missing o z =
           let i = idEntry n in
+          let w = endOf (x .node) i .run .window in
+          let e : past w j ≡ past w k = o ∙ slot-under in
+          let y : _≡_ {A = ℕ} standing 0 = sym (slot-timed .here) ∙ sym (slot-timer k) ∙ ap (λ (s : ℕ). timerIn (dataSent (x .node) (x .book) n) (cell i w s)) (sym e) ∙ z in
+          omega (arith, y)
+
+      -- those of the other numbers handed out run on
+      slot-outlasts : (h : ℕ) → h ≤ endOf (x .node) (idEntry n) .run .window .size → ((j : ℕ) → j < h → j ≢ k → j < endOf (x .node) (idEntry n) .run .handed)
+          → Outlast (clockIn (x .node)) (quietIn (x .node)) (dataSent (x .node) (x .book) n) (idEntry n) (withHanded (endOf (x .node) (idEntry n) .run) h)
+      slot-outlasts h few others j l d =
+          let i = idEntry n in
+          let w = endOf (x .node) i .run .window in
           let c = clockIn (x .node) in
           let was = subst (Timely c (quietIn (x .node)) (x .book) i (endOf (x .node) i)) (slot-state .1) (G .timely i (slot-whose .known)) in
-          timed-outlasts (x .book) (timed (x .node) (x .book) n) i (endOf (x .node) i .run .window) k (over x n) slot-timed c q′
-          (starts c q′ (endOf (x .node) i .entry .timeout) (omega arith) soon (slot-length .1)) h few
-          (λ j m d. outlasts-fewer c (quietIn (x .node)) q′ _ fewer (was j (others j m d)))
+          let other : j ≢ k = λ e. d (ap (past w) e ∙ sym slot-under) in
+          subst (Outlasts c (quietIn (x .node))) (sym (slot-timer j ∙ slot-timed .there j (omega arith) other))
+          (was j (others j l other) (λ z. let y = z ∙ none-idle (x .book) i none .data! in omega arith))
 
-      slot-out : (x′ : Lent) → x′ .book ≡ timed (x .node) (x .book) n → Apart (idEntry n) (x .node) (x′ .node) → acksIn (x′ .node) ≡ acksIn (x .node)
+      slot-out : (x′ : Lent) → x′ .book ≡ dataSent (x .node) (x .book) n → Apart (idEntry n) (x .node) (x′ .node) → acksIn (x′ .node) ≡ acksIn (x .node)
           → SlotOut x x′ l (less l n) n (idEntry n) k
       slot-out x′ book apart acks =
           let i = idEntry n in
@@ -132,7 +160,7 @@ module _ (t : List ℕ) (x : Lent) (l : Lists) (G : Good t (x .node) (x .book) l
             taken = taken;
             here = slot-cell;
             slot = id-slot i slot-low w slot-window n k is;
-            number = id-number i slot-low w slot-window n k is slot-fit;
+            number = slot-number;
             some = subst (λ (c : ℕ). 1 ≤ lengthIn (x .book) c) (sym slot-cell) (f .some);
             most = subst (λ (c : ℕ). lengthIn (x .book) c ≤ endOf (x .node) i .entry .largest) (sym slot-cell) (f .most);
             acks = acks;
@@ -146,62 +174,61 @@ module _ (t : List ℕ) (x : Lent) (l : Lists) (G : Good t (x .node) (x .book) l
     again-taken : again .at < endOf (x .node) (idEntry n) .run .taken
     again-taken = omega (arith, again .handed, slot-sender 0 n m (omega arith) .sending .handed)
 
-    again-timed : Timed (x .book) (timed (x .node) (x .book) n) (idEntry n) (endOf (x .node) (idEntry n) .run .window) (again .at) (over x n)
+    again-timed : Timed (x .book) (stood (x .book) n) (idEntry n) (endOf (x .node) (idEntry n) .run .window) (again .at) standing
     again-timed = slot-timed 0 n m (omega arith) (again .at) (again .is) again-taken
 
-    again-resends : Resends (timed (x .node) (x .book) n) (less l n) (idEntry n) (endOf (x .node) (idEntry n) .run)
+    again-resends : Resends (stood (x .book) n) (less l n) (idEntry n) (endOf (x .node) (idEntry n) .run)
     again-resends =
         let i = idEntry n in
         let r = endOf (x .node) i .run in
         let s = slot-sender 0 n m (omega arith) .sending in
         let same = mine-without i n (l resends) in
-        timed-resends (x .book) (timed (x .node) (x .book) n) i (slot-low 0 n m (omega arith)) r (slot-window 0 n m (omega arith)) (again .at) (over x n)
-        (slot-timeout 0 n m (omega arith)) (slot-fit 0 n m (omega arith) (again .at) (again .is) again-taken) (again .missing) again-timed
+        timed-resends (x .book) (stood (x .book) n) i (slot-low 0 n m (omega arith)) r (slot-window 0 n m (omega arith)) (again .at) standing
+        (omega arith) (slot-fit 0 n m (omega arith) (again .at) (again .is) again-taken) (again .missing) again-timed
         (r .handed) (omega arith) (λ j h d. h) (omega (arith, s .taken, s .handed)) l (less l n) (slot-sender 0 n m (omega arith) .resends)
         (λ y k. let d = without-in n y (mine i (l resends)) (subst (λ (ys : List ℕ). List·Memᴰ y ys) same k) in (d .0, λ e. d .1 (e ∙ sym (again .is))))
         (λ y k d. subst (λ (ys : List ℕ). List·Memᴰ y ys) (sym same) (without-keeps n y (mine i (l resends)) k (λ e. d (e ∙ again .is))))
 
-    again-then : OpenSender (timed (x .node) (x .book) n) (less l n) (idEntry n) (endOf (x .node) (idEntry n))
+    abbrev again-book : List ℕ
+    again-book = dataSent (x .node) (x .book) n
+
+    again-then : OpenSender again-book (less l n) (idEntry n) (endOf (x .node) (idEntry n))
     again-then =
         let i = idEntry n in
         let e = endOf (x .node) i in
         let o = slot-sender 0 n m (omega arith) in
         let kept = slot-share 0 n m (omega arith) in
+        let timers = slot-timer 0 n m (omega arith) (again .at) (again .is) again-taken in
         record {
-          sending = timed-sending (x .book) (timed (x .node) (x .book) n) i (slot-low 0 n m (omega arith)) (e .run) (slot-window 0 n m (omega arith)) (again .at) (over x n)
-              (slot-timeout 0 n m (omega arith)) (slot-fit 0 n m (omega arith) (again .at) (again .is) again-taken) (again .missing) again-timed (e .entry .largest) (o .sending);
+          sending = sending-kept (stood (x .book) n) again-book i (slot-low 0 n m (omega arith)) (e .run) (slot-window 0 n m (omega arith)) (e .entry .largest)
+              (λ c h. slot-beyond 0 n m (omega arith) (again .at) (again .is) again-taken (lengthAt c) (omega arith)) (λ k h. timers k)
+              (timed-sending (x .book) (stood (x .book) n) i (slot-low 0 n m (omega arith)) (e .run) (slot-window 0 n m (omega arith)) (again .at) standing
+              (omega arith) (slot-fit 0 n m (omega arith) (again .at) (again .is) again-taken) (again .missing) again-timed (e .entry .largest) (o .sending));
           share = record {
             resets = kept resets (omega arith) (λ z. omega arith) [] (o .share .resets);
             urgents = kept urgents (omega arith) (λ z. omega arith) _ (o .share .urgents);
             datas = kept datas (omega arith) (λ z. omega arith) _ (o .share .datas);
           };
-          resends = again-resends;
+          resends = resends-kept (stood (x .book) n) again-book (less l n) (less l n) i (e .run) (e .run) refl refl timers refl again-resends;
+          standing = slot-standing 0 n m (omega arith) (again .at) (again .is) again-taken (e .run .handed);
         }
 
-    abbrev again-heeded : List ℕ
-    again-heeded = againNode (x .node) (endOf (x .node) (idEntry n))
+    again-within : Within (idEntry n) (x .book) again-book l (less l n)
+    again-within = slot-within 0 n m (omega arith) (again .at) (again .is) again-taken
 
-    again-clocked : Clocked (x .node) again-heeded
-    again-clocked = clocked-set (x .node) quietAt _ (omega arith) (omega arith)
-
-    again-apart : Apart (idEntry n) (x .node) again-heeded
-    again-apart = heeded-apart (x .node) (G .long) (endOf (x .node) (idEntry n) .entry .timeout) (idEntry n)
-
-    again-good : Good t again-heeded (timed (x .node) (x .book) n) (less l n)
+    again-good : Good t (x .node) again-book (less l n)
     again-good =
         let i = idEntry n in
         let e = endOf (x .node) i in
-        let b′ = timed (x .node) (x .book) n in
         let known = slot-whose 0 n m (omega arith) .known in
         let state = slot-state 0 n m (omega arith) in
         let s = slot-sender 0 n m (omega arith) .sending in
-        sender-put t (x .node) (x .book) l G i known (state .0) again-heeded again-apart (clocked-waiting (x .node) again-heeded again-clocked) (clocked-acks (x .node) again-heeded again-clocked)
-        b′ (less l n) (slot-within 0 n m (omega arith) (again .at) (again .is) again-taken) e (clocked-end (x .node) again-heeded again-clocked i)
-        (sender-entered t (x .node) (x .book) l G i known (state .0) b′ (less l n) (e .state) (e .run) (slot-window 0 n m (omega arith))
-        (subst (λ (z : State). Stated b′ (less l n) i e true z) (sym (state .1)) again-then))
-        (subst (Timely (clockIn (x .node)) (quietIn again-heeded) b′ i e) (sym (state .1))
-        (slot-outlasts 0 n m (omega arith) (again .at) (again .is) again-taken (e .run .handed) (quietIn again-heeded) (omega (arith, s .taken, s .handed)) (λ j h d. h)
-        (again-apart .quiet) (heeded-quiet (x .node) (G .long) (e .entry .timeout) (slot-length 0 n m (omega arith) .0))))
+        sender-put t (x .node) (x .book) l G i known (state .0) (x .node) (apart-same i (x .node)) refl refl
+        again-book (less l n) again-within e refl
+        (sender-entered t (x .node) (x .book) l G i known (state .0) again-book (less l n) (e .state) (e .run) (slot-window 0 n m (omega arith))
+        (subst (λ (z : State). Stated again-book (less l n) i e true z) (sym (state .1)) again-then))
+        (subst (Timely (clockIn (x .node)) (quietIn (x .node)) again-book i e) (sym (state .1))
+        (slot-outlasts 0 n m (omega arith) (again .at) (again .is) again-taken (e .run .handed) (omega (arith, s .taken, s .handed)) (λ j h d. h)))
 
     pub hand-resend : Went x (handedOut x (next.Resend n)) (next.Resend n) → HandKept t x (handedOut x (next.Resend n)) l
     unfolding outNode outBook
@@ -210,16 +237,15 @@ module _ (t : List ℕ) (x : Lent) (l : Lists) (G : Good t (x .node) (x .book) l
           lists = less l n;
           good = again-good;
           store = refl;
-          lengths = again-timed .lengths;
+          lengths = slot-lengths 0 n m (omega arith) (again .at) (again .is) again-taken;
           what = resent n W
               (record {
                 at = idEntry n;
                 offset = again .at;
-                slot = slot-out 0 n m (omega arith) (again .at) (again .is) again-taken (handedOut x (next.Resend n)) refl again-apart
-                    (clocked-acks (x .node) again-heeded again-clocked);
+                slot = slot-out 0 n m (omega arith) (again .at) (again .is) again-taken (handedOut x (next.Resend n)) refl (apart-same (idEntry n) (x .node)) refl;
                 handed = again .handed;
                 missing = again .missing;
-                ends = clocked-end (x .node) again-heeded again-clocked;
+                ends = λ j. refl;
               });
         }
 
@@ -250,18 +276,17 @@ module _ (t : List ℕ) (x : Lent) (l : Lists) (G : Good t (x .node) (x .book) l
     data-count =
         omega (arith, data-next .more, data-sender .sending .taken, size-le (endOf (x .node) (idEntry n) .run .window .size) (slot-window 1 n m (omega arith) .sized))
 
-    data-timed : Timed (x .book) (timed (x .node) (x .book) n) (idEntry n) (endOf (x .node) (idEntry n) .run .window) (endOf (x .node) (idEntry n) .run .handed)
-        (over x n)
+    data-timed : Timed (x .book) (stood (x .book) n) (idEntry n) (endOf (x .node) (idEntry n) .run .window) (endOf (x .node) (idEntry n) .run .handed) standing
     data-timed = slot-timed 1 n m (omega arith) (endOf (x .node) (idEntry n) .run .handed) (data-next .is) (data-next .more)
 
-    data-resends : Resends (timed (x .node) (x .book) n) (less l n) (idEntry n) (withHanded (endOf (x .node) (idEntry n) .run) (suc (endOf (x .node) (idEntry n) .run .handed)))
+    data-resends : Resends (stood (x .book) n) (less l n) (idEntry n) (withHanded (endOf (x .node) (idEntry n) .run) (suc (endOf (x .node) (idEntry n) .run .handed)))
     data-resends =
         let i = idEntry n in
         let r = endOf (x .node) i .run in
         let s = data-sender .sending in
         let same = slot-share 1 n m (omega arith) resends (omega arith) (λ z. omega arith) (mine i (l resends)) refl in
-        timed-resends (x .book) (timed (x .node) (x .book) n) i (slot-low 1 n m (omega arith)) r (slot-window 1 n m (omega arith)) (r .handed) (over x n)
-        (slot-timeout 1 n m (omega arith)) (slot-fit 1 n m (omega arith) (r .handed) (data-next .is) (data-next .more)) data-missing data-timed
+        timed-resends (x .book) (stood (x .book) n) i (slot-low 1 n m (omega arith)) r (slot-window 1 n m (omega arith)) (r .handed) standing
+        (omega arith) (slot-fit 1 n m (omega arith) (r .handed) (data-next .is) (data-next .more)) data-missing data-timed
         (suc (r .handed)) (omega arith) (λ j h d. omega arith) (omega (arith, s .taken, data-next .more)) l (less l n) (data-sender .resends)
         (λ y k. let d = subst (λ (ys : List ℕ). List·Memᴰ y ys) same k in (
           d,
@@ -276,24 +301,33 @@ module _ (t : List ℕ) (x : Lent) (l : Lists) (G : Good t (x .node) (x .book) l
     data-rest =
         share-rest (idEntry n) n (l datas) (f .rest) (f .parts) (subst Distinct (f .parts) (G .lines .queue datas (omega arith) .distinct .1) .0) ∙ data-next .rest
 
-    data-then : OpenSender (timed (x .node) (x .book) n) (less l n) (idEntry n)
-        (turnedTo (endOf (x .node) (idEntry n)) Open (withHanded (endOf (x .node) (idEntry n) .run) (suc (endOf (x .node) (idEntry n) .run .handed))))
+    abbrev data-book : List ℕ
+    data-book = dataSent (x .node) (x .book) n
+
+    abbrev data-next-run : Run
+    data-next-run = withHanded (endOf (x .node) (idEntry n) .run) (suc (endOf (x .node) (idEntry n) .run .handed))
+
+    data-then : OpenSender data-book (less l n) (idEntry n) (turnedTo (endOf (x .node) (idEntry n)) Open data-next-run)
     data-then =
         let i = idEntry n in
         let e = endOf (x .node) i in
-        let b′ = timed (x .node) (x .book) n in
+        let b′ = stood (x .book) n in
         let o = data-sender in
         let kept = slot-share 1 n m (omega arith) in
+        let timers = slot-timer 1 n m (omega arith) (e .run .handed) (data-next .is) (data-next .more) in
         record {
-          sending = handed-sending b′ i (e .run) (e .entry .largest) (suc (e .run .handed)) (omega arith) (data-next .more)
-              (timed-sending (x .book) b′ i (slot-low 1 n m (omega arith)) (e .run) (slot-window 1 n m (omega arith)) (e .run .handed) (over x n)
-              (slot-timeout 1 n m (omega arith)) (slot-fit 1 n m (omega arith) (e .run .handed) (data-next .is) (data-next .more)) data-missing data-timed (e .entry .largest) (o .sending));
+          sending = sending-kept b′ data-book i (slot-low 1 n m (omega arith)) data-next-run (slot-window 1 n m (omega arith)) (e .entry .largest)
+              (λ c h. slot-beyond 1 n m (omega arith) (e .run .handed) (data-next .is) (data-next .more) (lengthAt c) (omega arith)) (λ k h. timers k)
+              (handed-sending b′ i (e .run) (e .entry .largest) (suc (e .run .handed)) (omega arith) (data-next .more)
+              (timed-sending (x .book) b′ i (slot-low 1 n m (omega arith)) (e .run) (slot-window 1 n m (omega arith)) (e .run .handed) standing
+              (omega arith) (slot-fit 1 n m (omega arith) (e .run .handed) (data-next .is) (data-next .more)) data-missing data-timed (e .entry .largest) (o .sending)));
           share = record {
             resets = kept resets (omega arith) (λ z. omega arith) [] (o .share .resets);
             urgents = kept urgents (omega arith) (λ z. omega arith) _ (o .share .urgents);
             datas = data-rest;
           };
-          resends = data-resends;
+          resends = resends-kept b′ data-book (less l n) (less l n) i data-next-run data-next-run refl refl timers refl data-resends;
+          standing = slot-standing 1 n m (omega arith) (e .run .handed) (data-next .is) (data-next .more) (suc (e .run .handed));
         }
 
     -- the run as it is saved
@@ -301,15 +335,9 @@ module _ (t : List ℕ) (x : Lent) (l : Lists) (G : Good t (x .node) (x .book) l
     unfolding handedRun
     data-run = ap (withHanded (endOf (x .node) (idEntry n) .run)) data-count
 
-    -- the node with one number more handed out, and the one afterwards
+    -- the node with one number more handed out
     abbrev data-put : List ℕ
     data-put = handedNode (x .node) (idEntry n) (endOf (x .node) (idEntry n) .run)
-
-    abbrev data-heeded : List ℕ
-    data-heeded = heeded data-put (endOf (x .node) (idEntry n) .entry .timeout)
-
-    data-clocked : Clocked data-put data-heeded
-    data-clocked = clocked-set data-put quietAt _ (omega arith) (omega arith)
 
     data-puts : Apart (idEntry n) (x .node) data-put
         × (waitingOf data-put ≡ waitingOf (x .node)) × (acksIn data-put ≡ acksIn (x .node))
@@ -317,35 +345,16 @@ module _ (t : List ℕ) (x : Lent) (l : Lists) (G : Good t (x .node) (x .book) l
         let p = handed-puts (x .node) (idEntry n) (G .long) (slot-low 1 n m (omega arith)) in
         (p .apart, p .waits, p .acks)
 
-    data-long : length data-put ≡ nodeWords
-    data-long = data-puts .0 .long ∙ G .long
-
-    data-apart : Apart (idEntry n) (x .node) data-heeded
-    data-apart =
-        let i = idEntry n in
-        apart-then i (x .node) data-put data-heeded (data-puts .0)
-        (heeded-apart data-put data-long (endOf (x .node) i .entry .timeout) i)
-
-    data-acks : (waitingOf data-heeded ≡ waitingOf (x .node)) × (acksIn data-heeded ≡ acksIn (x .node))
-    data-acks = (
-      clocked-waiting data-put data-heeded data-clocked ∙ data-puts .1,
-      clocked-acks data-put data-heeded data-clocked ∙ data-puts .2,
-    )
-
-    data-end : endOf data-heeded (idEntry n)
+    data-end : endOf data-put (idEntry n)
         ≡ turnedTo (endOf (x .node) (idEntry n)) Open (handedRun (endOf (x .node) (idEntry n) .run))
-    data-end =
-        let i = idEntry n in
-        clocked-end data-put data-heeded data-clocked i
-        ∙ rw (slot-state 1 n m (omega arith) .1) at (handed-end (x .node) i (G .long) (slot-low 1 n m (omega arith)))
+    data-end = rw (slot-state 1 n m (omega arith) .1) at (handed-end (x .node) (idEntry n) (G .long) (slot-low 1 n m (omega arith)))
 
-    data-timely : Timely (clockIn (x .node)) (quietIn data-heeded) (timed (x .node) (x .book) n) (idEntry n)
-        (turnedTo (endOf (x .node) (idEntry n)) Open (withHanded (endOf (x .node) (idEntry n) .run) (suc (endOf (x .node) (idEntry n) .run .handed)))) Open
+    data-timely : Timely (clockIn (x .node)) (quietIn data-put) data-book (idEntry n) (turnedTo (endOf (x .node) (idEntry n)) Open data-next-run) Open
     data-timely =
         let e = endOf (x .node) (idEntry n) in
-        slot-outlasts 1 n m (omega arith) (e .run .handed) (data-next .is) (data-next .more) (suc (e .run .handed)) (quietIn data-heeded)
-        (omega (arith, data-sender .sending .taken, data-next .more)) (λ j h d. omega arith) (data-apart .quiet)
-        (heeded-quiet data-put data-long (e .entry .timeout) (slot-length 1 n m (omega arith) .0))
+        timely-fewer (clockIn (x .node)) (quietIn (x .node)) (quietIn data-put) data-book (idEntry n) (turnedTo e Open data-next-run) Open (data-puts .0 .quiet)
+        (slot-outlasts 1 n m (omega arith) (e .run .handed) (data-next .is) (data-next .more) (suc (e .run .handed))
+        (omega (arith, data-sender .sending .taken, data-next .more)) (λ j h d. omega arith))
 
     pub hand-data : Went x (handedOut x (next.Data n)) (next.Data n) → HandKept t x (handedOut x (next.Data n)) l
     unfolding outNode outBook handedRun
@@ -353,23 +362,23 @@ module _ (t : List ℕ) (x : Lent) (l : Lists) (G : Good t (x .node) (x .book) l
         let i = idEntry n in
         let e = endOf (x .node) i in
         let r = handedRun (e .run) in
-        let b′ = timed (x .node) (x .book) n in
+        let b′ = data-book in
         let g = slot-window 1 n m (omega arith) in
         let w = slot-whose 1 n m (omega arith) in
         let sends = slot-state 1 n m (omega arith) .0 in
         record {
           lists = less l n;
-          good = sender-put t (x .node) (x .book) l G i (w .known) sends data-heeded data-apart (data-acks .0) (data-acks .1) b′ (less l n)
+          good = sender-put t (x .node) (x .book) l G i (w .known) sends data-put (data-puts .0) (data-puts .1) (data-puts .2) b′ (less l n)
               (slot-within 1 n m (omega arith) (e .run .handed) (data-next .is) (data-next .more)) (turnedTo e Open r) data-end
               (sender-entered t (x .node) (x .book) l G i (w .known) sends b′ (less l n) Open r g
               (subst (λ (z : Run). OpenSender b′ (less l n) i (turnedTo e Open z)) (sym data-run) data-then))
-              (subst (λ (z : Run). Timely (clockIn (x .node)) (quietIn data-heeded) b′ i (turnedTo e Open z) Open) (sym data-run) data-timely);
+              (subst (λ (z : Run). Timely (clockIn (x .node)) (quietIn data-put) b′ i (turnedTo e Open z) Open) (sym data-run) data-timely);
           store = refl;
-          lengths = data-timed .lengths;
+          lengths = slot-lengths 1 n m (omega arith) (e .run .handed) (data-next .is) (data-next .more);
           what = handed n W
               (record {
                 at = i;
-                slot = slot-out 1 n m (omega arith) (e .run .handed) (data-next .is) (data-next .more) (handedOut x (next.Data n)) refl data-apart (data-acks .1);
+                slot = slot-out 1 n m (omega arith) (e .run .handed) (data-next .is) (data-next .more) (handedOut x (next.Data n)) refl (data-puts .0) (data-puts .2);
                 ends = data-end;
               });
         }

@@ -3,7 +3,7 @@
 use Prim.Native.Nat.{ℕ, _/_, _≤_, _<_}
 use mathlib.Core.Path.{_≡_, refl, sym, ap, subst, _∙_}
 use mathlib.Core.Logic.{_≢_}
-use mathlib.Core.Bool.{Bool, true, false}
+use mathlib.Core.Bool.{Bool, true, false, true≢false}
 use mathlib.Core.List.{List, [], _∷_, List·Memᴰ, List·Memᴰ·head, List·Memᴰ·tail}
 use native.Mathlib.Nat.{mod-eq-of-lt}
 use native.Mathlib.Omega.{arith}
@@ -11,10 +11,11 @@ use lib.ListN.{length, getD}
 use lib.Dec.{eqb}
 use borrow.Author.Tests.{ne-eqb}
 use Rattle.units.specs.Refusals.{pick}
-use Rattle.memory.specs.Layout.{cellsAt, resets, urgents, resends, datas, resetId, urgentId, lengthAt, timerAt, quietAt, nodeWords}
+use Rattle.memory.specs.Layout.{cellsAt, resets, urgents, resends, datas, resetId, urgentId, lengthAt, timerAt}
 use Rattle.waiting.specs.Queues.{unlinked}
 use Rattle.waiting.specs.Acks.{waitingOf, oldestOf, ackOf, popped}
 use Rattle.waiting.specs.Order.{acksIn}
+use Rattle.waiting.specs.Port.{underIn, noNumber, dataOut}
 use Rattle.waiting.proofs.Ringed.{Ring, pop-acks, pop-ring}
 use Rattle.window.specs.Windows.{Good as GoodWindow}
 use Rattle.end_points.proofs.Kept.{RunFits}
@@ -28,26 +29,27 @@ use Rattle.end_points.specs.declared.State.the-variants.{Enabled, Open}
 use Rattle.end_points.specs.declared.Run.{Run}
 use Rattle.end_points.specs.declared.EndPoint.{EndPoint}
 use Rattle.slots.specs.Slots.{cell, past}
-use Rattle.timing.specs.Timing.{clockIn, quietIn, later, heeded}
-use Rattle.timing.proofs.Falling.{later-runs}
+use Rattle.timing.specs.Timing.{clockIn, quietIn, standing}
+use Rattle.frame.specs.declared.FrameType.the-variants as type
 use Rattle.memory.specs.Layout.{ownerOf}
-use Rattle.good.proofs.Clocked.{Clocked, clocked-set, clocked-end, clocked-waiting, clocked-acks, heeded-apart, heeded-quiet, starts}
+use Rattle.good.proofs.Porting.{none-idle, within-begun, begun-no-data, begun-reset, begun-no-reset, port-cells}
 use Rattle.call_hand_out.specs.declared.Next.the-variants as next
-use Rattle.call_hand_out.specs.Handing.{resetNode, outNode, outBook, handedOut}
+use Rattle.call_hand_out.specs.Handing.{sent, outNode, outBook, handedOut}
 use Rattle.memory.specs.Layout.{resetEntry, urgentEntry}
-use Rattle.good.specs.Good.{Lists, mine, Silent, OpenSender, Anew, Entered, Timely, Owed, Good}
-use Rattle.good.proofs.Lined.{less, unlink-cells}
-use Rattle.good.proofs.Framing.{Within, within-same, within-unlink, Apart, apart-then, apart-saved, apart-timely, timely-as, framed, count-low, entry-low}
+use Rattle.good.specs.Good.{Lists, mine, Silent, OpenSender, EnabledSender, Entered, Outlasts, Timely, Owed, Good}
+use Rattle.good.proofs.Lined.{less, unlink-cells, unlink-under}
+use Rattle.good.proofs.Known.{stated-as}
+use Rattle.good.proofs.Framing.{Within, within-then, within-unlink, Apart, apart-saved, same-entered, framed, count-low, entry-low}
 use Rattle.good.proofs.Offsets.{reset-owner, urgent-owner}
 use Rattle.good.proofs.Turns.{run-fits, turnedTo, end-saved, gone-fits, ring-of, saved-acks, owed-open, sender-put, sender-turn, pop-apart, pop-end}
-use Rattle.good.proofs.Senders.{sending-kept, urgent-sending, resends-kept, gone-one, reset-gone, entry-window, sender-stated, sender-entered, sender-timeout, timeout-fits}
+use Rattle.good.proofs.Senders.{sending-kept, urgent-sending, resends-kept, gone-one, reset-gone, entry-window, sender-stated, sender-entered}
 use Rattle.good.proofs.HandRuns.{urgent-waited, share-kept}
 use Rattle.good.proofs.Handed.{Went, HandKept, nothing, acked, reset, urgent}
 use Rattle.good.proofs.HandFirst.{open-only, enabled-only, Whose, ranged-reset, ranged-urgent, whose}
 
 -- ---- the sorts
 
-module _ (t : List ℕ) (x : Lent) (l : Lists) (G : Good t (x .node) (x .book) l) where
+module _ (t : List ℕ) (x : Lent) (l : Lists) (G : Good t (x .node) (x .book) l) (none : underIn (x .book) ≡ 0) where
   pub hand-nothing : Went x (handedOut x next.Nothing) next.Nothing → HandKept t x (handedOut x next.Nothing) l
   unfolding outNode outBook
   hand-nothing W = record { lists = l; good = G; store = refl; lengths = λ c h. refl; what = nothing W refl refl }
@@ -74,18 +76,44 @@ module _ (t : List ℕ) (x : Lent) (l : Lists) (G : Good t (x .node) (x .book) l
     ack-open : endOf (x .node) (ackOf (oldestOf (x .node)) .entry) .state ≡ Open
     ack-open = rw ack-entry (oldest-owed .opened)
 
-    ack-good : Good t (popped (x .node)) (x .book) l
+    ack-low : ackOf (oldestOf (x .node)) .entry < 16
+    ack-low = entry-low t (x .node) (x .book) l G (ackOf (oldestOf (x .node)) .entry) ack-known
+
+    abbrev ack-book : List ℕ
+    ack-book = sent (x .book) type.Acknowledge (ackOf (oldestOf (x .node)) .entry) (ackOf (oldestOf (x .node)) .seq .0)
+
+    ack-within : Within (ackOf (oldestOf (x .node)) .entry) (x .book) ack-book l l
+    ack-within = within-begun (x .book) l (G .lines) 1 (ackOf (oldestOf (x .node)) .entry) (ackOf (oldestOf (x .node)) .seq .0) ack-low (omega arith) none
+
+    -- the receiver sees nothing of it: it has neither Data nor a Reset under way
+    ack-entered : Entered ack-book l (ackOf (oldestOf (x .node)) .entry) (endOf (x .node) (ackOf (oldestOf (x .node)) .entry))
+    ack-entered =
+        let i = ackOf (oldestOf (x .node)) .entry in
+        let s = ackOf (oldestOf (x .node)) .seq .0 in
+        same-entered i ack-low (x .book) ack-book l l (λ k h o. port-cells (x .book) _ k h) (λ q h. refl)
+        (λ k h o. absurd (omega (arith, begun-no-data (x .book) l (G .lines) 1 i s ack-low (omega arith) (omega arith) (omega arith), h, o)))
+        (λ z. absurd (true≢false (sym z ∙ begun-no-reset (x .book) l (G .lines) 1 i s ack-low (omega arith) (λ e. omega arith) (omega arith))))
+        (endOf (x .node) i) (G .entered i ack-known)
+
+    ack-timely : Timely (clockIn (popped (x .node))) (quietIn (popped (x .node))) ack-book (ackOf (oldestOf (x .node)) .entry)
+        (endOf (x .node) (ackOf (oldestOf (x .node)) .entry)) (endOf (x .node) (ackOf (oldestOf (x .node)) .entry) .state)
+    ack-timely =
+        let i = ackOf (oldestOf (x .node)) .entry in
+        let e = endOf (x .node) i in
+        let r = stated-as (x .book) l i e (G .entered i ack-known) false ack-receives Open ack-open .receiving in
+        subst (Timely (clockIn (popped (x .node))) (quietIn (popped (x .node))) ack-book i e) (sym ack-open) (λ k h. absurd (omega (arith, r .handed)))
+
+    ack-good : Good t (popped (x .node)) ack-book l
     ack-good =
         let i = ackOf (oldestOf (x .node)) .entry in
         let ws = x .node in
         let same = pop-end i ws ring in
-        framed i ws (popped ws) (pop-apart i ws ring) t (x .book) (x .book) l l G (within-same i (x .book) l (G .lines)) ack-known (pop-ring ws ring some .most)
+        framed i ws (popped ws) (pop-apart i ws ring) t (x .book) ack-book l l G ack-within ack-known (pop-ring ws ring some .most)
         (λ w m.
         owed-open i ws (popped ws) (pop-apart i ws ring) (rw same ack-receives) (rw same ack-open) w
         (G .owed w (subst (λ (ys : List ℕ). List·Memᴰ w ys) (sym (pop-acks ws ring some)) (List·Memᴰ·tail m))))
-        (subst (Entered (x .book) l i) (sym same) (G .entered i ack-known))
-        (subst (λ (e : EndPoint). Timely (clockIn (popped ws)) (quietIn (popped ws)) (x .book) i e (e .state)) (sym same)
-        (apart-timely i ws (popped ws) (pop-apart i ws ring) (x .book) i (endOf ws i) (endOf ws i .state) (G .timely i ack-known)))
+        (subst (Entered ack-book l i) (sym same) ack-entered)
+        (subst (λ (e : EndPoint). Timely (clockIn (popped ws)) (quietIn (popped ws)) ack-book i e (e .state)) (sym same) ack-timely)
 
     pub hand-ack : Went x (handedOut x (next.Ack (ackOf (oldestOf (x .node))))) (next.Ack (ackOf (oldestOf (x .node)))) → HandKept t x (handedOut x (next.Ack (ackOf (oldestOf (x .node))))) l
     unfolding outNode outBook
@@ -95,10 +123,10 @@ module _ (t : List ℕ) (x : Lent) (l : Lists) (G : Good t (x .node) (x .book) l
           lists = l;
           good = ack-good;
           store = refl;
-          lengths = λ c h. refl;
+          lengths = λ c h. port-cells (x .book) _ (lengthAt c) (omega arith);
           what = acked (oldestOf (x .node)) W
               (record {
-                alone = record { known = ack-known; apart = pop-apart i (x .node) ring; within = within-same i (x .book) l (G .lines) };
+                alone = record { known = ack-known; apart = pop-apart i (x .node) ring; within = ack-within };
                 acks = pop-acks (x .node) ring some;
                 receives = ack-receives;
                 opened = ack-open;
@@ -123,75 +151,59 @@ module _ (t : List ℕ) (x : Lent) (l : Lists) (G : Good t (x .node) (x .book) l
         enabled-only (x .book) l i (endOf (x .node) i) n (reset-whose .share) (isSends (endOf (x .node) i .entry .kind)) (endOf (x .node) i .state)
         (G .entered i (reset-whose .known) .stated)
 
-    reset-silent : Anew l (resetEntry n) (endOf (x .node) (resetEntry n)) (resetId (resetEntry n) ∷ [])
-    reset-silent =
+    reset-sender : EnabledSender (x .book) l (resetEntry n) (endOf (x .node) (resetEntry n)) 0 (reset-state .1 .0)
+    reset-sender =
         sender-stated t (x .node) (x .book) l G (resetEntry n) (reset-whose .known) (reset-state .0) (Enabled 0 (reset-state .1 .0)) (reset-state .1 .1)
 
-    reset-within : Within (resetEntry n) (x .book) (unlinked (x .book) n) l (less l n)
-    reset-within = within-unlink (resetEntry n) (x .book) l (G .lines) resets n (omega arith) m (reset-whose .own)
+    reset-low : resetEntry n < 16
+    reset-low = entry-low t (x .node) (x .book) l G (resetEntry n) (reset-whose .known)
 
-    reset-anew : (e : EndPoint) → e .run ≡ endOf (x .node) (resetEntry n) .run → Anew (less l n) (resetEntry n) e []
-    reset-anew e q =
-        record {
-          fresh = rw q (reset-silent .fresh);
-          silent = subst (λ (z : ℕ). Silent (less l z) (resetEntry n) []) (sym reset-is) (reset-gone (x .book) l (G .lines) (resetEntry n) (reset-silent .silent));
-        }
+    reset-unlink : Within (resetEntry n) (x .book) (unlinked (x .book) n) l (less l n)
+    reset-unlink = within-unlink (resetEntry n) (x .book) l (G .lines) resets n (omega arith) m (reset-whose .own)
 
-    reset-timeout : (1 ≤ endOf (x .node) (resetEntry n) .entry .timeout) × (endOf (x .node) (resetEntry n) .entry .timeout ≤ 65535)
-    reset-timeout = (
-      sender-timeout t (x .node) (x .book) l G (resetEntry n) (reset-whose .known) (reset-state .0),
-      omega (arith, timeout-fits (x .node) (resetEntry n)),
-    )
+    abbrev reset-book : List ℕ
+    reset-book = sent (unlinked (x .book) n) type.Reset (resetEntry n) 0
 
-    reset-over : (later (clockIn (x .node)) (endOf (x .node) (resetEntry n) .entry .timeout) ≢ 0) × (later (clockIn (x .node)) (endOf (x .node) (resetEntry n) .entry .timeout) ≤ 65535)
-    reset-over =
-        later-runs (clockIn (x .node)) (endOf (x .node) (resetEntry n) .entry .timeout) (omega arith) (reset-timeout .0) (reset-timeout .1)
+    reset-within : Within (resetEntry n) (x .book) reset-book l (less l n)
+    reset-within =
+        within-then (resetEntry n) (x .book) (unlinked (x .book) n) reset-book l (less l n) (less l n) reset-unlink
+        (within-begun (unlinked (x .book) n) (less l n) (reset-unlink .lines) 2 (resetEntry n) 0 reset-low (omega arith)
+        (unlink-under (x .book) l (G .lines) resets n (omega arith) m ∙ none))
 
     abbrev reset-says : State
-    reset-says = Enabled (later (clockIn (x .node)) (endOf (x .node) (resetEntry n) .entry .timeout)) true
+    reset-says = Enabled standing true
+
+    reset-then : EnabledSender reset-book (less l n) (resetEntry n) (turnedTo (endOf (x .node) (resetEntry n)) reset-says (endOf (x .node) (resetEntry n) .run)) standing true
+    reset-then =
+        record {
+          fresh = reset-sender .fresh;
+          silent = subst (λ (z : ℕ). Silent (less l z) (resetEntry n) []) (sym reset-is) (reset-gone (x .book) l (G .lines) (resetEntry n) (reset-sender .silent));
+          unsent = λ h. absurd (true≢false h);
+          standing = λ z h e. omega arith;
+        }
 
     abbrev reset-saved : List ℕ
     reset-saved = saved (x .node) (resetEntry n) reset-says (endOf (x .node) (resetEntry n) .run)
 
-    reset-clocked : Clocked reset-saved (heeded reset-saved (endOf (x .node) (resetEntry n) .entry .timeout))
-    reset-clocked = clocked-set reset-saved quietAt _ (omega arith) (omega arith)
+    reset-apart : Apart (resetEntry n) (x .node) reset-saved
+    reset-apart = apart-saved (resetEntry n) (x .node) reset-says (endOf (x .node) (resetEntry n) .run)
 
-    reset-long : length reset-saved ≡ nodeWords
-    reset-long = apart-saved (resetEntry n) (x .node) reset-says (endOf (x .node) (resetEntry n) .run) .long ∙ G .long
+    reset-end : endOf reset-saved (resetEntry n) ≡ turnedTo (endOf (x .node) (resetEntry n)) reset-says (endOf (x .node) (resetEntry n) .run)
+    reset-end = end-saved (x .node) (resetEntry n) reset-says (endOf (x .node) (resetEntry n) .run) (G .long) reset-low (omega arith) (run-fits (x .node) (resetEntry n)) refl
 
-    abbrev reset-heeded : List ℕ
-    reset-heeded = resetNode (x .node) (resetEntry n) (endOf (x .node) (resetEntry n))
+    reset-acks : (waitingOf reset-saved ≡ waitingOf (x .node)) × (acksIn reset-saved ≡ acksIn (x .node))
+    reset-acks = saved-acks (x .node) (resetEntry n) reset-says (endOf (x .node) (resetEntry n) .run)
 
-    reset-apart : Apart (resetEntry n) (x .node) reset-heeded
-    reset-apart =
-        let i = resetEntry n in
-        let e = endOf (x .node) i in
-        apart-then i (x .node) reset-saved reset-heeded (apart-saved i (x .node) reset-says (e .run)) (heeded-apart reset-saved reset-long (e .entry .timeout) i)
-
-    reset-end : endOf reset-heeded (resetEntry n) ≡ turnedTo (endOf (x .node) (resetEntry n)) reset-says (endOf (x .node) (resetEntry n) .run)
-    reset-end =
-        let i = resetEntry n in
-        clocked-end reset-saved reset-heeded reset-clocked i
-        ∙ end-saved (x .node) i reset-says (endOf (x .node) i .run) (G .long) (entry-low t (x .node) (x .book) l G i (reset-whose .known)) (omega (arith, reset-over .1)) (run-fits (x .node) i) refl
-
-    reset-acks : (waitingOf reset-heeded ≡ waitingOf (x .node)) × (acksIn reset-heeded ≡ acksIn (x .node))
-    reset-acks =
-        let p = saved-acks (x .node) (resetEntry n) reset-says (endOf (x .node) (resetEntry n) .run) in
-        (clocked-waiting reset-saved reset-heeded reset-clocked ∙ p .0, clocked-acks reset-saved reset-heeded reset-clocked ∙ p .1)
-
-    reset-good : Good t (resetNode (x .node) (resetEntry n) (endOf (x .node) (resetEntry n))) (unlinked (x .book) n) (less l n)
+    reset-good : Good t reset-saved reset-book (less l n)
     reset-good =
         let i = resetEntry n in
         let e = endOf (x .node) i in
-        let d = later (clockIn (x .node)) (e .entry .timeout) in
         let s = reset-says in
-        let ran : eqb d 0 ≡ false = ne-eqb d 0 (reset-over .0) in
-        sender-put t (x .node) (x .book) l G i (reset-whose .known) (reset-state .0) reset-heeded reset-apart (reset-acks .0) (reset-acks .1) (unlinked (x .book) n) (less l n) reset-within
+        sender-put t (x .node) (x .book) l G i (reset-whose .known) (reset-state .0) reset-saved reset-apart (reset-acks .0) (reset-acks .1) reset-book (less l n) reset-within
         (turnedTo e s (e .run)) reset-end
-        (sender-entered t (x .node) (x .book) l G i (reset-whose .known) (reset-state .0) (unlinked (x .book) n) (less l n) s (e .run)
-        (entry-window t (x .node) (x .book) l G i (reset-whose .known))
-        (subst (λ (z : Bool). Anew (less l n) i (turnedTo e s (e .run)) (pick z (resetId i ∷ []) [])) (sym ran) (reset-anew (turnedTo e s (e .run)) refl)))
-        (starts (clockIn (x .node)) (quietIn reset-heeded) (e .entry .timeout) (omega arith) (heeded-quiet reset-saved reset-long (e .entry .timeout) (reset-timeout .0)) (reset-timeout .1))
+        (sender-entered t (x .node) (x .book) l G i (reset-whose .known) (reset-state .0) reset-book (less l n) s (e .run)
+        (entry-window t (x .node) (x .book) l G i (reset-whose .known)) reset-then)
+        (λ z. absurd (true≢false (sym (begun-reset (unlinked (x .book) n) (less l n) (reset-unlink .lines) 2 i 0 reset-low (omega arith) refl) ∙ z)))
 
     pub hand-reset : Went x (handedOut x (next.Reset n)) (next.Reset n) → HandKept t x (handedOut x (next.Reset n)) l
     unfolding outNode outBook
@@ -201,7 +213,8 @@ module _ (t : List ℕ) (x : Lent) (l : Lists) (G : Good t (x .node) (x .book) l
           lists = less l n;
           good = reset-good;
           store = refl;
-          lengths = λ c h. unlink-cells (x .book) l (G .lines) resets n (omega arith) m (lengthAt c) (omega arith);
+          lengths = λ c h. port-cells (unlinked (x .book) n) _ (lengthAt c) (omega arith)
+              ∙ unlink-cells (x .book) l (G .lines) resets n (omega arith) m (lengthAt c) (omega arith);
           what = reset n W
               (record {
                 at = i;
@@ -269,15 +282,34 @@ module _ (t : List ℕ) (x : Lent) (l : Lists) (G : Good t (x .node) (x .book) l
     urgent-was =
         urgent-waited (urgentEntry n) (endOf (x .node) (urgentEntry n) .run .urgent) n (mine (urgentEntry n) (l urgents)) (urgent-sender .share .urgents) (urgent-whose .share)
 
-    urgent-beyond : (k : ℕ) → cellsAt ≤ k → getD (unlinked (x .book) n) k 0 ≡ getD (x .book) k 0
-    urgent-beyond = open-beyond urgents (omega arith) (λ e. omega arith) n (urgentEntry n) urgent-whose
+    abbrev urgent-book : List ℕ
+    urgent-book = sent (unlinked (x .book) n) type.Urgent (urgentEntry n) 0
 
-    urgent-then : OpenSender (unlinked (x .book) n) (less l n) (urgentEntry n) (turnedTo (endOf (x .node) (urgentEntry n)) Open (urgentGone (endOf (x .node) (urgentEntry n) .run)))
+    urgent-beyond : (k : ℕ) → cellsAt ≤ k → getD urgent-book k 0 ≡ getD (x .book) k 0
+    urgent-beyond k h = port-cells (unlinked (x .book) n) _ k h ∙ open-beyond urgents (omega arith) (λ e. omega arith) n (urgentEntry n) urgent-whose k h
+
+    urgent-low : urgentEntry n < 16
+    urgent-low = entry-low t (x .node) (x .book) l G (urgentEntry n) (urgent-whose .known)
+
+    urgent-unlink : Within (urgentEntry n) (x .book) (unlinked (x .book) n) l (less l n)
+    urgent-unlink = open-within urgents (omega arith) (λ z. omega arith) n (urgentEntry n) urgent-whose
+
+    urgent-within : Within (urgentEntry n) (x .book) urgent-book l (less l n)
+    urgent-within =
+        within-then (urgentEntry n) (x .book) (unlinked (x .book) n) urgent-book l (less l n) (less l n) urgent-unlink
+        (within-begun (unlinked (x .book) n) (less l n) (urgent-unlink .lines) 3 (urgentEntry n) 0 urgent-low (omega arith)
+        (unlink-under (x .book) l (G .lines) urgents n (omega arith) m ∙ none))
+
+    -- no Data is under way
+    urgent-no-data : dataOut urgent-book (urgentEntry n) ≡ noNumber
+    urgent-no-data = begun-no-data (unlinked (x .book) n) (less l n) (urgent-unlink .lines) 3 (urgentEntry n) 0 urgent-low (omega arith) (omega arith) (omega arith)
+
+    urgent-then : OpenSender urgent-book (less l n) (urgentEntry n) (turnedTo (endOf (x .node) (urgentEntry n)) Open (urgentGone (endOf (x .node) (urgentEntry n) .run)))
     unfolding urgentGone
     urgent-then =
         let i = urgentEntry n in
         let e = endOf (x .node) i in
-        let b′ = unlinked (x .book) n in
+        let b′ = urgent-book in
         let o = urgent-sender in
         let kept = open-share urgents (omega arith) (λ z. omega arith) n i urgent-whose in
         record {
@@ -291,7 +323,19 @@ module _ (t : List ℕ) (x : Lent) (l : Lists) (G : Good t (x .node) (x .book) l
           };
           resends = resends-kept (x .book) b′ l (less l n) i (e .run) (urgentGone (e .run)) refl refl (λ k. urgent-beyond (timerAt (cell i (e .run .window) (past (e .run .window) k))) (omega arith))
               (kept resends (omega arith) (λ z. omega arith) (mine i (l resends)) refl) (o .resends);
+          standing = λ k h g z. absurd (let y = z ∙ urgent-no-data in omega arith);
         }
+
+    urgent-timely : Timely (clockIn (x .node)) (quietIn (x .node)) urgent-book (urgentEntry n) (turnedTo (endOf (x .node) (urgentEntry n)) Open (urgentGone (endOf (x .node) (urgentEntry n) .run))) Open
+    unfolding urgentGone
+    urgent-timely k h d =
+        let i = urgentEntry n in
+        let e = endOf (x .node) i in
+        let c = clockIn (x .node) in
+        let state = open-state urgents (omega arith) (λ z. omega arith) n i urgent-whose in
+        let was = subst (Timely c (quietIn (x .node)) (x .book) i e) (state .1) (G .timely i (urgent-whose .known)) in
+        subst (Outlasts c (quietIn (x .node))) (sym (urgent-beyond (timerAt (cell i (e .run .window) (past (e .run .window) k))) (omega arith)))
+        (was k h (λ z. let y = z ∙ none-idle (x .book) i none .data! in omega arith))
 
     urgent-fits : RunFits (urgentGone (endOf (x .node) (urgentEntry n) .run))
     urgent-fits = gone-fits (endOf (x .node) (urgentEntry n) .run) (run-fits (x .node) (urgentEntry n))
@@ -302,16 +346,13 @@ module _ (t : List ℕ) (x : Lent) (l : Lists) (G : Good t (x .node) (x .book) l
         let i = urgentEntry n in
         let e = endOf (x .node) i in
         let r = urgentGone (e .run) in
-        let b′ = unlinked (x .book) n in
+        let b′ = urgent-book in
         let g = entry-window t (x .node) (x .book) l G i (urgent-whose .known) in
         let state = open-state urgents (omega arith) (λ z. omega arith) n i urgent-whose in
-        let within = open-within urgents (omega arith) (λ z. omega arith) n i urgent-whose in
+        let within = urgent-within in
         record {
           lists = less l n;
-          good = open-good urgents (omega arith) (λ z. omega arith) n i urgent-whose r urgent-fits g refl b′ within urgent-then
-              (timely-as (clockIn (x .node)) (quietIn (x .node)) (x .book) b′ i e (turnedTo e Open r) refl refl
-              (λ k. urgent-beyond (timerAt (cell i (e .run .window) (past (e .run .window) k))) (omega arith)) Open
-              (subst (Timely (clockIn (x .node)) (quietIn (x .node)) (x .book) i e) (state .1) (G .timely i (urgent-whose .known))));
+          good = open-good urgents (omega arith) (λ z. omega arith) n i urgent-whose r urgent-fits g refl b′ within urgent-then urgent-timely;
           store = refl;
           lengths = λ c h. urgent-beyond (lengthAt c) (omega arith);
           what = urgent n W

@@ -10,6 +10,7 @@ use Rattle.units.specs.declared.refusals.Refusal.{Refusal}
 use Rattle.memory.specs.Layout.{allCells, resetId, urgentId}
 use Rattle.waiting.specs.Acks.{ackOf}
 use Rattle.waiting.specs.Order.{acksIn}
+use Rattle.waiting.specs.Port.{underIn}
 use Rattle.window.specs.Windows.{held}
 use Rattle.end_points.specs.Ends.{endOf}
 use Rattle.end_points.specs.Heads.{countIn}
@@ -19,10 +20,11 @@ use Rattle.end_points.specs.Lent.{Lent}
 use Rattle.end_points.specs.declared.State.the-variants.{Enabled, Open}
 use Rattle.end_points.specs.declared.answers.HandedOut.the-variants.{Length, Refused}
 use Rattle.slots.specs.Slots.{slotFor, cell, past, numberIn, lengthIn}
-use Rattle.timing.specs.Timing.{clockIn, later}
+use Rattle.timing.specs.Timing.{standing}
+use Rattle.frame.specs.declared.FrameType.the-variants as type
 use Rattle.call_hand_out.specs.declared.Next.{Next}
 use Rattle.call_hand_out.specs.declared.Next.the-variants as next
-use Rattle.call_hand_out.specs.Handing.{nextOut, frameOut, handOutAnswer, handedRun, handedOut}
+use Rattle.call_hand_out.specs.Handing.{nextOut, frameOut, handOutAnswer, handedRun, sent, handedOut}
 use Rattle.memory.specs.Layout.{resetEntry, urgentEntry, idCell, idEntry, idSlot}
 use Rattle.good.specs.Good.{Lists, idAt, Good}
 use Rattle.good.proofs.Framing.{Within, Apart}
@@ -32,6 +34,7 @@ use Rattle.good.proofs.Turns.{turnedTo}
 
 -- it went out as sort n
 pub record Went (x x′ : Lent) (n : Next) : Type 0 where
+  pub none : underIn (x .book) ≡ 0
   pub sort : nextOut (x .node) (x .book) ≡ n
   pub answer : handOutAnswer x ≡ Length (length (frameOut x n))
   pub after : x′ ≡ handedOut x n
@@ -49,9 +52,9 @@ pub record AckOut (x x′ : Lent) (l l′ : Lists) (w : ℕ) : Type 0 where
   pub receives : isSends (endOf (x .node) (ackOf w .entry) .entry .kind) ≡ false
   pub opened : endOf (x .node) (ackOf w .entry) .state ≡ Open
   pub ends : (j : ℕ) → endOf (x′ .node) j ≡ endOf (x .node) j
-  pub book : x′ .book ≡ x .book
+  pub book : x′ .book ≡ sent (x .book) type.Acknowledge (ackOf w .entry) (ackOf w .seq .0)
 
--- a Reset of an enabled sender, whose timer starts
+-- a Reset of an enabled sender, whose timer stands
 pub record ResetOut (x x′ : Lent) (l l′ : Lists) (n : ℕ) : Type 0 where
   pub at : ℕ
   pub entry : resetEntry n ≡ at
@@ -60,7 +63,7 @@ pub record ResetOut (x x′ : Lent) (l l′ : Lists) (n : ℕ) : Type 0 where
   pub sends : isSends (endOf (x .node) at .entry .kind) ≡ true
   pub sent : Bool
   pub enabled : endOf (x .node) at .state ≡ Enabled 0 sent
-  pub ends : endOf (x′ .node) at ≡ turnedTo (endOf (x .node) at) (Enabled (later (clockIn (x .node)) (endOf (x .node) at .entry .timeout)) true) (endOf (x .node) at .run)
+  pub ends : endOf (x′ .node) at ≡ turnedTo (endOf (x .node) at) (Enabled standing true) (endOf (x .node) at .run)
   pub acks : acksIn (x′ .node) ≡ acksIn (x .node)
 
 -- an open sender's Urgent

@@ -13,6 +13,7 @@ use borrow.Author.Tests.{eq-eqb, eqb-true, eqb-false, leb-true, leb-false}
 use Rattle.units.specs.Refusals.{pick}
 use Rattle.memory.specs.Layout.{cellsAt, resets, urgents, resends, datas, urgentId, timerAt}
 use Rattle.waiting.specs.Queues.{unlinked}
+use Rattle.waiting.specs.Port.{underIn}
 use Rattle.window.specs.Windows.{held, Good as GoodWindow}
 use Rattle.window.specs.declared.Window.{Window}
 use Rattle.end_points.specs.declared.Run.{Run}
@@ -20,7 +21,7 @@ use Rattle.end_points.specs.declared.EndPoint.{EndPoint}
 use Rattle.slots.specs.Slots.{cell, past, timerIn, waitsIn, dropSlot, dropSlots, idled}
 use Rattle.good.specs.Good.{Lists, Lines, mine, idAt, ids, Resends, Silent, OpenSender}
 use Rattle.good.proofs.Members.{without, without-in, without-keeps, mine-in, mine-all, mine-without}
-use Rattle.good.proofs.Lined.{less, unlink-cells}
+use Rattle.good.proofs.Lined.{less, unlink-cells, unlink-under}
 use Rattle.good.proofs.Framing.{Within, within-same, within-then, within-unlink}
 use Rattle.good.proofs.Offsets.{urgent-owner, id-low, id-owner, id-inj, ids-in, ids-all}
 
@@ -40,12 +41,14 @@ pub record Idled (i : ℕ) (b b′ : List ℕ) (l : Lists) : Type 0 where
   pub lists : Lists
   pub within : Within i b b′ l lists
   pub cells : (k : ℕ) → cellsAt ≤ k → getD b′ k 0 ≡ getD b k 0
+  pub under : underIn b′ ≡ underIn b
   pub silent : Silent lists i (mine i (l resets))
 
 record Dropped (i : ℕ) (w : Window) (n : ℕ) (b b′ : List ℕ) (l : Lists) : Type 0 where
   lists : Lists
   within : Within i b b′ l lists
   cells : (k : ℕ) → cellsAt ≤ k → getD b′ k 0 ≡ getD b k 0
+  under : underIn b′ ≡ underIn b
   reset : mine i (lists resets) ≡ []
   urgent : mine i (lists urgents) ≡ []
   fewer : (q x : ℕ) → List·Memᴰ x (lists q) → List·Memᴰ x (l q)
@@ -64,6 +67,7 @@ module _ (i : ℕ) (low : i < 16) (w : Window) (g : GoodWindow w) (b : List ℕ)
         lists = less (d .lists) x;
         within = within-then i b b′ (unlinked b′ x) l (d .lists) (less (d .lists) x) (d .within) v;
         cells = λ j h. unlink-cells b′ (d .lists) (d .within .lines) q x hq k j h ∙ d .cells j h;
+        under = unlink-under b′ (d .lists) (d .within .lines) q x hq k ∙ d .under;
         reset = less-nil i (d .lists) resets x (d .reset);
         urgent = less-nil i (d .lists) urgents x (d .urgent);
         fewer = λ r y h. d .fewer r y (without-in x y (d .lists r) h .0);
@@ -84,6 +88,7 @@ module _ (i : ℕ) (low : i < 16) (w : Window) (g : GoodWindow w) (b : List ℕ)
         lists = d .lists;
         within = d .within;
         cells = d .cells;
+        under = d .under;
         reset = d .reset;
         urgent = d .urgent;
         fewer = d .fewer;
@@ -107,6 +112,7 @@ module _ (i : ℕ) (low : i < 16) (w : Window) (g : GoodWindow w) (b : List ℕ)
             lists = l;
             within = within-same i b l L;
             cells = λ k j. refl;
+            under = refl;
             reset = nr;
             urgent = h;
             fewer = λ q x m. m;
@@ -120,6 +126,7 @@ module _ (i : ℕ) (low : i < 16) (w : Window) (g : GoodWindow w) (b : List ℕ)
             lists = less l x;
             within = within-unlink i b l L urgents x (omega arith) m (urgent-owner i low);
             cells = unlink-cells b l L urgents x (omega arith) m;
+            under = unlink-under b l L urgents x (omega arith) m;
             reset = less-nil i l resets x nr;
             urgent = mine-without i x (l urgents) ∙ ap (without x) h ∙ rw (eq-eqb x x refl);
             fewer = λ q y k. without-in x y (l q) k .0;
@@ -242,6 +249,7 @@ module _ (b : List ℕ) (l : Lists) (i : ℕ) (r : Run) where
           lists = d .lists;
           within = d .within;
           cells = d .cells;
+          under = d .under;
           silent = record { share = record { resets = d .reset ∙ sym nr; urgents = d .urgent; datas = drop-data b′ d }; resends = drop-resend b′ d };
         }
 

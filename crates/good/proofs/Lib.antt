@@ -5,6 +5,7 @@ pub mod Framing
 pub mod Offsets
 pub mod Turns
 pub mod Senders
+pub mod Porting
 pub mod Clocked
 pub mod Entering
 pub mod Indexing
@@ -26,6 +27,7 @@ pub mod HandRuns
 pub mod HandSorts
 pub mod HandSlots
 pub mod HandKeeps
+pub mod ReportKeeps
 pub mod TickSlots
 pub mod TickTimers
 pub mod TickEntry

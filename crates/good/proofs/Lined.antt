@@ -10,10 +10,11 @@ use lib.ListN.{length, getD, set, length-set}
 use lib.Dec.{eqb}
 use borrow.Author.Tests.{eq-eqb, ne-eqb, eqb-true}
 use Rattle.units.specs.Refusals.{pick}
-use Rattle.memory.specs.Layout.{cellsAt, idsEnd, nextAt, prevAt, bookHalves}
+use Rattle.memory.specs.Layout.{cellsAt, idsEnd, underAt, nextAt, prevAt, bookHalves}
 use Rattle.waiting.specs.Queues.{prevOf, nextOf, joined, appended, unlinked}
 use Rattle.waiting.specs.Order.{Queue, Out}
-use Rattle.waiting.proofs.Linked.{last, first, append-queue, append-other, append-beyond, unlink-queue, unlink-other, unlink-beyond, beyond-queue}
+use Rattle.waiting.specs.Port.{underIn}
+use Rattle.waiting.proofs.Linked.{last, first, append-queue, append-other, append-beyond, append-aside, unlink-queue, unlink-other, unlink-beyond, unlink-aside, beyond-queue, aside-queue}
 use Rattle.good.specs.Good.{Lists, Lines}
 use Rattle.good.proofs.Members.{mem-out, below-mem, last-mem, first-mem, Split, split, distinct-mid, without, without-out, without-mid, without-in}
 
@@ -53,10 +54,14 @@ module _ (b : List ℕ) (l : Lists) (L : Lines b l) where
   apart-out q r hq hr n x (inr m) =
       (λ e. let h = L .high q hq x m in omega arith, mem-out x (l r) (λ k. L .apart q r hq hr n x m k))
 
+  -- nor does the number in whose place the frame under way stands
+  port-out : (q : ℕ) → q < 4 → Out underAt (q ∷ l q)
+  port-out q hq = (λ e. omega arith, mem-out underAt (l q) (λ m. let h = L .high q hq underAt m in omega arith))
+
   pub waits-below : (q : ℕ) → q < 4 → (x : ℕ) → List·Memᴰ x (l q) → x < idsEnd
   waits-below q h x m = below-mem idsEnd x (l q) (L .queue q h .below .1) m
 
-  module _ (q x : ℕ) (hq : q < 4) (low : 4 ≤ x) (hx : x < idsEnd) (none : (r : ℕ) → r < 4 → List·Memᴰ x (l r) → ⊥) where
+  module _ (q x : ℕ) (hq : q < 4) (low : 16 ≤ x) (hx : x < idsEnd) (none : (r : ℕ) → r < 4 → List·Memᴰ x (l r) → ⊥) where
     alone : Out x (q ∷ l q)
     alone = (λ e. omega arith, mem-out x (l q) (none q hq))
 
@@ -100,12 +105,16 @@ module _ (b : List ℕ) (l : Lists) (L : Lines b l) where
           apart = append-apart;
         }
       where
-        sides : {r : ℕ} (y : ℕ) → (List·Memᴰ y (l r) → 4 ≤ y) → List·Memᴰ y (l r) ⊎ ((r ≡ q) × (y ≡ x)) → 4 ≤ y
+        sides : {r : ℕ} (y : ℕ) → (List·Memᴰ y (l r) → 16 ≤ y) → List·Memᴰ y (l r) ⊎ ((r ≡ q) × (y ≡ x)) → 16 ≤ y
         sides y h (inl m) = h m
         sides y h (inr e) = rw (e .1) low
 
     pub append-cells : (k : ℕ) → cellsAt ≤ k → getD (appended b q x) k 0 ≡ getD b k 0
     append-cells k h = append-beyond b (L .long) q x (l q) (L .queue q hq) hx alone k h
+
+    -- what is under way stays
+    pub append-under : underIn (appended b q x) ≡ underIn b
+    append-under = append-aside b (L .long) q x (l q) (L .queue q hq) hx alone underAt (omega arith) (λ e. omega arith) (port-out q hq)
 
   module _ (q x : ℕ) (hq : q < 4) (m : List·Memᴰ x (l q)) where
     s : Split x (l q)
@@ -162,6 +171,21 @@ module _ (b : List ℕ) (l : Lists) (L : Lines b l) where
 
     pub unlink-cells : (k : ℕ) → cellsAt ≤ k → getD (unlinked b x) k 0 ≡ getD b k 0
     unlink-cells k h = unlink-beyond b (L .long) q x (s .before) (s .after) w k h
+
+    pub unlink-under : underIn (unlinked b x) ≡ underIn b
+    unlink-under =
+        let o : Out underAt (q ∷ s .before) = (λ e. omega arith, mem-out underAt (s .before) (λ k. let h = L .high q hq underAt (was-before underAt k) in omega arith)) in
+        unlink-aside b (L .long) q x (s .before) (s .after) w underAt (omega arith) o
+
+  -- another frame is under way, or none
+  pub port-lines : (u : ℕ) → Lines (set b underAt u) l
+  port-lines u =
+      record {
+        long = length-set b underAt u ∙ L .long;
+        queue = λ r hr. aside-queue b underAt u r (l r) (omega arith) (port-out r hr) (L .queue r hr);
+        high = L .high;
+        apart = L .apart;
+      }
 
   pub set-lines : (k v : ℕ) → cellsAt ≤ k → Lines (set b k v) l
   set-lines k v h =

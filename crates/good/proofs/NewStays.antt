@@ -11,7 +11,7 @@ use lib.Seq.{getD-set-other}
 use lib.Dec.{eqb}
 use borrow.Author.Tests.{le-ltb}
 use Rattle.units.specs.Refusals.{pick}
-use Rattle.memory.specs.Layout.{clockAt, quietAt, rowAt, nodeWords}
+use Rattle.memory.specs.Layout.{clockAt, quietAt, underAt, rowAt, nodeWords, bookHalves}
 use Rattle.window.proofs.Bits.{bit-of-zero}
 use Rattle.end_points.specs.Heads.{countIn}
 use Rattle.end_points.specs.declared.answers.HandedOut.{HandedOut}
@@ -24,8 +24,9 @@ use Rattle.call_tick.specs.Ticking.{tickAfter, tickBoth, stillAfter, scanAfter,
 use Rattle.call_hand_out.specs.Handing.{handOutAnswer, handOutAfter, nextOut, outNode, outBook}
 use Rattle.call_hand_out.specs.declared.Next.the-variants as next
 use Rattle.good.specs.Calls.{Memory, lent, bare, kept, keptBare, after}
-use Rattle.machine.specs.Calls.{Call, opens, closes, counts, sends, urges, arrives, hands-out, ticks}
+use Rattle.machine.specs.Calls.{Call, opens, closes, counts, sends, urges, arrives, hands-out, reports, ticks}
 use Rattle.good.specs.NewNode.{newAt, newAfter, NewStays}
+use Rattle.good.proofs.ReportKeeps.{report-refused}
 use Rattle.good.proofs.OpenKeeps.{open-refused}
 use Rattle.good.proofs.CloseKeeps.{close-refused}
 use Rattle.good.proofs.SendKeeps.{send-refused}
@@ -99,6 +100,7 @@ stays store c q small (sends i p) = ap kept (send-refused (lent (newAt store c q
 stays store c q small (urges i p) = ap kept (urgent-refused (lent (newAt store c q) []) i p (none store c q i))
 stays store c q small (arrives block f) = arrive-same store c q block f (comes (lent (newAt store c q) block) (new-index store c q) f)
 stays store c q small (hands-out buffer) = hand-same store c q buffer (handOutAnswer (lent (newAt store c q) buffer))
+stays store c q small reports = ap (keptBare (newAt store c q)) (report-refused (bare (newAt store c q)) (getD-replicate bookHalves underAt 0 0 (omega arith)))
 stays store c q small ticks = tick-moves store c q small
 
 pub new-stays : NewStays

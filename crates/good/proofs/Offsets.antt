@@ -128,14 +128,17 @@ module _ (w : Window) (g : GoodWindow w) where
 
 -- ---- when the start moves
 
--- where the numbers of a window that took a number in and passed what it could lay before
+-- the numbers of a window that took a number in and passed what it could, and where they lay before
+pub number-pass : (w : Window) (s k : ℕ) → past (passOf (acceptOf w s .window) .window) k ≡ past w (runOf (acceptOf w s .window) + k)
+unfolding passOf
+number-pass w s k =
+    let e : acceptOf w s .window .start .0 ≡ w .start .0 = ap (λ (q : Seq). q .0) (accept-start w s) in
+    rw e (omega arith)
+
 pub cell-pass : (i : ℕ) (w : Window) (s k : ℕ)
     → cell i (passOf (acceptOf w s .window) .window) (past (passOf (acceptOf w s .window) .window) k) ≡ cell i w (past w (runOf (acceptOf w s .window) + k))
 unfolding passOf
-cell-pass i w s k =
-    let e : acceptOf w s .window .start .0 ≡ w .start .0 = ap (λ (q : Seq). q .0) (accept-start w s) in
-    let p : past (movedOf (acceptOf w s .window) (runOf (acceptOf w s .window))) k ≡ past w (runOf (acceptOf w s .window) + k) = rw e (omega arith) in
-    rw (p, accept-size w s)
+cell-pass i w s k = rw (number-pass w s k, accept-size w s)
 
 -- ---- several of them
 

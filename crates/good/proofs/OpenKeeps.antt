@@ -28,7 +28,7 @@ use Rattle.good.proofs.Lined.{added}
 use Rattle.good.proofs.Known.{is-closed, stated-as, entered-as}
 use Rattle.good.proofs.Framing.{Within, within-same, apart-saved, entry-low}
 use Rattle.good.proofs.Turns.{run-fits, turnedTo, end-saved, anew-fits, anew-size, anew-fresh, anew-window, free-turn, not-owed, Kept, kept-either}
-use Rattle.good.proofs.Senders.{reset-within, reset-silent, enabled-sender}
+use Rattle.good.proofs.Senders.{reset-within, reset-under, reset-silent, enabled-sender}
 
 -- ---- the entry: Enabled, and its Reset waits where it sends
 
@@ -76,7 +76,7 @@ module _ (x : Lent) (i : ℕ) where
         let r = endOf (x .node) i .run in
         free-turn t (x .node) (x .book) l g i li
         (not-owed t (x .node) (x .book) l g i li (λ o. let z : _≡_ {A = ℕ} 0 1 = cc in omega arith))
-        (Enabled 0 false) (anew r) (omega arith) (anew-fits r (run-fits (x .node) i)) (anew-size r) b l′ v n (λ runs. absurd (runs refl))
+        (Enabled 0 false) (anew r) (omega arith) (anew-fits r (run-fits (x .node) i)) (anew-size r) b l′ v n (λ z runs. absurd (runs refl))
 
     -- one that sends or not
     enabled-kept : (k : Bool) → isSends (endOf (x .node) i .entry .kind) ≡ k → Kept t x (enabledAs x i (endOf (x .node) i) k) l i
@@ -89,6 +89,7 @@ module _ (x : Lent) (i : ℕ) where
           good = turn b l′ v (enabled-sender b l′ i (endOf (x .node) i) h (g .entered i li .window) (reset-silent (x .book) l (g .lines) i small silent));
           apart = apart-saved i (x .node) (Enabled 0 false) (anew (endOf (x .node) i .run));
           within = v;
+          under = reset-under (x .book) l (g .lines) i small silent;
         }
     enabled-kept false h =
         let v = within-same i (x .book) l (g .lines) in
@@ -97,6 +98,7 @@ module _ (x : Lent) (i : ℕ) where
           good = turn (x .book) l v (enabled-receiver (x .book) l i (endOf (x .node) i) h (g .entered i li .window) silent);
           apart = apart-saved i (x .node) (Enabled 0 false) (anew (endOf (x .node) i .run));
           within = v;
+          under = refl;
         }
 
 pub open-keeps : (t : List ℕ) (x : Lent) (l : Lists) (i : ℕ) → Good t (x .node) (x .book) l → i < countIn (x .node) → Kept t x (openAfter x i (openAnswer x i)) l i

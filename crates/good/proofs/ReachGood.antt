@@ -4,7 +4,7 @@ use mathlib.Core.Path.{_≡_, refl, sym, subst}
 use mathlib.Core.Logic.{_⊎_, inl, inr}
 use mathlib.Core.Bool.{Bool, true, false, not}
 use mathlib.Core.List.{List, [], _∷_}
-use native.Mathlib.Decide.{decLt}
+use native.Mathlib.Decide.{ℕ-discrete, decLt}
 use native.Mathlib.Omega.{arith}
 use lib.ListN.{length, getD}
 use lib.Seq.{length-sets}
@@ -30,7 +30,8 @@ use Rattle.units.specs.Refusals.{pick}
 use Rattle.call_arrive.specs.Arriving.{takenInAfter}
 use Rattle.good.specs.Good.{Lists, Good}
 use Rattle.good.specs.Calls.{Memory, lent, bare, after, SetUp, at-setup, by-call, by-store}
-use Rattle.machine.specs.Calls.{Call, opens, closes, counts, sends, urges, arrives, hands-out, ticks, Fed}
+use Rattle.machine.specs.Calls.{Call, opens, closes, counts, sends, urges, arrives, hands-out, reports, ticks}
+use Rattle.machine.specs.Calls.{Fed}
 use Rattle.good.specs.Reaching.{ReachIsGood}
 use Rattle.good.proofs.SetupGood.{setup-good}
 use Rattle.good.proofs.OpenKeeps.{open-keeps, open-refused}
@@ -40,6 +41,8 @@ use Rattle.good.proofs.UrgentKeeps.{urgent-keeps, urgent-refused}
 use Rattle.good.proofs.Arrivals.{Taken, Refused as Turned, arrives as comes}
 use Rattle.good.proofs.ArriveKeeps.{arrive-keeps}
 use Rattle.good.proofs.HandKeeps.{hand-keeps}
+use Rattle.good.proofs.ReportKeeps.{report-refused, report-keeps}
+use Rattle.waiting.specs.Port.{underIn}
 use Rattle.good.proofs.TickKeeps.{tick-keeps}
 
 abbrev Holds : List ℕ → Memory → Type 0
@@ -138,6 +141,11 @@ module _ (t : List ℕ) (n : Memory) (l : Lists) (g : Good t (n .node) (n .book)
   unfolding after
   hand-holds buffer = let k = hand-keeps t (lent n buffer) l g in (k .lists, k .good, rw (k .store) room)
 
+  report-holds : Dec (underIn (n .book) ≡ 0) → Holds t (after n reports)
+  unfolding after
+  report-holds (yes h) = (l, subst (λ (x : Lent). Good t (x .node) (x .book) l) (sym (report-refused (bare n) h)) g, room)
+  report-holds (no h) = let k = report-keeps t (bare n) l g h in (l, k .good, room)
+
   tick-holds : Holds t (after n ticks)
   unfolding after
   tick-holds = let k = tick-keeps t (bare n) l g in (k .lists, k .good, room)
@@ -151,6 +159,7 @@ call-holds t n (sends i p) f h = send-holds t n (h .0) (h .1) (h .2) i p (decLt 
 call-holds t n (urges i p) f h = urgent-holds t n (h .0) (h .1) (h .2) i p (decLt i (countIn (n .node)))
 call-holds t n (arrives block f) b h = arrive-holds t n (h .0) (h .1) (h .2) block f b (comes (lent n block) (h .1 .tabled .index) f)
 call-holds t n (hands-out buffer) f h = hand-holds t n (h .0) (h .1) (h .2) buffer
+call-holds t n reports f h = report-holds t n (h .0) (h .1) (h .2) (ℕ-discrete (underIn (n .book)) 0)
 call-holds t n ticks f h = tick-holds t n (h .0) (h .1) (h .2)
 
 -- Reach implies Good.

@@ -11,7 +11,7 @@ use lib.Seq.{getD-set-same, getD-set-other}
 use lib.Dec.{eqb}
 use borrow.Author.Tests.{ltb-true}
 use Rattle.units.specs.Refusals.{pick}
-use Rattle.memory.specs.Layout.{lengthAt, nodeWords, bookHalves}
+use Rattle.memory.specs.Layout.{underAt, lengthAt, nodeWords, bookHalves}
 use Rattle.waiting.specs.Acks.{placeOf, waitingOf, dropped}
 use Rattle.waiting.specs.Order.{acksIn, notOf}
 use Rattle.waiting.proofs.Ringed.{Ring, from-length, push-acks, push-ring, drop-acks, drop-ring}
@@ -142,6 +142,7 @@ module _ (t : List ℕ) (x : Lent) (l : Lists) (g : Good t (x .node) (x .book) l
             r reset-end (x .book) (within-same i (x .book) l (g .lines)) reset-entered;
         apart = whole;
         within = within-same i (x .book) l (g .lines);
+        under = refl;
       }
     where
       vs : List ℕ
@@ -287,6 +288,7 @@ module _ (t : List ℕ) (x : Lent) (l : Lists) (g : Good t (x .node) (x .book) l
         (withWindow (e .run) v) data-end (putBook (x .book) i e s p) within (data-entered new);
     apart = data-puts .0;
     within = within;
+    under = getD-set-other (x .book) (lengthAt (cell i w s)) underAt (length p) 0 (λ z. omega arith);
   }
     where
       within : Within i (x .book) (putBook (x .book) i e s p) l l
@@ -308,6 +310,7 @@ module _ (t : List ℕ) (x : Lent) (l : Lists) (g : Good t (x .node) (x .book) l
             (apart-timely i (x .node) (acknowledged (x .node) i s) apart-acked (x .book) i (endOf (x .node) i) (endOf (x .node) i .state) (g .timely i li)));
         apart = apart-acked;
         within = within-same i (x .book) l (g .lines);
+        under = refl;
       }
     where
       owed : (m : ℕ) → (Owed (x .node) m) ⊎ (m / 256 ≡ i) → Owed (acknowledged (x .node) i s) m

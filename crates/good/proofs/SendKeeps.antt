@@ -16,8 +16,9 @@ use Rattle.units.specs.declared.refusals.Refusal.the-variants as refusal
 use Rattle.units.specs.declared.refusals.Verdict.{Verdict}
 use Rattle.units.specs.declared.refusals.Verdict.the-variants.{Passed, Refused}
 use Rattle.units.proofs.Judging.{clear}
-use Rattle.memory.specs.Layout.{allCells, cellsAt, idsEnd, datas, urgentId, lengthAt, timerAt, retriesAt}
+use Rattle.memory.specs.Layout.{allCells, cellsAt, idsEnd, underAt, datas, urgentId, lengthAt, timerAt, retriesAt}
 use Rattle.waiting.specs.Queues.{appended}
+use Rattle.waiting.specs.Port.{underIn}
 use Rattle.end_points.proofs.Kept.{RunFits}
 use Rattle.window.specs.Windows.{Good as GoodWindow}
 use Rattle.window.specs.declared.Window.{Window}
@@ -36,13 +37,13 @@ use Rattle.timing.specs.Timing.{clockIn, quietIn}
 use Rattle.memory.specs.Layout.{Ranged}
 use Rattle.good.specs.Good.{Lists, Lines, mine, idAt, ids, Share, Resends, Filled, Sending, OpenSender, Entered, Timely, Good}
 use Rattle.good.proofs.Members.{mine-all, mine-append, mine-own}
-use Rattle.good.proofs.Lined.{added, append-cells}
+use Rattle.good.proofs.Lined.{added, append-cells, append-under}
 use Rattle.good.proofs.Known.{is-open, stated-as, entered-as}
-use Rattle.good.proofs.Framing.{Within, within-then, within-append, within-set, entry-low, cell-low, length-owner, retries-owner, timely-as, timely-fewer}
+use Rattle.good.proofs.Framing.{same-under, Within, within-then, within-append, within-set, entry-low, cell-low, length-owner, retries-owner, timely-as, timely-fewer}
 use Rattle.good.proofs.Offsets.{id-high, id-owner, data-ranged, cell-inj, id-inj, ids-more, ids-in}
 use Rattle.good.proofs.Turns.{run-fits, turnedTo, sender-put, Kept, kept-either}
 use Rattle.good.proofs.RunSets.{sent-puts, sent-end}
-use Rattle.good.proofs.Senders.{resends-kept}
+use Rattle.good.proofs.Senders.{resends-kept, standing-kept}
 
 -- ---- what waits
 
@@ -105,7 +106,7 @@ module _ (b : List ℕ) (l : Lists) (L : Lines b l) (i : ℕ) (low : i < 16) (w 
       within-then i b sized stored l l l within-sized
       (within-set i sized l (within-sized .lines) (retriesAt at) 0 (omega arith) (retries-owner i low w g (past w taken)))
 
-  high : 4 ≤ idAt i w taken
+  high : 16 ≤ idAt i w taken
   high = omega arith
 
   below : idAt i w taken < idsEnd
@@ -120,6 +121,13 @@ module _ (b : List ℕ) (l : Lists) (L : Lines b l) (i : ℕ) (low : i < 16) (w 
   sent-cells : (k : ℕ) → cellsAt ≤ k → getD (sentBook b at n) k 0 ≡ getD stored k 0
   unfolding sentBook
   sent-cells k h = append-cells stored l (within-stored .lines) datas (idAt i w taken) (omega arith) high below none k h
+
+  sent-under : underIn (sentBook b at n) ≡ underIn b
+  unfolding sentBook
+  sent-under =
+      append-under stored l (within-stored .lines) datas (idAt i w taken) (omega arith) high below none
+      ∙ getD-set-other sized (retriesAt at) underAt 0 0 (λ e. omega arith)
+      ∙ getD-set-other b (lengthAt at) underAt n 0 (λ e. omega arith)
 
   sent-here : lengthIn (sentBook b at n) at ≡ n
   sent-here =
@@ -200,6 +208,9 @@ module _ (b : List ℕ) (l : Lists) (L : Lines b l) (i : ℕ) (low : i < 16) (e 
   sent-share : Share lists i [] (pick (eqb (e .run .urgent) 0) [] (urgentId i ∷ [])) (ids i w (e .run .handed) (e .run .taken + 1 - e .run .handed))
   sent-share = record { resets = o .share .resets; urgents = o .share .urgents; datas = sent-datas }
 
+  under : underIn book ≡ underIn b
+  under = sent-under b l L i low w g (e .run .taken) n none
+
   sent-resends : Resends book lists i (sentRun (e .run))
   unfolding sentRun
   sent-resends =
@@ -207,7 +218,13 @@ module _ (b : List ℕ) (l : Lists) (L : Lines b l) (i : ℕ) (low : i < 16) (e 
 
   sent-open : (s : State) → OpenSender book lists i (turnedTo e s (sentRun (e .run)))
   unfolding sentRun
-  sent-open s = record { sending = sent-sending; share = sent-share; resends = sent-resends }
+  sent-open s =
+      record {
+        sending = sent-sending;
+        share = sent-share;
+        resends = sent-resends;
+        standing = standing-kept b book i (e .run) (sentRun (e .run)) refl refl timer under (o .standing);
+      }
 
 -- ---- the call
 
@@ -323,7 +340,8 @@ module _ (t : List ℕ) (x : Lent) (l : Lists) (i : ℕ) (p : List ℕ) (g : Goo
   unfolding sentRun
   soon =
       let a = sent-puts (x .node) i (g .long) low .apart in
-      timely-as (clockIn (x .node)) (quietIn (sent x i e p .node)) (x .book) (sent x i e p .book) i e (turnedTo e (e .state) (sentRun (e .run))) refl refl
+      timely-as (clockIn (x .node)) (quietIn (sent x i e p .node)) (x .book) (sent x i e p .book) i e (turnedTo e (e .state) (sentRun (e .run)))
+      (same-under i (x .book) (sent x i e p .book) (under (x .book) l (g .lines) i low e window was (length p) (d .some) (d .most) (d .room) none)) refl refl
       (timer (x .book) l (g .lines) i low e window was (length p) (d .some) (d .most) (d .room) none) (e .state)
       (timely-fewer (clockIn (x .node)) (quietIn (x .node)) (quietIn (sent x i e p .node)) (x .book) i e (e .state) (a .quiet) (g .timely i (d .known)))
 
@@ -339,6 +357,7 @@ module _ (t : List ℕ) (x : Lent) (l : Lists) (i : ℕ) (p : List ℕ) (g : Goo
             (turnedTo e (e .state) (sentRun (e .run))) put-end now soon;
         apart = sent-puts (x .node) i (g .long) low .apart;
         within = within;
+        under = under (x .book) l (g .lines) i low e window was (length p) (d .some) (d .most) (d .room) none;
       }
 
   sent-passed : SendPassed x i p e (sent x i e p)

@@ -3,7 +3,7 @@
 use Prim.Native.Nat.{ℕ, zero, suc, _+_, _≤_, _<_}
 use mathlib.Core.Path.{_≡_, refl, sym, ap, subst, _∙_}
 use mathlib.Core.Logic.{_≢_}
-use mathlib.Core.Bool.{Bool, true, false}
+use mathlib.Core.Bool.{Bool, true, false, true≢false}
 use mathlib.Core.List.{List, [], _∷_, List·Memᴰ, List·Memᴰ·head}
 use native.Mathlib.Decide.{ℕ-discrete}
 use native.Mathlib.Nat.{mod-lt}
@@ -13,8 +13,9 @@ use lib.Seq.{getD-set-same, getD-set-other}
 use lib.Dec.{eqb}
 use borrow.Author.Tests.{eq-eqb}
 use Rattle.units.specs.Refusals.{pick}
-use Rattle.memory.specs.Layout.{allCells, cellsAt, retriesAt, resets, urgents, resends, datas, resetId, lengthAt, timerAt, bookHalves}
+use Rattle.memory.specs.Layout.{allCells, cellsAt, underAt, retriesAt, resets, urgents, resends, datas, resetId, lengthAt, timerAt, bookHalves}
 use Rattle.waiting.specs.Queues.{appended}
+use Rattle.waiting.specs.Port.{underIn}
 use Rattle.window.specs.Windows.{held, Good as GoodWindow}
 use Rattle.window.specs.declared.Window.{Window}
 use Rattle.table.specs.Layout.{countOf}
@@ -28,30 +29,32 @@ use Rattle.end_points.specs.declared.State.the-variants.{Enabled}
 use Rattle.end_points.specs.declared.Run.{Run}
 use Rattle.end_points.specs.declared.EndPoint.{EndPoint}
 use Rattle.slots.specs.Slots.{cell, past, lengthIn, timerIn}
-use Rattle.good.specs.Good.{Lists, Lines, mine, Resends, Silent, Filled, Sending, running, Stated, Entered, Outlasts, Good}
+use Rattle.good.specs.Good.{Lists, Lines, mine, Resends, Silent, Filled, Sending, running, Standing, Stated, Entered, Outlasts, Good}
 use Rattle.good.proofs.Members.{mem-out, without, without-out, mine-in, mine-append, mine-own, mine-without}
-use Rattle.good.proofs.Lined.{added, less, added-here, added-there, append-cells}
+use Rattle.good.proofs.Lined.{added, less, added-here, added-there, append-cells, append-under}
 use Rattle.good.proofs.Known.{is-sends, stated-as, entered-as, silent-out}
-use Rattle.good.proofs.Framing.{Within, within-append, within-set, cell-low, timer-owner, running-ext}
+use Rattle.good.proofs.Framing.{same-under, Within, within-append, within-set, cell-low, timer-owner, running-ext}
 use Rattle.good.proofs.Offsets.{reset-owner, reset-ranged, cell-inj}
 use Rattle.good.proofs.Turns.{turnedTo, anew-fresh, anew-window}
 
 -- ---- the timer of one number
 
--- the timer of the number k past the start is at v, and no other timer of the window and no length altered
+-- the timer of the number k past the start is at v; no other timer of the window, no length and nothing of what is under
+-- way altered
 pub record Timed (b b′ : List ℕ) (i : ℕ) (w : Window) (k v : ℕ) : Type 0 where
   pub lengths : (g : ℕ) → g < allCells → lengthIn b′ g ≡ lengthIn b g
   pub here : timerIn b′ (cell i w (past w k)) ≡ v
   pub there : (j : ℕ) → j < w .size → j ≢ k → timerIn b′ (cell i w (past w j)) ≡ timerIn b (cell i w (past w j))
+  pub under : underIn b′ ≡ underIn b
 
--- the first n numbers' timers outlast q ticks then, where that one's does and the others' did
-pub timed-outlasts : (b b′ : List ℕ) (i : ℕ) (w : Window) (k v : ℕ) → Timed b b′ i w k v → (c q : ℕ) → Outlasts c q v → (n : ℕ) → n ≤ w .size
-    → ((j : ℕ) → j < n → j ≢ k → Outlasts c q (timerIn b (cell i w (past w j)))) → (j : ℕ) → j < n → Outlasts c q (timerIn b′ (cell i w (past w j)))
-timed-outlasts b b′ i w k v T c q o n few h j m = sides (ℕ-discrete j k)
+-- of the first n numbers those timers of which X holds outlast q ticks then, where that one's does and the others' did
+pub timed-outlasts : (b b′ : List ℕ) (i : ℕ) (w : Window) (k v : ℕ) → Timed b b′ i w k v → (c q : ℕ) (X : ℕ → Type 0) → (X k → Outlasts c q v) → (n : ℕ) → n ≤ w .size
+    → ((j : ℕ) → j < n → j ≢ k → X j → Outlasts c q (timerIn b (cell i w (past w j)))) → (j : ℕ) → j < n → X j → Outlasts c q (timerIn b′ (cell i w (past w j)))
+timed-outlasts b b′ i w k v T c q X o n few h j m x = sides (ℕ-discrete j k)
   where
     sides : Dec (j ≡ k) → Outlasts c q (timerIn b′ (cell i w (past w j)))
-    sides (yes e) = subst (λ (z : ℕ). Outlasts c q (timerIn b′ (cell i w (past w z)))) (sym e) (subst (Outlasts c q) (sym (T .here)) o)
-    sides (no d) = subst (Outlasts c q) (sym (T .there j (omega arith) d)) (h j m d)
+    sides (yes e) = subst (λ (z : ℕ). Outlasts c q (timerIn b′ (cell i w (past w z)))) (sym e) (subst (Outlasts c q) (sym (T .here)) (o (subst X e x)))
+    sides (no d) = subst (Outlasts c q) (sym (T .there j (omega arith) d)) (h j m d x)
 
 module _ (i : ℕ) (low : i < 16) (w : Window) (g : GoodWindow w) (k : ℕ) (hk : k < w .size) (v : ℕ) where
   pub timed-set : (b : List ℕ) → length b ≡ bookHalves → Timed b (set b (timerAt (cell i w (past w k))) v) i w k v
@@ -62,24 +65,27 @@ module _ (i : ℕ) (low : i < 16) (w : Window) (g : GoodWindow w) (k : ℕ) (hk 
         here = getD-set-same b (timerAt (cell i w (past w k))) v 0 (omega arith);
         there = λ j l n. getD-set-other b (timerAt (cell i w (past w k))) (timerAt (cell i w (past w j))) v 0
             (λ e. n (cell-inj w g i j k l hk (omega arith)));
+        under = getD-set-other b (timerAt (cell i w (past w k))) underAt v 0 (λ e. omega arith);
       }
 
   -- after something that alters the links alone
-  pub timed-after : (b c b′ : List ℕ) → ((x : ℕ) → cellsAt ≤ x → getD c x 0 ≡ getD b x 0) → Timed c b′ i w k v → Timed b b′ i w k v
-  timed-after b c b′ same d =
+  pub timed-after : (b c b′ : List ℕ) → ((x : ℕ) → cellsAt ≤ x → getD c x 0 ≡ getD b x 0) → underIn c ≡ underIn b → Timed c b′ i w k v → Timed b b′ i w k v
+  timed-after b c b′ same under d =
       record {
         lengths = λ x l. d .lengths x l ∙ same (lengthAt x) (omega arith);
         here = d .here;
         there = λ j l n. d .there j l n ∙ same (timerAt (cell i w (past w j))) (omega arith);
+        under = d .under ∙ under;
       }
 
   -- before something that alters what is beyond the timers
-  pub timed-then : (b c b′ : List ℕ) → Timed b c i w k v → ((x : ℕ) → cellsAt ≤ x → x < (retriesAt 0) → getD b′ x 0 ≡ getD c x 0) → Timed b b′ i w k v
-  timed-then b c b′ d same =
+  pub timed-then : (b c b′ : List ℕ) → Timed b c i w k v → ((x : ℕ) → cellsAt ≤ x → x < (retriesAt 0) → getD b′ x 0 ≡ getD c x 0) → underIn b′ ≡ underIn c → Timed b b′ i w k v
+  timed-then b c b′ d same under =
       record {
         lengths = λ x l. same (lengthAt x) (omega arith) (omega arith) ∙ d .lengths x l;
         here = same (timerAt (cell i w (past w k))) (omega arith) (omega (arith, cell-low i low w g (past w k))) ∙ d .here;
         there = λ j l n. same (timerAt (cell i w (past w j))) (omega arith) (omega (arith, cell-low i low w g (past w j))) ∙ d .there j l n;
+        under = under ∙ d .under;
       }
 
   -- as a turn of the book
@@ -142,6 +148,13 @@ resends-kept b b′ l l′ i r r′ w h timers same R =
           }));
     }
 
+-- nor what is under way: its timer stands as it did
+pub standing-kept : (b b′ : List ℕ) (i : ℕ) (r r′ : Run) → r′ .window ≡ r .window → r′ .handed ≡ r .handed
+    → ((j : ℕ) → timerIn b′ (cell i (r .window) (past (r .window) j)) ≡ timerIn b (cell i (r .window) (past (r .window) j)))
+    → underIn b′ ≡ underIn b → Standing b i r → Standing b′ i r′
+standing-kept b b′ i r r′ w h timers u s k l m o z =
+    s k (rw (← h) l) (rw (← w) m) (rw (← w) (o ∙ same-under i b b′ u .data!)) (sym (timers k) ∙ rw (← w) z)
+
 -- ---- how many timers run
 
 -- no more timers run than there are
@@ -153,6 +166,13 @@ running-le b i w (suc n) = sides (running-le b i w n) (eqb (timerIn b (cell i w 
     sides : running b i w n ≤ n → (t : Bool) → pick t (running b i w n) (suc (running b i w n)) ≤ suc n
     sides h true = omega arith
     sides h false = omega arith
+
+-- as many run where the same ones do
+pub running-alike : (b b′ : List ℕ) (i : ℕ) (w : Window) (n : ℕ)
+    → ((k : ℕ) → k < n → eqb (timerIn b′ (cell i w (past w k))) 0 ≡ eqb (timerIn b (cell i w (past w k))) 0) → running b′ i w n ≡ running b i w n
+unfolding running
+running-alike b b′ i w zero h = refl
+running-alike b b′ i w (suc n) h = rw (h n (omega arith), running-alike b b′ i w n (λ k l. h k (omega arith)))
 
 -- one that stops is one fewer
 pub running-stopped : (b b′ : List ℕ) (i : ℕ) (w : Window) (k : ℕ) → Timed b b′ i w k 0 → (n : ℕ) → k < n → n ≤ w .size
@@ -233,6 +253,9 @@ module _ (b : List ℕ) (l : Lists) (L : Lines b l) (i : ℕ) (low : i < 16) (s 
   reset-cells k h =
       append-cells b l L resets (resetId i) (omega arith) (omega arith) (omega arith) (silent-out l i s (resetId i) (reset-owner i low)) k h
 
+  pub reset-under : underIn (appended b resets (resetId i)) ≡ underIn b
+  reset-under = append-under b l L resets (resetId i) (omega arith) (omega arith) (omega arith) (silent-out l i s (resetId i) (reset-owner i low))
+
   pub reset-silent : Silent (added l resets (resetId i)) i (resetId i ∷ [])
   reset-silent =
       record {
@@ -252,7 +275,7 @@ pub enabled-sender : (b : List ℕ) (l : Lists) (i : ℕ) (e : EndPoint) → isS
     → Entered b l i (turnedTo e (Enabled 0 false) (anew (e .run)))
 enabled-sender b l i e k w s =
     entered-as b l i (turnedTo e (Enabled 0 false) (anew (e .run))) (anew-window (e .run) w) true k (Enabled 0 false) refl
-    (record { fresh = anew-fresh (e .run); silent = s })
+    (record { fresh = anew-fresh (e .run); silent = s; unsent = λ h. refl; standing = λ z h. absurd (true≢false (sym h)) })
 
 -- ---- the end point of a sender
 

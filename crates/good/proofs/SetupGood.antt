@@ -30,6 +30,9 @@ use Rattle.end_points.specs.Lent.{Lent}
 use Rattle.end_points.specs.declared.EndPoint.{EndPoint}
 use Rattle.arrive_lookup.specs.Lookup.{rowIn, Indexed}
 use Rattle.arrive_lookup.proofs.Rows.{row-zero}
+use Rattle.waiting.specs.Port.{ended}
+use Rattle.good.proofs.Lined.{port-lines}
+use Rattle.good.proofs.Porting.{ended-under}
 use Rattle.call_open.specs.Setup.{setupAnswer, headed, entered, tabled, emptied, setupAfter}
 use Rattle.timing.specs.Timing.{clockIn, quietIn}
 use Rattle.good.specs.Good.{Lines, Entered, Timely, Tabled, Good}
@@ -162,7 +165,7 @@ closed-entered t b g i h =
     }
 
 set-up : (t b : List ℕ) → goodTable t ≡ true → ((k : ℕ) → getD t k 0 < 256) → length b ≡ bookHalves
-    → Good t (tabled t (countOf t) (headed t (replicate nodeWords 0))) (emptied b) (λ q. [])
+    → Good t (tabled t (countOf t) (headed t (replicate nodeWords 0))) (ended (emptied b)) (λ q. [])
 set-up t b g bytes long =
     record {
       table = g;
@@ -170,13 +173,14 @@ set-up t b g bytes long =
       tabled = node-tabled t g bytes;
       acks = omega (arith, waits-none t g bytes);
       owed = λ w m. absurd (List·Memᴰ·not-nil (subst (List·Memᴰ w) (acks-none t g bytes) m));
-      lines = emptied-lines b long;
+      lines = port-lines (emptied b) (λ q. []) (emptied-lines b long) 0;
       known = λ q h x m. absurd (List·Memᴰ·not-nil m);
       entered = λ i h. let l : i < countOf t = rw (node-count t g bytes) at h in
-          subst (Entered (emptied b) (λ q. []) i) (sym (node-end t g bytes i l)) (closed-entered t (emptied b) g i l);
+          subst (Entered (ended (emptied b)) (λ q. []) i) (sym (node-end t g bytes i l)) (closed-entered t (ended (emptied b)) g i l);
+      under = λ h. absurd (h (ended-under (emptied b) (λ q. []) (emptied-lines b long)));
       timely = λ i h. let l : i < countOf t = rw (node-count t g bytes) at h in
           let ws = tabled t (countOf t) (headed t (replicate nodeWords 0)) in
-          subst (λ (e : EndPoint). Timely (clockIn ws) (quietIn ws) (emptied b) i e (e .state)) (sym (node-end t g bytes i l)) tt;
+          subst (λ (e : EndPoint). Timely (clockIn ws) (quietIn ws) (ended (emptied b)) i e (e .state)) (sym (node-end t g bytes i l)) tt;
     }
 
 passed-table : (x : Lent) (t : List ℕ) → setupAnswer x t ≡ Passed → goodTable t ≡ true

@@ -22,6 +22,7 @@ use Rattle.frame.specs.declared.Header.{Header}
 use Rattle.frame.specs.declared.Read.{Read}
 use Rattle.frame.specs.declared.Read.the-variants as read
 use Rattle.waiting.specs.Acks.{waitingOf}
+use Rattle.waiting.specs.Port.{underIn}
 use Rattle.end_points.specs.Ends.{endOf}
 use Rattle.end_points.specs.Heads.{countIn, needIn}
 use Rattle.end_points.specs.States.{isClosed, isOpen}
@@ -37,7 +38,7 @@ use Rattle.call_send.specs.Sending.{senderTests, sendAnswer, sendAfter, urgentA
 use Rattle.call_arrive.specs.Arriving.{entryTests, entryOf, entryVerdict, takenInAnswer, takenInAfter, answerAs, afterAs, blockRoom}
 use Rattle.call_arrive.specs.Arriving.{entryAnswer, entryAfter, readAnswer, readAfter, frameTests, arrivalAnswer, arrivalAfter}
 use Rattle.call_hand_out.specs.Handing.{frameOut, nextOut, handOutAnswer, handOutAfter}
-use Rattle.machine.specs.Calls.{Call, opens, closes, counts, sends, urges, arrives, hands-out, ticks}
+use Rattle.machine.specs.Calls.{Call, opens, closes, counts, sends, urges, arrives, hands-out, reports, ticks}
 use Rattle.good.specs.Good.{Lists, Good}
 use Rattle.good.specs.Calls.{Memory, lent, answer, after, relent}
 use Rattle.good.specs.Reaching.{Stored, shortened, Declined, ReachIsGood, ShortIsRefused}
@@ -188,13 +189,7 @@ module _ (t : List ℕ) (n : Memory) (l : Lists) (g : Good t (n .node) (n .book)
 
   hand-declined : (buffer : List ℕ) → Declined n s (hands-out buffer)
   unfolding answer after handOutAnswer handOutAfter
-  hand-declined buffer =
-      record {
-        answered =
-            let frame = frameOut (lent n buffer) (nextOut ws (n .book)) in
-            rw (lacks, enough) (sides (ltb (length buffer) (length frame)) (length frame));
-        left = rw lacks refl;
-      }
+  hand-declined buffer = by (eqb (underIn (n .book)) 0) refl
     where
       sides : (b : Bool) (k : ℕ)
           → record { numbers = numberOf refusal.TooShort ∷ []; out = buffer }
@@ -202,6 +197,16 @@ module _ (t : List ℕ) (n : Memory) (l : Lists) (g : Good t (n .node) (n .book)
           (record { numbers = handedOf (pick b (handed.Refused refusal.TooShort) (handed.Length k)); out = buffer })
       sides true k = refl
       sides false k = refl
+
+      by : (z : Bool) → eqb (underIn (n .book)) 0 ≡ z → Declined n s (hands-out buffer)
+      by true e =
+          record {
+            answered =
+                let frame = frameOut (lent n buffer) (nextOut ws (n .book)) in
+                rw (e, lacks, enough) (sides (ltb (length buffer) (length frame)) (length frame));
+            left = rw (e, lacks) refl;
+          }
+      by false e = record { answered = rw e refl; left = rw e refl }
 
   declined : (c : Call) → Stored c → Declined n s c
   declined (opens i) f = absurd f
@@ -211,6 +216,7 @@ module _ (t : List ℕ) (n : Memory) (l : Lists) (g : Good t (n .node) (n .book)
   declined (urges i p) f = urgent-declined i p (urgentAnswer (lent n []) i p) refl
   declined (arrives block b) f = arrive-declined block b (arrivalAnswer (lent n block) b) refl
   declined (hands-out buffer) f = hand-declined buffer
+  declined reports f = absurd f
   declined ticks f = absurd f
 
 pub short-is-refused : ShortIsRefused

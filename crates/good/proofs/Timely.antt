@@ -1,21 +1,27 @@
 -- The bound of a good node: while its head says that ticks may pass, none of its timers runs out in them. A tick that passes keeps it, and
 -- what is left of each timer falls by one; a tick that goes through the entries finds it anew. Assumes nothing.
 use Prim.Native.Nat.{ℕ, _-_, _≤_}
-use mathlib.Core.Path.{_≡_, refl}
+use mathlib.Core.Path.{_≡_, refl, sym, _∙_}
 use mathlib.Core.Logic.{_≢_}
-use mathlib.Core.Bool.{false}
+use mathlib.Core.Bool.{Bool, true, false, not, _&&_, true≢false}
 use mathlib.Core.List.{List}
 use native.Mathlib.Decide.{ℕ-discrete}
 use native.Mathlib.Omega.{arith}
-use borrow.Author.Tests.{ne-eqb, eqb-false}
+use lib.Dec.{eqb}
+use borrow.Author.Tests.{eq-eqb, ne-eqb}
 use Rattle.end_points.specs.States.{isOver}
 use Rattle.end_points.specs.declared.State.{State}
 use Rattle.end_points.specs.declared.State.the-variants.{Closed, Enabled, Open, Failing}
 use Rattle.end_points.specs.declared.EndPoint.{EndPoint}
+use Rattle.waiting.specs.Port.{isOwn}
 use Rattle.timing.specs.Timing.{later, leftOf}
 use Rattle.timing.proofs.Falling.{left-pos, left-falls, none-due, bound-falls}
 use Rattle.good.specs.Good.{Outlasts, Timely}
 use Rattle.good.proofs.TickEntry.{Bound, Bounds}
+
+and-false : (z : Bool) → (z && false) ≡ false
+and-false true = refl
+and-false false = refl
 
 -- a timer of a good node, running or not, holds a number of the round
 pub outlasts-number : (c q d : ℕ) → Outlasts c q d → d ≤ 65535
@@ -43,16 +49,20 @@ module _ (c q : ℕ) (small : c ≤ 65535) (some : q ≢ 0) where
 
   pub falls-on : (b : List ℕ) (j : ℕ) (e : EndPoint) (s : State) → Timely c q b j e s → Timely (later c 1) (q - 1) b j e s
   falls-on b j e Closed h = tt
-  falls-on b j e (Enabled d sent) h = one-falls d h
-  falls-on b j e Open h = λ k l. one-falls _ (h k l)
-  falls-on b j e (Failing n) h = (λ k l. one-falls _ (h .0 k l), λ z. absurd (some (h .1 z)))
+  falls-on b j e (Enabled d sent) h = λ u. one-falls d (h u)
+  falls-on b j e Open h = λ k l u. one-falls _ (h k l u)
+  falls-on b j e (Failing n) h = (λ k l u. one-falls _ (h .0 k l u), λ z u. absurd (some (h .1 z u)))
 
   -- nor over an end to recover
-  pub passes-over : (b : List ℕ) (j : ℕ) (e : EndPoint) (s : State) → Timely c q b j e s → isOver s ≡ false
+  pub passes-over : (b : List ℕ) (j : ℕ) (e : EndPoint) (s : State) → Timely c q b j e s → (isOver s && not (isOwn b j)) ≡ false
   passes-over b j e Closed h = refl
   passes-over b j e (Enabled d sent) h = refl
   passes-over b j e Open h = refl
-  passes-over b j e (Failing n) h = ne-eqb n 0 (λ z. some (h .1 z))
+  passes-over b j e (Failing n) h = sides (isOwn b j) refl
+    where
+      sides : (o : Bool) → isOwn b j ≡ o → (eqb n 0 && not o) ≡ false
+      sides true q = and-false (eqb n 0)
+      sides false q = rw (ne-eqb n 0 (λ z. some (h .1 z q)))
 
 -- ---- a tick that goes through the entries
 
@@ -60,9 +70,12 @@ module _ (c q : ℕ) (small : c ≤ 65535) (some : q ≢ 0) where
 found-one : (c m d : ℕ) → (d ≢ 0 → d ≤ 65535) → Bound c m d → Outlasts c (m - 1) d
 found-one c m d number h runs = let p = left-pos c d runs in let q = h runs in (number runs, omega (arith, p, q))
 
-pub found-on : (c c₀ m q : ℕ) (b : List ℕ) (j : ℕ) (e : EndPoint) (s : State) → Bounds c m b j e s → Timely c₀ q b j e s → isOver s ≡ false
+pub found-on : (c c₀ m q : ℕ) (b : List ℕ) (j : ℕ) (e : EndPoint) (s : State) → Bounds c m b j e s → Timely c₀ q b j e s → (isOver s && not (isOwn b j)) ≡ false
     → Timely c (m - 1) b j e s
 found-on c c₀ m q b j e Closed h o over = tt
-found-on c c₀ m q b j e (Enabled d sent) h o over = found-one c m d (λ runs. o runs .0) h
-found-on c c₀ m q b j e Open h o over = λ k l. found-one c m _ (λ runs. o k l runs .0) (h k l)
-found-on c c₀ m q b j e (Failing n) h o over = (λ k l. found-one c m _ (λ runs. o .0 k l runs .0) (h k l), λ z. absurd (eqb-false n 0 over z))
+found-on c c₀ m q b j e (Enabled d sent) h o over = λ u. found-one c m d (λ runs. o u runs .0) (h u)
+found-on c c₀ m q b j e Open h o over = λ k l u. found-one c m _ (λ runs. o k l u runs .0) (h k l u)
+found-on c c₀ m q b j e (Failing n) h o over = (
+  λ k l u. found-one c m _ (λ runs. o .0 k l u runs .0) (h k l u),
+  λ z own. absurd (true≢false (sym (rw (eq-eqb n 0 z, own)) ∙ over)),
+)

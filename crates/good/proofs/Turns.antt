@@ -19,6 +19,7 @@ use Rattle.units.specs.declared.refusals.Verdict.the-variants.{Passed, Refused}
 use Rattle.memory.specs.Layout.{oldestAt, acksAt, ackAt, clockAt, quietAt, nodeWords}
 use Rattle.waiting.specs.Acks.{placeOf, waitingOf, oldestOf, pushed, popped, turned, turns, dropped}
 use Rattle.waiting.specs.Order.{from, acksIn, notOf}
+use Rattle.waiting.specs.Port.{underIn}
 use Rattle.waiting.proofs.Ringed.{Ring, push-rest, pop-rest, drop-rest}
 use Rattle.end_points.proofs.Kept.{saved-head, saved-here, StateFits, RunFits}
 use Rattle.window.specs.Windows.{Good as GoodWindow}
@@ -262,15 +263,16 @@ not-in i (x ∷ xs) w m = sides (not-in i xs w) (eqb (x / 256 % 256) i) refl m
 
 -- ---- a call on entry i
 
--- a node that is good before it is good after it, and only entry i's business altered
+-- a node that is good before it is good after it, and only entry i's business altered; what is under way is the same
 pub record Kept (t : List ℕ) (x x′ : Lent) (l : Lists) (i : ℕ) : Type 0 where
   pub lists : Lists
   pub good : Good t (x′ .node) (x′ .book) lists
   pub apart : Apart i (x .node) (x′ .node)
   pub within : Within i (x .book) (x′ .book) l lists
+  pub under : underIn (x′ .book) ≡ underIn (x .book)
 
 pub kept-same : (t : List ℕ) (x : Lent) (l : Lists) (i : ℕ) → Good t (x .node) (x .book) l → Kept t x x l i
-kept-same t x l i g = record { lists = l; good = g; apart = apart-same i (x .node); within = within-same i (x .book) l (g .lines) }
+kept-same t x l i g = record { lists = l; good = g; apart = apart-same i (x .node); within = within-same i (x .book) l (g .lines); under = refl }
 
 -- a call that answers a verdict: refused, it leaves all as it was
 pub kept-either : (t : List ℕ) (x : Lent) (l : Lists) (i : ℕ) → Good t (x .node) (x .book) l → (after : Verdict → Lent)

@@ -17,6 +17,7 @@ use Rattle.units.specs.declared.refusals.Verdict.the-variants.{Passed, Refused}
 use Rattle.units.proofs.Judging.{clear}
 use Rattle.memory.specs.Layout.{cellsAt, urgents, urgentId, lengthAt, timerAt}
 use Rattle.waiting.specs.Queues.{appended}
+use Rattle.waiting.specs.Port.{underIn}
 use Rattle.end_points.proofs.Kept.{RunFits}
 use Rattle.window.specs.declared.Window.{Window}
 use Rattle.end_points.specs.Ends.{word, loadEntry, endOf}
@@ -33,12 +34,12 @@ use Rattle.timing.specs.Timing.{clockIn, quietIn}
 use Rattle.memory.specs.Layout.{Ranged}
 use Rattle.good.specs.Good.{Lists, Lines, mine, Resends, Sending, OpenSender, Entered, Timely, Good}
 use Rattle.good.proofs.Members.{mine-all, mine-append, mine-own}
-use Rattle.good.proofs.Lined.{added, append-cells}
+use Rattle.good.proofs.Lined.{added, append-cells, append-under}
 use Rattle.good.proofs.Known.{is-open, stated-as, entered-as}
-use Rattle.good.proofs.Framing.{Within, within-append, apart-saved, timely-as, entry-low}
+use Rattle.good.proofs.Framing.{same-under, Within, within-append, apart-saved, timely-as, entry-low}
 use Rattle.good.proofs.Offsets.{urgent-owner, urgent-ranged}
 use Rattle.good.proofs.Turns.{run-fits, state-fits, turnedTo, end-saved, sender-turn, Kept, kept-either}
-use Rattle.good.proofs.Senders.{resends-kept}
+use Rattle.good.proofs.Senders.{resends-kept, standing-kept}
 
 -- ---- what waits
 
@@ -71,6 +72,9 @@ module _ (b : List ℕ) (l : Lists) (L : Lines b l) (i : ℕ) (low : i < 16) (e 
 
   cells : (k : ℕ) → cellsAt ≤ k → getD book k 0 ≡ getD b k 0
   cells k h = append-cells b l L urgents (urgentId i) (omega arith) (omega arith) (omega arith) none k h
+
+  under : underIn book ≡ underIn b
+  under = append-under b l L urgents (urgentId i) (omega arith) (omega arith) (omega arith) none
 
   urged-within : Within i b book l lists
   urged-within = within-append i b l L urgents (urgentId i) (omega arith) (omega arith) (omega arith) none (urgent-owner i low) (urgent-ranged i low)
@@ -110,6 +114,8 @@ module _ (b : List ℕ) (l : Lists) (L : Lines b l) (i : ℕ) (low : i < 16) (e 
         sending = urged-sending;
         share = record { resets = o .share .resets; urgents = urged-urgents; datas = o .share .datas };
         resends = urged-resends;
+        standing = standing-kept b book i (e .run) (urgentRun (e .run) n) refl refl
+            (λ k. cells (timerAt (cell i (e .run .window) (past (e .run .window) k))) (omega arith)) under (o .standing);
       }
 
 -- ---- the call
@@ -203,7 +209,8 @@ module _ (t : List ℕ) (x : Lent) (l : Lists) (i : ℕ) (p : List ℕ) (g : Goo
   soon : Timely (clockIn (x .node)) (quietIn (x .node)) (urged x i e p .book) i after (e .state)
   unfolding urgentRun
   soon =
-      timely-as (clockIn (x .node)) (quietIn (x .node)) (x .book) (urged x i e p .book) i e after refl refl
+      timely-as (clockIn (x .node)) (quietIn (x .node)) (x .book) (urged x i e p .book) i e after
+      (same-under i (x .book) (urged x i e p .book) (under (x .book) l (g .lines) i low e was (d .waits) (length p) (d .some) (d .most) none)) refl refl
       (λ k. cells (x .book) l (g .lines) i low e was (d .waits) (length p) (d .some) (d .most) none (timerAt (cell i (e .run .window) (past (e .run .window) k))) (omega arith))
       (e .state) (g .timely i (d .known))
 
@@ -218,6 +225,7 @@ module _ (t : List ℕ) (x : Lent) (l : Lists) (i : ℕ) (p : List ℕ) (g : Goo
             (urged x i e p .book) (added l urgents (urgentId i)) within now soon;
         apart = apart-saved i (x .node) (e .state) (urgentRun (e .run) (length p));
         within = within;
+        under = under (x .book) l (g .lines) i low e was (d .waits) (length p) (d .some) (d .most) none;
       }
 
   urged-passed : UrgentPassed x i p e (urged x i e p)

@@ -16,9 +16,10 @@ use Rattle.call_open.specs.Opening.{openAnswer, openAfter, closeAnswer, closeAf
 use Rattle.call_send.specs.Sending.{sendAnswer, sendAfter, urgentAnswer, urgentAfter}
 use Rattle.call_arrive.specs.Arriving.{arrivalAnswer, arrivalAfter}
 use Rattle.call_hand_out.specs.Handing.{handOutAnswer, handOutAfter}
+use Rattle.call_report.specs.Reporting.{reportAnswer, reportAfter}
 use Rattle.call_tick.specs.Ticking.{tickAnswer, tickAfter}
-use Rattle.machine.specs.Calls.{Call, opens, closes, counts, sends, urges, arrives, hands-out, ticks, Answer, Bytes}
-use Rattle.machine.specs.Calls.{Fed}
+use Rattle.machine.specs.Calls.{Call, opens, closes, counts, sends, urges, arrives, hands-out, reports, ticks}
+use Rattle.machine.specs.Calls.{Answer, Bytes, Fed}
 
 -- ---- the calls
 
@@ -59,6 +60,7 @@ answer n (hands-out buffer) =
       numbers = handedOf (handOutAnswer (lent n buffer));
       out = handOutAfter (lent n buffer) (handOutAnswer (lent n buffer)) .out;
     }
+answer n reports = record { numbers = answerOf (reportAnswer (bare n)); out = [] }
 answer n ticks = record { numbers = tickAnswer (bare n) ∷ []; out = [] }
 
 -- what it leaves: the memory that its contract names [O1]
@@ -70,6 +72,7 @@ after n (sends i p) = kept (sendAfter (lent n []) i p (sendAnswer (lent n []) i 
 after n (urges i p) = kept (urgentAfter (lent n []) i p (urgentAnswer (lent n []) i p))
 after n (arrives block f) = kept (arrivalAfter (lent n block) f)
 after n (hands-out buffer) = kept (handOutAfter (lent n buffer) (handOutAnswer (lent n buffer)))
+after n reports = keptBare n (reportAfter (bare n) (reportAnswer (bare n)))
 after n ticks = keptBare n (tickAfter (bare n))
 
 -- ---- what setup and calls can give

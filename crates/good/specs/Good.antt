@@ -13,6 +13,7 @@ use Rattle.memory.specs.Layout.{nodeWords, bookHalves, resets, urgents, resends
 use Rattle.memory.specs.Layout.{cellId, ownerOf, Ranged, ackPlaces}
 use Rattle.waiting.specs.Acks.{waitingOf}
 use Rattle.waiting.specs.Order.{Queue, acksIn}
+use Rattle.waiting.specs.Port.{underIn, outEntry, isOwn, isReset, dataOut}
 use Rattle.window.specs.Windows.{newOf, held, Good as GoodWindow}
 use Rattle.window.specs.declared.Window.{Window}
 use Rattle.table.specs.Layout.{countOf, ownOf, protocolOf, entryOf}
@@ -39,7 +40,7 @@ Lists = ℕ → List ℕ
 pub record Lines (b : List ℕ) (l : Lists) : Type 0 where
   pub long : length b ≡ bookHalves
   pub queue : (q : ℕ) → q < queues → Queue b q (l q)
-  pub high : (q : ℕ) → q < queues → (x : ℕ) → List·Memᴰ x (l q) → 4 ≤ x
+  pub high : (q : ℕ) → q < queues → (x : ℕ) → List·Memᴰ x (l q) → resetId 0 ≤ x
   pub apart : (q r : ℕ) → q < queues → r < queues → q ≢ r → (x : ℕ) → List·Memᴰ x (l q) → List·Memᴰ x (l r) → ⊥
 
 -- entry i's share of a list
@@ -61,7 +62,7 @@ pub record Share (l : Lists) (i : ℕ) (rs us ds : List ℕ) : Type 0 where
   pub urgents : mine i (l urgents) ≡ us
   pub datas : mine i (l datas) ≡ ds
 
--- a retransmission waits for each number handed out, not acknowledged, whose timer does not run; and for no other
+-- a retransmission waits for each number handed out, not acknowledged, whose timer's place is 0; and for no other
 -- [A3, D5]
 pub record Resend (b : List ℕ) (i : ℕ) (r : Run) (x : ℕ) : Type 0 where
   pub at : ℕ
@@ -112,7 +113,13 @@ pub record Receiving (b : List ℕ) (i : ℕ) (r : Run) (largest : ℕ) : Type 0
   pub first : held (r .window) 0 ≡ false
   pub filled : (k : ℕ) → held (r .window) k ≡ true → Filled b i (r .window) largest k
 
--- how many timers of the first n numbers run
+-- of the numbers handed out and not acknowledged, the one under way has its timer standing: a place that is 0 would say
+-- that it waits as a retransmission [D2]
+abbrev pub Standing : List ℕ → ℕ → Run → Type 0
+Standing b i r = (k : ℕ) → k < r .handed → held (r .window) k ≡ false → past (r .window) k ≡ dataOut b i
+    → timerIn b (cell i (r .window) (past (r .window) k)) ≢ 0
+
+-- how many timers of the first n numbers run, or stand
 unfoldable pub running : List ℕ → ℕ → Window → ℕ → ℕ
 running b i w zero = 0
 running b i w (suc n) = pick (eqb (timerIn b (cell i w (past w n))) 0) (running b i w n) (suc (running b i w n))
@@ -125,12 +132,14 @@ pub record OpenSender (b : List ℕ) (l : Lists) (i : ℕ) (e : EndPoint) : Type
   pub share : Share l i [] (pick (eqb (e .run .urgent) 0) [] (urgentId i ∷ []))
       (ids i (e .run .window) (e .run .handed) (e .run .taken - e .run .handed))
   pub resends : Resends b l i (e .run)
+  pub standing : Standing b i (e .run)
 
 pub record FailingSender (b : List ℕ) (l : Lists) (i : ℕ) (e : EndPoint) (n : ℕ) : Type 0 where
   pub sending : Sending b i (e .run) (e .entry .largest)
   pub urgent : e .run .urgent ≡ 0
   pub silent : Silent l i []
   pub timers : n ≡ running b i (e .run .window) (e .run .handed)
+  pub standing : Standing b i (e .run)
 
 pub record OpenReceiver (b : List ℕ) (l : Lists) (i : ℕ) (e : EndPoint) : Type 0 where
   pub receiving : Receiving b i (e .run) (e .entry .largest)
@@ -140,11 +149,18 @@ pub record Anew (l : Lists) (i : ℕ) (e : EndPoint) (rs : List ℕ) : Type 0 wh
   pub fresh : Fresh (e .run)
   pub silent : Silent l i rs
 
--- of entry i, which sends or not, in a state. A sender's Reset waits at Enabled while its timer does not run.
--- [E1, E2, E5]
+-- an enabled sender: its Reset waits while its timer neither runs nor stands. That it does only where one was handed
+-- out, and it stands while one is under way [E2, E5, D2]
+pub record EnabledSender (b : List ℕ) (l : Lists) (i : ℕ) (e : EndPoint) (t : ℕ) (sent : Bool) : Type 0 where
+  pub fresh : Fresh (e .run)
+  pub silent : Silent l i (pick (eqb t 0) (resetId i ∷ []) [])
+  pub unsent : sent ≡ false → t ≡ 0
+  pub standing : isReset (underIn b) i ≡ true → sent ≡ true → t ≢ 0
+
+-- of entry i, which sends or not, in a state [E1, E2]
 abbrev pub Stated : List ℕ → Lists → ℕ → EndPoint → Bool → State → Type 0
 Stated b l i e sends Closed = Anew l i e []
-Stated b l i e true (Enabled t sent) = Anew l i e (pick (eqb t 0) (resetId i ∷ []) [])
+Stated b l i e true (Enabled t sent) = EnabledSender b l i e t sent
 Stated b l i e false (Enabled t sent) = Anew l i e [] × (t ≡ 0) × (sent ≡ false)
 Stated b l i e true Open = OpenSender b l i e
 Stated b l i e false Open = OpenReceiver b l i e
@@ -161,17 +177,18 @@ pub record Entered (b : List ℕ) (l : Lists) (i : ℕ) (e : EndPoint) : Type 0 
 abbrev pub Outlasts : ℕ → ℕ → ℕ → Type 0
 Outlasts c q d = d ≢ 0 → (d ≤ round) × (q < leftOf c d)
 
--- so for every number of entry i's run that was handed out
+-- so for every number of entry i's run that was handed out, but for the one under way, whose timer stands
 abbrev pub Outlast : ℕ → ℕ → List ℕ → ℕ → Run → Type 0
-Outlast c q b i r = (k : ℕ) → k < r .handed → Outlasts c q (timerIn b (cell i (r .window) (past (r .window) k)))
+Outlast c q b i r = (k : ℕ) → k < r .handed → past (r .window) k ≢ dataOut b i
+    → Outlasts c q (timerIn b (cell i (r .window) (past (r .window) k)))
 
--- so for every timer of entry i; where a Failing end has none running no tick may pass before the entries are gone
--- through, since the next one recovers it
+-- so for every timer of entry i; where a Failing end has none running and no frame of its own under way no tick may
+-- pass before the entries are gone through, since the next one recovers it
 abbrev pub Timely : ℕ → ℕ → List ℕ → ℕ → EndPoint → State → Type 0
 Timely c q b i e Closed = Unit {0}
-Timely c q b i e (Enabled d sent) = Outlasts c q d
+Timely c q b i e (Enabled d sent) = isReset (underIn b) i ≡ false → Outlasts c q d
 Timely c q b i e Open = Outlast c q b i (e .run)
-Timely c q b i e (Failing n) = Outlast c q b i (e .run) × (n ≡ 0 → q ≡ 0)
+Timely c q b i e (Failing n) = Outlast c q b i (e .run) × (n ≡ 0 → isOwn b i ≡ false → q ≡ 0)
 
 -- ---- the node
 
@@ -191,6 +208,12 @@ pub record Owed (ws : List ℕ) (w : ℕ) : Type 0 where
   pub receives : isSends (endOf ws (w / 256) .entry .kind) ≡ false
   pub opened : endOf ws (w / 256) .state ≡ Open
 
+-- what is under way is a frame of one of the four types, of an entry that there is [H8]
+pub record UnderWay (count u : ℕ) : Type 0 where
+  pub known : outEntry u < count
+  pub least : 4096 ≤ u
+  pub most : u < 20480
+
 -- the whole: node and book, set up from a table, with what waits as lists [T17, I2]
 pub record Good (t ws b : List ℕ) (l : Lists) : Type 0 where
   pub table : goodTable t ≡ true
@@ -201,4 +224,5 @@ pub record Good (t ws b : List ℕ) (l : Lists) : Type 0 where
   pub lines : Lines b l
   pub known : (q : ℕ) → q < queues → (x : ℕ) → List·Memᴰ x (l q) → (ownerOf x < countIn ws) × Ranged q x
   pub entered : (i : ℕ) → i < countIn ws → Entered b l i (endOf ws i)
+  pub under : underIn b ≢ 0 → UnderWay (countIn ws) (underIn b)
   pub timely : (i : ℕ) → i < countIn ws → Timely (clockIn ws) (quietIn ws) b i (endOf ws i) (endOf ws i .state)

@@ -7,7 +7,8 @@ use lib.Dec.{eqb}
 use Rattle.units.specs.Refusals.{numberOf, pick}
 use Rattle.units.specs.declared.refusals.Refusal.the-variants as refusal
 use Rattle.table.specs.Areas.{storeOf}
-use Rattle.machine.specs.Calls.{Call, opens, closes, counts, sends, urges, arrives, hands-out, ticks, Answer}
+use Rattle.machine.specs.Calls.{Call, opens, closes, counts, sends, urges, arrives, hands-out, reports, ticks}
+use Rattle.machine.specs.Calls.{Answer}
 use Rattle.machine.specs.Laws.{lent}
 use Rattle.good.specs.Good.{Lists, Good}
 use Rattle.good.specs.Calls.{Memory, answer, after, relent, Reach}
@@ -26,6 +27,7 @@ Stored (sends i p) = Unit {0}
 Stored (urges i p) = Unit {0}
 Stored (arrives block f) = Unit {0}
 Stored (hands-out buffer) = Unit {0}
+Stored reports = ⊥
 Stored ticks = ⊥
 
 -- what a call answers whose store is too short: the refusal that it has with a store that is long enough, and 6 where

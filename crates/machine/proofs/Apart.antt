@@ -4,26 +4,28 @@ use Prim.Native.Nat.{ℕ}
 use mathlib.Core.Path.{_≡_, refl, sym, ap, subst, _∙_}
 use mathlib.Core.Logic.{_≢_, _⊎_, inl, inr}
 use mathlib.Core.Bool.{Bool, true, false, _&&_}
+use mathlib.Core.Option.{Option, none, some}
 use mathlib.Core.List.{List, [], _∷_, _++_, append-nil, List·Memᴰ·eq-of-singleton}
 use lib.ListN.{drop, getD}
 use lib.Dec.{eqb}
-use borrow.Author.Tests.{ne-eqb}
+use borrow.Author.Tests.{eq-eqb, ne-eqb}
 use Rattle.units.specs.Refusals.{pick}
 use Rattle.units.specs.declared.refusals.Refusal.{Refusal}
+use Rattle.units.specs.declared.refusals.Refusal.the-variants as refusal
 use Rattle.frame.specs.Faults.{refusedOf}
 use Rattle.frame.specs.Layout.{payloadOf}
 use Rattle.frame.specs.Reading.{headerOf}
-use Rattle.machine.specs.Calls.{opens, closes, counts, sends, urges, arrives, hands-out, ticks}
-use Rattle.machine.specs.Machine.{End, Item, Sort, acks, resets, urgents, resends, datas, Machine, Outcome, rank, answers, tooShort, sendTests, handed, entryFor, goingOut, inOrder, opening, closing, counting, sending, urgentSending, reading, arriving, handingOut, step, without}
+use Rattle.machine.specs.Calls.{opens, closes, counts, sends, urges, arrives, hands-out, reports, ticks}
+use Rattle.machine.specs.Machine.{End, Item, Sort, acks, resets, urgents, resends, datas, Out, Machine, Outcome, port, rank, answers, sendTests, handed, entryFor, goingOut, inOrder, opening, closing, counting, sending, urgentSending, reading, arriving, handingOut, reporting, isOf, step, without}
 use Rattle.machine.specs.Sound.{Sound}
 use Rattle.machine.specs.Laws.{answer, item, shareOf, Next, RefusedStays, Untouched, OthersStay}
 use Rattle.machine.specs.LawsHanding.{NextOrNone}
 use Rattle.machine.proofs.Entries.{elem-set-other}
 use Rattle.machine.proofs.Items.{rank-is, without-append, share-kept, share-other}
 use Rattle.machine.proofs.Judged.{by-entry, by-verdict}
-use Rattle.machine.proofs.Touching.{Touched, as-was, turns, waited, silenced, stopped, enabled-touches, closed-touches, sent-touches, urged-touches, by-read, arrivalTests, by-done}
+use Rattle.machine.proofs.Touching.{Touched, as-was, turns, waited, silenced, stopped, enabled-touches, closed-touches, sent-touches, urged-touches, by-read, arrivalTests, by-done, by-reported}
 use Rattle.machine.proofs.Hosting.{openTests, opened, closeTests, closed, countTests, counts-of, sent, urgentTests, urged}
-use Rattle.machine.proofs.Handing.{roomTests, gone, goes, next-or-none, goes-is, none-is, owner}
+use Rattle.machine.proofs.Handing.{outTests, roomTests, gone, goes, next-or-none, under-is, goes-is, none-is, owner}
 
 -- ---- refusals
 
@@ -52,7 +54,7 @@ module _ (m : Machine) (out : List ℕ) where
   order-keeps (q ∷ qs) = going-keeps q (m .waiting q) (inOrder m out qs) (order-keeps qs)
 
 pub refused-stays : RefusedStays
-unfolding RefusedStays step opening closing counting sending urgentSending arriving handingOut
+unfolding RefusedStays step opening closing counting sending urgentSending arriving handingOut reporting
 refused-stays m (opens i) d = by-done (Keeps m []) m i openTests (opened m i) (kept m []) (λ e h. passed)
 refused-stays m (closes i) d = by-done (Keeps m []) m i closeTests (closed m i) (kept m []) (λ e h. passed)
 refused-stays m (counts i) d = by-done (Keeps m []) m i countTests (counts-of m) (kept m []) (λ e h. passed)
@@ -62,8 +64,9 @@ refused-stays m (arrives block f) d =
     by-verdict (Keeps m block) (arrivalTests m f) block m (reading m block (headerOf f) (payloadOf f)) (kept m block)
     (λ v. by-read (Keeps m block) m block (kept m block) (headerOf f) (payloadOf f) (λ h z m′ t ns out′ l. passed))
 refused-stays m (hands-out buffer) d =
-    by-verdict (Keeps m buffer) (tooShort m ∷ []) buffer m (inOrder m buffer (acks ∷ resets ∷ urgents ∷ resends ∷ datas ∷ [])) (kept m buffer)
+    by-verdict (Keeps m buffer) (outTests m) buffer m (inOrder m buffer (acks ∷ resets ∷ urgents ∷ resends ∷ datas ∷ [])) (kept m buffer)
     (λ v. order-keeps m buffer (acks ∷ resets ∷ urgents ∷ resends ∷ datas ∷ []))
+refused-stays m reports d = by-reported (Keeps m []) m (m .under) (kept m [] refusal.NoneUnderWay) (λ f z m′ t. passed)
 refused-stays m ticks d = absurd (d refl)
 
 -- ---- other entries
@@ -119,15 +122,29 @@ module _ (t : List ℕ) (m : Machine) (S : Sound t m) (j : ℕ) where
 
   out-leaves : (buffer : List ℕ) → (((q : Sort) × (x : Item) × (xs : List Item) × Next m q x xs × (x .entry ≡ j)) → ⊥) → Leaves (step m (hands-out buffer))
   unfolding NextOrNone
-  out-leaves buffer other = sides (next-or-none m)
+  out-leaves buffer other = way (m .under) refl
     where
-      sides : ((q : Sort) × (x : Item) × (xs : List Item) × Next m q x xs) ⊎ ((q : Sort) → m .waiting q ≡ []) → Leaves (step m (hands-out buffer))
-      sides (inl (q, x, xs, n)) =
+      sides : m .under ≡ none → ((q : Sort) × (x : Item) × (xs : List Item) × Next m q x xs) ⊎ ((q : Sort) → m .waiting q ≡ []) → Leaves (step m (hands-out buffer))
+      sides under (inl (q, x, xs, n)) =
           let o = owner t m S q x xs n in
-          subst Leaves (sym (goes-is t m S q x xs n (o .end) (o .there) buffer))
+          subst Leaves (sym (goes-is t m S under q x xs n (o .end) (o .there) buffer))
           (by-verdict Leaves (roomTests m buffer q x (o .end)) buffer m (gone m buffer q x (o .end)) (λ w. all-left)
           (λ v. gone-leaves m q x xs n j (λ z. other (q, x, xs, n, z)) buffer (o .end)))
-      sides (inr h) = subst Leaves (sym (none-is t m S h buffer)) all-left
+      sides under (inr h) = subst Leaves (sym (none-is t m S under h buffer)) all-left
+
+      way : (u : Option Out) → m .under ≡ u → Leaves (step m (hands-out buffer))
+      way none under = sides under (next-or-none m)
+      way (some f) under = subst Leaves (sym (under-is m f under buffer)) all-left
+
+  -- the end of a frame is its owner's
+  report-leaves : (isOf j (m .under) ≡ true → ⊥) → Leaves (reporting m)
+  unfolding reporting
+  report-leaves other =
+      by-reported Leaves m (m .under) all-left
+      (λ f z m′ a. ends (touched-leaves m (f .1 .entry) j (λ y. other (ap (isOf j) z ∙ eq-eqb (f .1 .entry) j y)) a))
+    where
+      ends : {m′ : Machine} → Untouched m m′ j → Untouched m (port none m′) j
+      ends u = record { end = u .end; share = u .share }
 
 pub others-stay : OthersStay
 unfolding OthersStay step opening closing counting sending urgentSending arriving
@@ -141,4 +158,5 @@ others-stay t m S (arrives block f) j d =
     (λ v. by-read (Leaves t m S j) m block (λ w. all-left t m S j) (headerOf f) (payloadOf f)
     (λ h z m′ a ns out′ l. touched-leaves m (entryFor m h) j (λ y. d (h, z, y)) a))
 others-stay t m S (hands-out buffer) j d = out-leaves t m S j buffer d
+others-stay t m S reports j d = report-leaves t m S j d
 others-stay t m S ticks j d = absurd (d tt)

@@ -39,4 +39,5 @@ setup-begins m t room g s =
       count = length-listed (countOf t) (λ i. first (entryOf t i));
       ends = λ i h. elem-listed (countOf t) (λ k. first (entryOf t k)) i h;
       waiting = λ q. refl;
+      under = refl;
     })

@@ -3,7 +3,7 @@ use Prim.Native.Nat.{ℕ, zero, suc, _+_, _≤_, _<_}
 use mathlib.Core.Path.{_≡_, refl, sym, ap, subst, _∙_}
 use mathlib.Core.Logic.{_⊎_, inl, inr}
 use mathlib.Core.Bool.{Bool, true, false, _&&_}
-use mathlib.Core.Option.{some}
+use mathlib.Core.Option.{Option, none, some}
 use mathlib.Core.List.{List, [], _∷_, List·Memᴰ, List·Memᴰ·head}
 use native.Mathlib.Decide.{decLt}
 use native.Mathlib.Omega.{arith}
@@ -13,6 +13,7 @@ use lib.Dec.{leb, ltb}
 use borrow.Author.Tests.{eq-eqb, le-leb, le-ltb, lt-ltb}
 use Rattle.units.specs.declared.refusals.Refusal.{Refusal}
 use Rattle.units.specs.declared.refusals.Refusal.the-variants as refusal
+use Rattle.units.specs.declared.refusals.Verdict.the-variants.{Refused}
 use Rattle.table.specs.Layout.{countOf, entryOf}
 use Rattle.table.proofs.Good.{good-entry}
 use Rattle.frame.specs.Types.{typeNumber, suits, seqWrites}
@@ -22,13 +23,13 @@ use Rattle.frame.specs.declared.FrameType.{FrameType}
 use Rattle.frame.proofs.ReadLaws.{taken as framed, headerFor, payload-frame, read-frame}
 use Rattle.frame.proofs.TypeLaws.{type-of-number}
 use Rattle.frame.proofs.WriteLaws.{length-frame}
-use Rattle.end_points.specs.Answers.{handedOf}
+use Rattle.end_points.specs.Answers.{answerOf, handedOf}
 use Rattle.end_points.specs.declared.answers.HandedOut.the-variants.{Length}
 use Rattle.machine.specs.Calls.{hands-out}
-use Rattle.machine.specs.Machine.{End, Item, Sort, acks, resets, urgents, resends, datas, Machine, Outcome, number, numbered, turned, rank, only, waitingAs, answers, unless, offset, numberAt, timed, typeOf, carried, frameOf, handed, goingOut, inOrder, handingOut, step}
+use Rattle.machine.specs.Machine.{End, Item, Sort, acks, resets, urgents, resends, datas, Out, Machine, Outcome, number, numbered, port, turned, rank, only, waitingAs, answers, unless, tooShort, isSome, offset, numberAt, timed, typeOf, carried, frameOf, handed, goingOut, inOrder, handingOut, step}
 use Rattle.machine.specs.Sound.{Sound, Sized, Owned, Waits, WaitsData}
 use Rattle.machine.specs.Laws.{Is, answer, after, Next}
-use Rattle.machine.specs.LawsHanding.{NextOrNone, Timed, Sent, HandsOut, WaitingGoesOut, TooShortStays, NothingOut, ReadsBack, PairedTakes, HandedComes}
+use Rattle.machine.specs.LawsHanding.{NextOrNone, NumberOut, Sent, HandsOut, WaitingGoesOut, TooShortStays, NothingOut, UnderWayRefuses, ReadsBack, PairedTakes, HandedComes}
 use Rattle.machine.proofs.Entries.{elem-lt, elem-in, getD-elem, elem-set-same}
 use Rattle.machine.proofs.Items.{sortOf, sort-of-rank, rank-of-sort, rank-low, rank-same, rank-other}
 use Rattle.machine.proofs.Blocks.{beyond-stays}
@@ -77,13 +78,17 @@ fieldsOut m q e s =
       seq = record { 0 = s };
     }
 
+abbrev pub outTests : Machine → List (Bool × Refusal)
+outTests m = (isSome (m .under), refusal.UnderWay) ∷ tooShort m ∷ []
+
 abbrev pub roomTests : Machine → List ℕ → Sort → Item → End → List (Bool × Refusal)
 roomTests m out q x e = (ltb (length out) (length (frameOf m q e (x .number))), refusal.TooShort) ∷ []
 
 abbrev pub gone : Machine → List ℕ → Sort → Item → End → Outcome
 gone m out q x e =
     let f = frameOf m q e (x .number) in
-    answers (handedOf (Length (length f))) (sets out 0 f) (waitingAs (only q (drop 1)) (turned (x .entry) (handed q e (x .number)) m))
+    answers (handedOf (Length (length f))) (sets out 0 f)
+    (port (some (typeOf q, x)) (waitingAs (only q (drop 1)) (turned (x .entry) (handed q e (x .number)) m)))
 
 abbrev pub goes : Machine → List ℕ → Sort → Item → End → Outcome
 goes m out q x e = unless (roomTests m out q x e) out m (gone m out q x e)
@@ -94,16 +99,35 @@ owned-waits m q x o e here =
     let z : o .end ≡ e = (let y : some (o .end) ≡ some e = sym (o .there) ∙ here in cc) in
     subst (λ (d : End). Waits q d (x .number)) z (o .waits)
 
-module _ (t : List ℕ) (m : Machine) (S : Sound t m) where
-  module _ (q : Sort) (x : Item) (xs : List Item) (n : Next m q x xs) where
-    pub owner : Owned m q x
-    owner = S .owned q x (subst (λ (l : List Item). List·Memᴰ x l) (sym (n .first)) (List·Memᴰ·head refl))
+abbrev sorts : List Sort
+sorts = acks ∷ resets ∷ urgents ∷ resends ∷ datas ∷ []
 
+-- with u under way
+abbrev outOver : Machine → List ℕ → Option Out → Outcome
+outOver m buffer u = unless ((isSome u, refusal.UnderWay) ∷ tooShort m ∷ []) buffer m (inOrder m buffer sorts)
+
+-- while one is under way none goes out
+pub under-is : (m : Machine) (f : Out) → m .under ≡ some f → (buffer : List ℕ)
+    → step m (hands-out buffer) ≡ answers (answerOf (Refused refusal.UnderWay)) buffer m
+unfolding step handingOut
+under-is m f under buffer = ap (outOver m buffer) under
+
+module _ (t : List ℕ) (m : Machine) (S : Sound t m) where
+  pub owner : (q : Sort) (x : Item) (xs : List Item) → Next m q x xs → Owned m q x
+  owner q x xs n = S .owned q x (subst (λ (l : List Item). List·Memᴰ x l) (sym (n .first)) (List·Memᴰ·head refl))
+
+module _ (t : List ℕ) (m : Machine) (S : Sound t m) (under : m .under ≡ none) where
+  -- none under way, and a store that is long enough
+  order-is : (buffer : List ℕ) → step m (hands-out buffer) ≡ inOrder m buffer sorts
+  unfolding step handingOut
+  order-is buffer = ap (outOver m buffer) under ∙ rw (le-ltb (m .room) (m .need) (S .room))
+
+  module _ (q : Sort) (x : Item) (xs : List Item) (n : Next m q x xs) where
     pub goes-is : (e : End) → Is m (x .entry) e → (buffer : List ℕ) → step m (hands-out buffer) ≡ goes m buffer q x e
-    unfolding step handingOut inOrder goingOut
-    goes-is e h buffer = rw (le-ltb (m .room) (m .need) (S .room)) (sides q n)
+    unfolding inOrder goingOut
+    goes-is e h buffer = order-is buffer ∙ sides q n
       where
-        sides : (q : Sort) → Next m q x xs → inOrder m buffer (acks ∷ resets ∷ urgents ∷ resends ∷ datas ∷ []) ≡ goes m buffer q x e
+        sides : (q : Sort) → Next m q x xs → inOrder m buffer sorts ≡ goes m buffer q x e
         sides acks n = rw (n .first, h)
         sides resets n = rw (n .before acks (omega arith), n .first, h)
         sides urgents n = rw (n .before acks (omega arith), n .before resets (omega arith), n .first, h)
@@ -112,8 +136,8 @@ module _ (t : List ℕ) (m : Machine) (S : Sound t m) where
             rw (n .before acks (omega arith), n .before resets (omega arith), n .before urgents (omega arith), n .before resends (omega arith), n .first, h)
 
   pub none-is : ((q : Sort) → m .waiting q ≡ []) → (buffer : List ℕ) → step m (hands-out buffer) ≡ answers (handedOf (Length 0)) buffer m
-  unfolding step handingOut inOrder goingOut
-  none-is h buffer = rw (le-ltb (m .room) (m .need) (S .room), h acks, h resets, h urgents, h resends, h datas)
+  unfolding inOrder goingOut
+  none-is h buffer = order-is buffer ∙ rw (h acks, h resets, h urgents, h resends, h datas)
 
   pub nothing-out : ((q : Sort) → m .waiting q ≡ []) → (buffer : List ℕ)
       → (answer m (hands-out buffer) .numbers ≡ 0 ∷ 0 ∷ []) × (answer m (hands-out buffer) .out ≡ buffer) × (after m (hands-out buffer) ≡ m)
@@ -130,15 +154,15 @@ module _ (t : List ℕ) (m : Machine) (S : Sound t m) where
         (goes-is q x xs n e here buffer ∙ rw (lt-ltb (length buffer) (length f) l)) (refl, refl, refl)
 
     -- how its end point alters
-    timed-as : WaitsData e (x .number) → Timed e (x .number) (numbered (e .start) (timed (e .entry .timeout) false e (x .number)) e)
-    timed-as w = record { was = numberAt e (x .number); there = getD-elem (e .numbers) (offset e (x .number)) _ (w .taken); is = refl }
+    number-out : WaitsData e (x .number) → NumberOut e (x .number) (numbered (e .start) (timed 0 false e (x .number)) e)
+    number-out w = record { was = numberAt e (x .number); there = getD-elem (e .numbers) (offset e (x .number)) _ (w .taken); is = refl }
 
     sent-as : (q : Sort) → Waits q e (x .number) → Sent q e (x .number) (handed q e (x .number))
     sent-as acks w = refl
     sent-as resets w = refl
     sent-as urgents w = refl
-    sent-as resends w = timed-as w
-    sent-as datas w = timed-as w
+    sent-as resends w = number-out w
+    sent-as datas w = number-out w
 
     frame-long : 9 ≤ length f
     unfolding frameOf
@@ -146,7 +170,7 @@ module _ (t : List ℕ) (m : Machine) (S : Sound t m) where
 
     module _ (fits : length f ≤ length buffer) where
       abbrev then : Machine
-      then = waitingAs (only q (drop 1)) (turned (x .entry) (handed q e (x .number)) m)
+      then = port (some (typeOf q, x)) (waitingAs (only q (drop 1)) (turned (x .entry) (handed q e (x .number)) m))
 
       out-is : step m (hands-out buffer) ≡ answers (handedOf (Length (length f))) (sets buffer 0 f) then
       out-is = goes-is q x xs n e here buffer ∙ rw (le-ltb (length buffer) (length f) fits)
@@ -166,22 +190,28 @@ module _ (t : List ℕ) (m : Machine) (S : Sound t m) where
             others = λ r d. rw (rank-other r q d);
             end = handed q e (x .number);
             is = elem-set-same (m .ends) (x .entry) (handed q e (x .number)) (elem-lt (m .ends) (x .entry) here);
-            sent = sent-as q (owned-waits m q x (owner q x xs n) e here);
+            sent = sent-as q (owned-waits m q x (owner t m S q x xs n) e here);
+            under = refl;
           })
 
 pub waiting-goes-out : WaitingGoesOut
 unfolding WaitingGoesOut
-waiting-goes-out t m S q x xs n =
+waiting-goes-out t m S under q x xs n =
     let o = owner t m S q x xs n in
-    (o .end, o .there, λ buffer fits. hands-it t m S q x xs n (o .end) (o .there) buffer fits)
+    (o .end, o .there, λ buffer fits. hands-it t m S under q x xs n (o .end) (o .there) buffer fits)
 
 pub too-short-stays : TooShortStays
 unfolding TooShortStays
-too-short-stays t m S q x xs n e here buffer l = short-stays t m S q x xs n e here buffer l
+too-short-stays t m S under q x xs n e here buffer l = short-stays t m S under q x xs n e here buffer l
 
 pub nothing-goes-out : NothingOut
 unfolding NothingOut
 nothing-goes-out = nothing-out
+
+pub under-way-refuses : UnderWayRefuses
+unfolding UnderWayRefuses
+under-way-refuses m f under buffer =
+    carry (λ m′ a. (a .numbers ≡ 19 ∷ []) × (a .out ≡ buffer) × (m′ ≡ m)) (under-is m f under buffer) (refl, refl, refl)
 
 -- ---- how it reads
 

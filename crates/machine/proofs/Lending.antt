@@ -21,19 +21,20 @@ use Rattle.frame.specs.declared.FrameType.the-variants as type
 use Rattle.frame.specs.declared.Read.{Read}
 use Rattle.frame.specs.declared.Read.the-variants as read
 use Rattle.end_points.specs.Answers.{answerOf}
-use Rattle.end_points.specs.States.{isSends, isOver}
+use Rattle.end_points.specs.States.{isSends}
 use Rattle.end_points.specs.declared.State.{State}
 use Rattle.end_points.specs.declared.State.the-variants.{Closed, Enabled, Open, Failing}
-use Rattle.machine.specs.Calls.{Call, opens, closes, counts, sends, urges, arrives, hands-out, ticks}
+use Rattle.machine.specs.Calls.{Call, opens, closes, counts, sends, urges, arrives, hands-out, reports, ticks}
 use Rattle.machine.specs.Machine.{Number, End, Item, Sort, acks, resets, urgents, resends, datas, Machine, Outcome}
-use Rattle.machine.specs.Machine.{lending, found, at, answers, judged, unless, tooShort, onEntry, done, turned, waits, enabled}
+use Rattle.machine.specs.Machine.{port, lending, found, at, answers, judged, unless, onEntry, done, turned, waits, enabled}
 use Rattle.machine.specs.Machine.{numberAt, isNew, anySpent, isOurs}
 use Rattle.machine.specs.Machine.{opening, closing, counting, sendTests, sending, urgentSending, acking, receiving}
 use Rattle.machine.specs.Machine.{resetting, takenIn, entryTests, entryFor, reading, arriving, frameOf, goingOut}
-use Rattle.machine.specs.Machine.{inOrder, handingOut, againFrom, past, each, ticked, recovered, ticking, step}
+use Rattle.machine.specs.Machine.{inOrder, handingOut, againFrom, past, each, ticked, mayRecover, recovered, ticking, step}
+use Rattle.machine.specs.Machine.{Out, ended, reported, reporting}
 use Rattle.machine.specs.Laws.{relent, RoomIdle}
 use Rattle.machine.proofs.Hosting.{openTests, opened, closeTests, closed, countTests, counts-of, sent, urgentTests, urged}
-use Rattle.machine.proofs.Handing.{roomTests, gone, goes}
+use Rattle.machine.proofs.Handing.{outTests, roomTests, gone, goes}
 
 module _ (room : ℕ) where
   -- ---- what an outcome is made of
@@ -94,12 +95,19 @@ module _ (room : ℕ) where
   taken-lent m out i e type.Reset s p = refl
   taken-lent m out i e type.Urgent s p = refl
 
-  -- ---- a tick
+  -- ---- the report, and a tick
 
   found-machine : (x : Option End) {a′ : Machine} (a : Machine) {f′ : End → Machine} (f : End → Machine) → a′ ≡ lending room a
       → ((e : End) → f′ e ≡ lending room (f e)) → found x a′ f′ ≡ lending room (found x a f)
   found-machine none a f h k = h
   found-machine (some e) a f h k = k e
+
+  reported-lent : (m : Machine) (u : Option Out) → reported (lending room m) u ≡ relent room (reported m u)
+  unfolding reported
+  reported-lent m none = refl
+  reported-lent m (some f) =
+      ap (λ (n : Machine). done (port none n))
+      (found-machine (getElem? (m .ends) (f .1 .entry)) m (λ e. turned (f .1 .entry) (ended (f .0) e (f .1 .number)) m) refl (λ e. refl))
 
   again-lent : (i : ℕ) (e : End) (k : ℕ) (xs : List Number) (m : Machine)
       → againFrom i e k xs (lending room m) ≡ lending room (againFrom i e k xs m)
@@ -129,7 +137,7 @@ module _ (room : ℕ) where
       ∙ found-machine (getElem? (k .ends) n) k (λ e. f n e k) refl (λ e. h n e k)
 
   recovered-lent : (i : ℕ) (e : End) (m : Machine) → recovered i e (lending room m) ≡ lending room (recovered i e m)
-  recovered-lent i e m = pick-machine (isOver (e .state)) (enabled i e m) m (enabled-lent i e m) refl
+  recovered-lent i e m = pick-machine (mayRecover (m .under) i e) (enabled i e m) m (enabled-lent i e m) refl
 
   ticking-lent : (m : Machine) → ticking (lending room m) ≡ relent room (ticking m)
   unfolding ticking
@@ -146,8 +154,8 @@ module _ (room : ℕ) where
         → verdict (entryTests (lending room m) e t n block) ≡ verdict (entryTests m e t n block)
     entry-same e t n block = rw (le-ltb room (m .need) k, le-ltb (m .room) (m .need) h) refl
 
-    short-same : verdict (tooShort (lending room m) ∷ []) ≡ verdict (tooShort m ∷ [])
-    short-same = rw (le-ltb room (m .need) k, le-ltb (m .room) (m .need) h) refl
+    out-same : verdict (outTests (lending room m)) ≡ verdict (outTests m)
+    out-same = rw (le-ltb room (m .need) k, le-ltb (m .room) (m .need) h) refl
 
     -- a frame at the entry that it is for
     abbrev comes : Machine → List ℕ → Header → List ℕ → End → Outcome
@@ -180,7 +188,7 @@ module _ (room : ℕ) where
     order-lent out (q ∷ qs) = going-lent out q (m .waiting q) (inOrder m out qs) (order-lent out qs)
 
 pub room-idle : RoomIdle
-unfolding RoomIdle step opening closing counting sending urgentSending arriving handingOut
+unfolding RoomIdle step opening closing counting sending urgentSending arriving handingOut reporting
 room-idle m room (opens i) h k =
     entry-lent room m i openTests openTests (opened (lending room m) i) (opened m i) (λ e. refl)
     (λ e. ap done (enabled-lent room i e m))
@@ -199,6 +207,7 @@ room-idle m room (arrives block f) h k =
     (reading m block (headerOf f) (payloadOf f)) (reading-lent room m h k block (headerOf f) (payloadOf f))
 room-idle m room (hands-out buffer) h k =
     let sorts = acks ∷ resets ∷ urgents ∷ resends ∷ datas ∷ [] in
-    judged-lent room (verdict (tooShort m ∷ [])) (short-same room m h k) buffer m
+    judged-lent room (verdict (outTests m)) (out-same room m h k) buffer m
     (inOrder m buffer sorts) (order-lent room m h k buffer sorts)
+room-idle m room reports h k = reported-lent room m (m .under)
 room-idle m room ticks h k = ticking-lent room m

@@ -14,6 +14,7 @@ pub mod Judged
 pub mod Beginning
 pub mod Hosting
 pub mod Handing
+pub mod Reporting
 pub mod Touching
 pub mod Apart
 pub mod Lending

@@ -1,7 +1,8 @@
--- Something done to every entry in table order, which makes of each entry what depends on that entry alone, may take its
--- waiting frames and may add some behind: what it makes of the whole machine. Assumes nothing.
+-- Something done to every entry in table order, which makes of each entry what depends on that entry alone and on the
+-- frame under way, may take its waiting frames and may add some behind: what it makes of the whole machine. Assumes
+-- nothing.
 use Prim.Native.Nat.{ℕ, zero, suc, _≤_, _<_}
-use mathlib.Core.Path.{_≡_, refl, sym, ap, _∙_}
+use mathlib.Core.Path.{_≡_, refl, sym, ap, subst, _∙_}
 use mathlib.Core.Logic.{_⊎_, inl, inr}
 use mathlib.Core.Bool.{Bool, true, false, _&&_, _||_, and-true, and-false, or-false}
 use mathlib.Core.Option.{Option, none, some}
@@ -19,11 +20,11 @@ use Rattle.machine.proofs.Entries.{elem-there, elem-lt, elem-past, elem
 use Rattle.machine.proofs.Items.{without-append, without-ext, without-none, without-twice, share-kept, share-gone, share-own, share-other}
 
 -- what an entry becomes, whether its waiting frames go, and what of it begins to wait
-module _ (become : End → End) (gone : End → Bool) (adds : Sort → ℕ → End → List Item)
+module _ (become : ℕ → End → End) (gone : End → Bool) (adds : Sort → ℕ → End → List Item)
     (own : (q : Sort) (i : ℕ) (e : End) (x : Item) → List·Memᴰ x (adds q i e) → x .entry ≡ i) where
   abbrev pub passed : ℕ → End → Machine → Machine
   passed i e m =
-      node m (set (m .ends) i (become e))
+      node m (set (m .ends) i (become i e))
       (λ q. pick (gone e) (without (λ x. eqb (x .entry) i) (m .waiting q)) (m .waiting q) ++ adds q i e)
 
   -- those of the first k entries that go, and what those add
@@ -34,7 +35,7 @@ module _ (become : End → End) (gone : End → Bool) (adds : Sort → ℕ → E
   added m q i = at m i [] (adds q i)
 
   record Upto (m : Machine) (k : ℕ) (m′ : Machine) : Type 0 where
-    done : (i : ℕ) (e : End) → i < k → Is m i e → Is m′ i (become e)
+    done : (i : ℕ) (e : End) → i < k → Is m i e → Is m′ i (become i e)
     left : (i : ℕ) → k ≤ i → getElem? (m′ .ends) i ≡ getElem? (m .ends) i
     count : length (m′ .ends) ≡ length (m .ends)
     head : node m′ (m .ends) (m .waiting) ≡ m
@@ -92,34 +93,47 @@ module _ (become : End → End) (gone : End → Bool) (adds : Sort → ℕ → E
   upto-more m m′ k u e h =
       record {
         done = λ i d l z. sides i d z l (ℕ-discrete i k);
-        left = λ i l. elem-set-other (m′ .ends) k i (become e) (λ y. omega arith) ∙ u .left i (omega arith);
-        count = length-set (m′ .ends) k (become e) ∙ u .count;
+        left = λ i l. elem-set-other (m′ .ends) k i (become k e) (λ y. omega arith) ∙ u .left i (omega arith);
+        count = length-set (m′ .ends) k (become k e) ∙ u .count;
         head = u .head;
         waiting = λ q. waits-more m k e h q (m′ .waiting q) (u .waiting q);
       }
     where
-      sides : (i : ℕ) (d : End) → Is m i d → i < suc k → Dec (i ≡ k) → getElem? (set (m′ .ends) k (become e)) i ≡ some (become d)
+      sides : (i : ℕ) (d : End) → Is m i d → i < suc k → Dec (i ≡ k) → getElem? (set (m′ .ends) k (become k e)) i ≡ some (become i d)
       sides i d z l (yes y) =
           let same : d ≡ e = (let a : some d ≡ some e = sym z ∙ ap (getElem? (m .ends)) y ∙ h in cc) in
-          rw (y, same) (elem-set-same (m′ .ends) k (become e) (let c = u .count in let b = elem-lt (m .ends) k h in omega arith))
-      sides i d z l (no y) = elem-set-other (m′ .ends) k i (become e) y ∙ u .done i d (omega arith) z
+          rw (y, same) (elem-set-same (m′ .ends) k (become k e) (let c = u .count in let b = elem-lt (m .ends) k h in omega arith))
+      sides i d z l (no y) = elem-set-other (m′ .ends) k i (become k e) y ∙ u .done i d (omega arith) z
 
-  module _ (f : ℕ → End → Machine → Machine) (is : (m : Machine) (i : ℕ) (e : End) → Is m i e → f i e m ≡ passed i e m) (m : Machine) where
+  upto-none : (m : Machine) → Upto m 0 m
+  unfolding inTurn
+  upto-none m =
+      record {
+        done = λ i e l z. absurd (omega arith);
+        left = λ i l. refl;
+        count = refl;
+        head = refl;
+        waiting = λ q. sym (append-nil (without (goes m 0) (m .waiting q)) ∙ without-none (goes m 0) (m .waiting q) (λ x z. rw (le-ltb (x .entry) 0 (omega arith))));
+      }
+
+  -- it is such a pass at every machine that has the frame of m under way
+  module _ (f : ℕ → End → Machine → Machine) (m : Machine)
+      (is : (n : Machine) → n .under ≡ m .under → (i : ℕ) (e : End) → Is n i e → f i e n ≡ passed i e n) where
+    -- one entry more, as one equation: the proof below is too dear for the kernel where it unfolds the pass
+    each-more : (k : ℕ) (e : End) → Is (each k f m) k e → each (suc k) f m ≡ f k e (each k f m)
+    unfolding each
+    each-more k e h = ap (λ (o : Option End). found o (each k f m) (λ e. f k e (each k f m))) h
+
     upto : (k : ℕ) → k ≤ length (m .ends) → Upto m k (each k f m)
-    unfolding each inTurn
-    upto zero h =
-        record {
-          done = λ i e l z. absurd (omega arith);
-          left = λ i l. refl;
-          count = refl;
-          head = refl;
-          waiting = λ q. sym (append-nil (without (goes m 0) (m .waiting q)) ∙ without-none (goes m 0) (m .waiting q) (λ x z. rw (le-ltb (x .entry) 0 (omega arith))));
-        }
+    unfolding each
+    upto zero h = upto-none m
     upto (suc k) h =
         let u = upto k (omega arith) in
         let t = elem-there (m .ends) k (omega arith) in
         let here : Is (each k f m) k (t .0) = u .left k (omega arith) ∙ t .1 in
-        rw (here, is (each k f m) k (t .0) here) (upto-more m (each k f m) k u (t .0) (t .1))
+        subst (Upto m (suc k))
+        (sym (each-more k (t .0) here ∙ is (each k f m) (ap (λ (n : Machine). n .under) (u .head)) k (t .0) here))
+        (upto-more m (each k f m) k u (t .0) (t .1))
 
     abbrev whole : Machine
     whole = each (length (m .ends)) f m
@@ -127,7 +141,7 @@ module _ (become : End → End) (gone : End → Bool) (adds : Sort → ℕ → E
     all : Upto m (length (m .ends)) whole
     all = upto (length (m .ends)) (omega arith)
 
-    pub pass-end : (i : ℕ) (e : End) → Is m i e → Is whole i (become e)
+    pub pass-end : (i : ℕ) (e : End) → Is m i e → Is whole i (become i e)
     pass-end i e h = all .done i e (elem-lt (m .ends) i h) h
 
     pub pass-count : length (whole .ends) ≡ length (m .ends)

@@ -3,6 +3,7 @@ use Prim.Native.Nat.{ℕ, _+_, _*_, _≤_, _<_}
 use mathlib.Core.Path.{_≡_, refl, sym, subst, _∙_}
 use mathlib.Core.Logic.{_≢_, _⊎_, inl, inr}
 use mathlib.Core.Bool.{Bool, true, false, _&&_, and-false, true≢false}
+use mathlib.Core.Option.{Option, none, some}
 use mathlib.Core.List.{List, [], _∷_}
 use native.Mathlib.Nat.{mul-add, mul-le-mul-right}
 use native.Mathlib.Omega.{arith}
@@ -31,17 +32,17 @@ use Rattle.table.specs.declared.Kind.the-variants.{Sends, Receives}
 use Rattle.table.proofs.Good.{good-entry, store-fits}
 use Rattle.table.proofs.Places.{areas-inside}
 use Rattle.blocks.specs.Blocks.{offsetBytes}
-use Rattle.machine.specs.Calls.{opens, closes, counts, sends, urges, arrives, hands-out, ticks}
-use Rattle.machine.specs.Machine.{End, Item, Sort, acks, resets, urgents, resends, datas, Machine, Outcome, judged, unless, onEntry, tooShort, sendTests, blockRoom, entryTests, entryFor, carried, frameOf, goingOut, inOrder, opening, closing, counting, sending, urgentSending, reading, arriving, handingOut, ticking, step, offset, numberAt}
+use Rattle.machine.specs.Calls.{opens, closes, counts, sends, urges, arrives, hands-out, reports, ticks}
+use Rattle.machine.specs.Machine.{End, Item, Sort, acks, resets, urgents, resends, datas, Out, Machine, Outcome, judged, unless, onEntry, sendTests, blockRoom, entryTests, entryFor, carried, frameOf, goingOut, inOrder, opening, closing, counting, sending, urgentSending, reading, arriving, handingOut, reporting, ticking, step, offset, numberAt}
 use Rattle.machine.specs.Sound.{Sized, WaitsData, Waits, Sound}
 use Rattle.machine.specs.Laws.{Is, answer, Next}
 use Rattle.machine.specs.LawsHanding.{NextOrNone}
 use Rattle.machine.specs.LawsRoom.{mostOut, NeverShort, BuffersStay}
 use Rattle.machine.proofs.Entries.{elem-lt, elem-in, getD-elem}
 use Rattle.machine.proofs.Judged.{by-entry, by-verdict}
-use Rattle.machine.proofs.Touching.{by-taken, by-read, arrivalTests, by-done}
+use Rattle.machine.proofs.Touching.{by-taken, by-read, arrivalTests, by-done, by-reported}
 use Rattle.machine.proofs.Hosting.{openTests, opened, closeTests, closed, countTests, counts-of, sent, urgentTests, urged}
-use Rattle.machine.proofs.Handing.{fieldsOut, roomTests, gone, goes, next-or-none, owned-waits, owner, goes-is, none-is}
+use Rattle.machine.proofs.Handing.{fieldsOut, outTests, roomTests, gone, goes, next-or-none, owned-waits, owner, under-is, goes-is, none-is}
 
 -- ---- no test for 6 fits
 
@@ -163,18 +164,22 @@ module _ (t : List ℕ) (m : Machine) (S : Sound t m) where
 
   out-roomed : (buffer : List ℕ) → mostOut ≤ length buffer → Roomed (step m (hands-out buffer))
   unfolding NextOrNone
-  out-roomed buffer long = sides (next-or-none m)
+  out-roomed buffer long = way (m .under) refl
     where
-      sides : ((q : Sort) × (x : Item) × (xs : List Item) × Next m q x xs) ⊎ ((q : Sort) → m .waiting q ≡ []) → Roomed (step m (hands-out buffer))
-      sides (inl (q, x, xs, n)) =
+      sides : m .under ≡ none → ((q : Sort) × (x : Item) × (xs : List Item) × Next m q x xs) ⊎ ((q : Sort) → m .waiting q ≡ []) → Roomed (step m (hands-out buffer))
+      sides under (inl (q, x, xs, n)) =
           let o = owner t m S q x xs n in
           let f = frame-fits (x .entry) (o .end) (o .there) q (x .number) (owned-waits m q x o (o .end) (o .there)) in
-          subst Roomed (sym (goes-is t m S q x xs n (o .end) (o .there) buffer))
+          subst Roomed (sym (goes-is t m S under q x xs n (o .end) (o .there) buffer))
           (roomed (roomTests m buffer q x (o .end)) (unmet _ (le-ltb (length buffer) (length (frameOf m q (o .end) (x .number))) (omega arith)), tt) buffer m (gone m buffer q x (o .end)) done-roomed)
-      sides (inr h) = subst Roomed (sym (none-is t m S h buffer)) done-roomed
+      sides under (inr h) = subst Roomed (sym (none-is t m S under h buffer)) done-roomed
+
+      way : (u : Option Out) → m .under ≡ u → Roomed (step m (hands-out buffer))
+      way none under = sides under (next-or-none m)
+      way (some f) under = subst Roomed (sym (under-is m f under buffer)) (λ z. omega arith)
 
 pub never-short : NeverShort
-unfolding NeverShort step opening closing counting sending urgentSending
+unfolding NeverShort step opening closing counting sending urgentSending reporting
 never-short t m S (opens i) d r = host-roomed m i openTests (opened m i) (λ e. ((λ _ z. omega arith), tt)) (λ e. done-roomed)
 never-short t m S (closes i) d r = host-roomed m i closeTests (closed m i) (λ e. ((λ _ z. omega arith), tt)) (λ e. done-roomed)
 never-short t m S (counts i) d r = host-roomed m i countTests (counts-of m) (λ e. ((λ _ z. omega arith), tt)) (λ e. done-roomed)
@@ -188,6 +193,7 @@ never-short t m S (urges i p) d r =
     (λ e. done-roomed)
 never-short t m S (arrives block f) d r = arrive-roomed t m S block r f
 never-short t m S (hands-out buffer) d r = out-roomed t m S buffer r
+never-short t m S reports d r = by-reported Roomed m (m .under) (λ z. omega arith) (λ f z m′ a. done-roomed)
 never-short t m S ticks d r = absurd (d refl)
 
 -- ---- block and frame buffer keep their length
@@ -209,7 +215,7 @@ module _ (m : Machine) (out : List ℕ) where
   order-long (q ∷ qs) = going-long q (m .waiting q) (inOrder m out qs) (order-long qs)
 
 pub buffers-stay : BuffersStay
-unfolding BuffersStay step opening closing counting sending urgentSending arriving handingOut ticking
+unfolding BuffersStay step opening closing counting sending urgentSending arriving handingOut reporting ticking
 buffers-stay m (opens i) = by-done (Long m []) m i openTests (opened m i) (λ w. refl) (λ e h. refl)
 buffers-stay m (closes i) = by-done (Long m []) m i closeTests (closed m i) (λ w. refl) (λ e h. refl)
 buffers-stay m (counts i) = by-done (Long m []) m i countTests (counts-of m) (λ w. refl) (λ e h. refl)
@@ -219,6 +225,7 @@ buffers-stay m (arrives block f) =
     by-verdict (Long m block) (arrivalTests m f) block m (reading m block (headerOf f) (payloadOf f)) (λ w. refl)
     (λ v. by-read (Long m block) m block (λ w. refl) (headerOf f) (payloadOf f) (λ h z m′ t ns out′ l. l))
 buffers-stay m (hands-out buffer) =
-    by-verdict (Long m buffer) (tooShort m ∷ []) buffer m (inOrder m buffer (acks ∷ resets ∷ urgents ∷ resends ∷ datas ∷ [])) (λ w. refl)
+    by-verdict (Long m buffer) (outTests m) buffer m (inOrder m buffer (acks ∷ resets ∷ urgents ∷ resends ∷ datas ∷ [])) (λ w. refl)
     (λ v. order-long m buffer (acks ∷ resets ∷ urgents ∷ resends ∷ datas ∷ []))
+buffers-stay m reports = by-reported (Long m []) m (m .under) refl (λ f z m′ a. refl)
 buffers-stay m ticks = refl

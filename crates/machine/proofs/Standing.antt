@@ -1,9 +1,10 @@
--- What no call alters, and that nothing is held at the start of a window (specs/Laws.antt). Assumes nothing.
+-- What no call alters, which calls leave the frame under way, and that nothing is held at the start of a window
+-- (specs/Laws.antt). Assumes nothing.
 use Prim.Native.Nat.{ℕ, zero, suc, _<_}
 use mathlib.Core.Path.{_≡_, refl, sym, ap, subst, _∙_}
 use mathlib.Core.Logic.{_⊎_, inl, inr}
-use mathlib.Core.Bool.{Bool, true, false}
-use mathlib.Core.Option.{some}
+use mathlib.Core.Bool.{Bool, true, false, not, _&&_}
+use mathlib.Core.Option.{Option, none, some}
 use mathlib.Core.List.{List, [], _∷_, List·Memᴰ, List·Memᴰ·append-cases, List·Memᴰ·eq-of-singleton, List·Memᴰ·not-nil}
 use native.Mathlib.Decide.{ℕ-discrete}
 use native.Mathlib.Omega.{arith}
@@ -16,19 +17,19 @@ use Rattle.frame.specs.Reading.{headerOf}
 use Rattle.end_points.specs.States.{isOver}
 use Rattle.end_points.specs.declared.State.{State}
 use Rattle.end_points.specs.declared.State.the-variants.{Closed, Enabled, Open, Failing}
-use Rattle.machine.specs.Calls.{Call, opens, closes, counts, sends, urges, arrives, hands-out, ticks}
-use Rattle.machine.specs.Machine.{End, Item, Sort, acks, resets, urgents, resends, datas, Machine, Outcome, node, turned, anew, unless, onEntry, listed, first, begun, tooShort, sendTests, entryFor, opening, closing, counting, sending, urgentSending, reading, arriving, handed, goingOut, inOrder, handingOut, anySpent, each, recovered, step}
-use Rattle.machine.specs.Laws.{Is, after, Free, AllFree, Standing, TableStays, StartStaysFree}
+use Rattle.machine.specs.Calls.{Call, opens, closes, counts, sends, urges, arrives, hands-out, reports, ticks}
+use Rattle.machine.specs.Machine.{End, Item, Sort, acks, resets, urgents, resends, datas, Out, Machine, Outcome, node, port, turned, anew, unless, onEntry, listed, first, begun, sendTests, entryFor, opening, closing, counting, sending, urgentSending, reading, arriving, handed, goingOut, typeOf, inOrder, handingOut, reporting, anySpent, each, isOf, recovered, step}
+use Rattle.machine.specs.Laws.{Is, after, Free, AllFree, Standing, TableStays, UnderWayStays, StartStaysFree}
 use Rattle.machine.specs.LawsTick.{timers, fails, due}
 use Rattle.machine.proofs.Entries.{elem-there, elem-lt, elem-in, elem-set-same, elem-set-other}
 use Rattle.machine.proofs.Passes.{passed, pass-end, pass-count, pass-head}
-use Rattle.machine.proofs.Timers.{fell, timed, due-own, ticked-is}
-use Rattle.machine.proofs.Recovering.{again, overAdds, over-own, recovered-is}
-use Rattle.machine.proofs.Ticking.{tickOne, after-is}
+use Rattle.machine.proofs.Timers.{fell, timed, due-own}
+use Rattle.machine.proofs.Recovering.{again, againBy, addsBy, over-own, recovered-is}
+use Rattle.machine.proofs.Ticking.{tickOne, tick-is, timers-under, after-is}
 use Rattle.machine.proofs.Judged.{by-entry, by-verdict}
 use Rattle.machine.proofs.Hosting.{openTests, opened, closeTests, closed, countTests, counts-of, sent, urgentTests, urged}
-use Rattle.machine.proofs.Handing.{roomTests, gone, goes}
-use Rattle.machine.proofs.Touching.{Follows, same-follows, anew-follows, none-held, Touched, as-was, turns, waited, silenced, stopped, enabled-touches, closed-touches, sent-touches, urged-touches, by-read, arrivalTests, by-done}
+use Rattle.machine.proofs.Handing.{outTests, roomTests, gone, goes}
+use Rattle.machine.proofs.Touching.{Follows, same-follows, anew-follows, none-held, Touched, as-was, turns, waited, silenced, stopped, enabled-touches, closed-touches, sent-touches, urged-touches, by-read, arrivalTests, by-done, by-reported}
 
 record Stands (m m′ : Machine) : Type 0 where
   standing : Standing m m′
@@ -74,6 +75,11 @@ waiting-stands : (m m′ : Machine) → Stands m m′ → (w : Sort → List Ite
 waiting-stands m m′ u w =
     record { standing = record { head = u .standing .head; count = u .standing .count; entry = u .standing .entry }; free = u .free }
 
+-- whatever is under way then
+port-stands : (m m′ : Machine) → Stands m m′ → (u : Option Out) → Stands m (port u m′)
+port-stands m m′ u f =
+    record { standing = record { head = u .standing .head; count = u .standing .count; entry = u .standing .entry }; free = u .free }
+
 touched-stands : (m : Machine) (i : ℕ) {m′ : Machine} → Touched i m m′ → Stands m m′
 touched-stands m i as-was = as-was-stands m
 touched-stands m i (turns c d {m′} h f t) = turned-stands m m′ (touched-stands m i t) i c d h f
@@ -100,8 +106,8 @@ module _ (m : Machine) where
   going-stands out q (x ∷ xs) other k =
       by-entry Leaves m (x .entry) other (goes m out q x) k
       (λ e h. by-verdict Leaves (roomTests m out q x e) out m (gone m out q x e) (λ w. as-was-stands m)
-      (λ v. waiting-stands m (turned (x .entry) (handed q e (x .number)) m)
-      (turned-stands m m (as-was-stands m) (x .entry) e (handed q e (x .number)) h (handed-follows q e (x .number))) _))
+      (λ v. port-stands m _ (waiting-stands m (turned (x .entry) (handed q e (x .number)) m)
+      (turned-stands m m (as-was-stands m) (x .entry) e (handed q e (x .number)) h (handed-follows q e (x .number))) _) (some (typeOf q, x))))
 
   order-stands : (out : List ℕ) (qs : List Sort) → Leaves (inOrder m out qs)
   unfolding inOrder
@@ -114,7 +120,7 @@ both-stand : (a b c : Machine) → Stands a b → Stands b c → Stands a c
 both-stand a b c u v =
     record {
       standing = record {
-        head = ap (λ (z : Machine). node z (a .ends) (a .waiting)) (v .standing .head) ∙ u .standing .head;
+        head = ap (λ (z : Machine). port (a .under) (node z (a .ends) (a .waiting))) (v .standing .head) ∙ u .standing .head;
         count = v .standing .count ∙ u .standing .count;
         entry = λ i e d h g.
             let t = elem-there (b .ends) i (let n = u .standing .count in let l = elem-lt (a .ends) i h in omega arith) in
@@ -123,9 +129,9 @@ both-stand a b c u v =
       free = λ f. v .free (u .free f);
     }
 
-module _ (become : End → End) (gone : End → Bool) (adds : Sort → ℕ → End → List Item) (own : (q : Sort) (i : ℕ) (e : End) (x : Item) → List·Memᴰ x (adds q i e) → x .entry ≡ i)
-    (f : ℕ → End → Machine → Machine) (is : (m : Machine) (i : ℕ) (e : End) → Is m i e → f i e m ≡ passed become gone adds own i e m)
-    (follows : (e : End) → Follows e (become e)) (m : Machine) where
+module _ (become : ℕ → End → End) (gone : End → Bool) (adds : Sort → ℕ → End → List Item) (own : (q : Sort) (i : ℕ) (e : End) (x : Item) → List·Memᴰ x (adds q i e) → x .entry ≡ i)
+    (f : ℕ → End → Machine → Machine) (m : Machine) (is : (n : Machine) → n .under ≡ m .under → (i : ℕ) (e : End) → Is n i e → f i e n ≡ passed become gone adds own i e n)
+    (follows : (i : ℕ) (e : End) → Follows e (become i e)) where
   abbrev whole : Machine
   whole = each (length (m .ends)) f m
 
@@ -133,17 +139,17 @@ module _ (become : End → End) (gone : End → Bool) (adds : Sort → ℕ → E
   pass-stands =
       record {
         standing = record {
-          head = pass-head become gone adds own f is m;
-          count = pass-count become gone adds own f is m;
-          entry = λ i e d h g. ap (λ (z : End). z .entry) (now i e d h g) ∙ follows e .entry;
+          head = ap (port (m .under)) (pass-head become gone adds own f m is);
+          count = pass-count become gone adds own f m is;
+          entry = λ i e d h g. ap (λ (z : End). z .entry) (now i e d h g) ∙ follows i e .entry;
         };
         free = λ F i d g.
-            let t = elem-there (m .ends) i (let n = pass-count become gone adds own f is m in let l = elem-lt (whole .ends) i g in omega arith) in
-            subst Free (sym (now i (t .0) d (t .1) g)) (follows (t .0) .free (F i (t .0) (t .1)));
+            let t = elem-there (m .ends) i (let n = pass-count become gone adds own f m is in let l = elem-lt (whole .ends) i g in omega arith) in
+            subst Free (sym (now i (t .0) d (t .1) g)) (follows i (t .0) .free (F i (t .0) (t .1)));
       }
     where
-      now : (i : ℕ) (e d : End) → Is m i e → Is whole i d → d ≡ become e
-      now i e d h g = one-end whole i d (become e) g (pass-end become gone adds own f is m i e h)
+      now : (i : ℕ) (e d : End) → Is m i e → Is whole i d → d ≡ become i e
+      now i e d h g = one-end whole i d (become i e) g (pass-end become gone adds own f m is i e h)
 
 timed-follows : (e : End) → Follows e (timed e)
 timed-follows e = by (e .state)
@@ -158,8 +164,8 @@ timed-follows e = by (e .state)
     by Open = one-of (anySpent (e .entry .retries) (e .numbers)) _ _ (same-follows e refl refl) (same-follows e refl refl)
     by (Failing n) = same-follows e refl refl
 
-again-follows : (e : End) → Follows e (again e)
-again-follows e = by (isOver (e .state))
+again-follows : (under : Bool) (e : End) → Follows e (again under e)
+again-follows under e = by (isOver (e .state) && not under)
   where
     by : (b : Bool) → Follows e (pick b (anew (Enabled 0 false) e) e)
     by true = anew-follows e refl refl
@@ -168,8 +174,11 @@ again-follows e = by (isOver (e .state))
 tick-stands : (m : Machine) → Stands m (after m ticks)
 tick-stands m =
     subst (Stands m) (sym (after-is m))
-    (both-stand m (timers m) _ (pass-stands timed fails due due-own tickOne ticked-is timed-follows m)
-    (pass-stands again (λ e. false) overAdds over-own recovered recovered-is again-follows (timers m)))
+    (both-stand m (timers m) _ (pass-stands (λ i. timed) fails due due-own tickOne m (tick-is (m .under)) (λ i. timed-follows))
+    (pass-stands (againBy u) (λ e. false) (addsBy u) (over-own u) recovered (timers m) (recovered-is u) (λ i. again-follows (isOf i u))))
+  where
+    u : Option Out
+    u = timers m .under
 
 -- ---- every call
 
@@ -208,8 +217,14 @@ module _ (m : Machine) where
   hand-stands : (buffer : List ℕ) → Leaves m (handingOut m buffer)
   unfolding handingOut
   hand-stands buffer =
-      by-verdict (Leaves m) (tooShort m ∷ []) buffer m (inOrder m buffer (acks ∷ resets ∷ urgents ∷ resends ∷ datas ∷ [])) (λ w. as-was-stands m)
+      by-verdict (Leaves m) (outTests m) buffer m (inOrder m buffer (acks ∷ resets ∷ urgents ∷ resends ∷ datas ∷ [])) (λ w. as-was-stands m)
       (λ v. order-stands m buffer (acks ∷ resets ∷ urgents ∷ resends ∷ datas ∷ []))
+
+  report-stands : Leaves m (reporting m)
+  unfolding reporting
+  report-stands =
+      by-reported (Leaves m) m (m .under) (as-was-stands m)
+      (λ f z m′ t. port-stands m m′ (touched-stands m (f .1 .entry) t) none)
 
 call-stands : (m : Machine) (c : Call) → Leaves m (step m c)
 unfolding step
@@ -220,11 +235,54 @@ call-stands m (sends i p) = send-stands m i p
 call-stands m (urges i p) = urgent-stands m i p
 call-stands m (arrives block f) = arrive-stands m block f
 call-stands m (hands-out buffer) = hand-stands m buffer
+call-stands m reports = report-stands m
 call-stands m ticks = tick-stands m
 
 pub table-stays : TableStays
 unfolding TableStays
 table-stays m c = call-stands m c .standing
+
+-- ---- the frame under way
+
+touched-under : (m : Machine) (i : ℕ) {m′ : Machine} → Touched i m m′ → m′ .under ≡ m .under
+touched-under m i as-was = refl
+touched-under m i (turns c d h f t) = touched-under m i t
+touched-under m i (waited q s t) = touched-under m i t
+touched-under m i (silenced t) = touched-under m i t
+touched-under m i (stopped s t) = touched-under m i t
+
+module _ (m : Machine) where
+  abbrev Same : Outcome → Type 0
+  Same o = o .machine .under ≡ m .under
+
+  host-same : (i : ℕ) (tests : End → List (Bool × Refusal)) (g : End → Outcome) → ((e : End) → Is m i e → Touched i m (g e .machine))
+      → Same (onEntry m i (λ e. unless (tests e) [] m (g e)))
+  host-same i tests g t = by-done Same m i tests g (λ w. refl) (λ e h. touched-under m i (t e h))
+
+  arrive-same : (block f : List ℕ) → Same (arriving m block f)
+  unfolding arriving
+  arrive-same block f =
+      by-verdict Same (arrivalTests m f) block m (reading m block (headerOf f) (payloadOf f)) (λ w. refl)
+      (λ v. by-read Same m block (λ w. refl) (headerOf f) (payloadOf f) (λ h z m′ t ns out′ l. touched-under m (entryFor m h) t))
+
+  tick-same : after m ticks .under ≡ m .under
+  tick-same =
+      let u = timers m .under in
+      ap (λ (n : Machine). n .under)
+      (after-is m) ∙ ap (λ (n : Machine). n .under) (pass-head (againBy u) (λ e. false) (addsBy u) (over-own u) recovered (timers m) (recovered-is u))
+      ∙ timers-under m
+
+pub under-way-stays : UnderWayStays
+unfolding UnderWayStays step opening closing counting sending urgentSending
+under-way-stays m (opens i) a = host-same m i openTests (opened m i) (enabled-touches m i)
+under-way-stays m (closes i) a = host-same m i closeTests (closed m i) (closed-touches m i)
+under-way-stays m (counts i) a = host-same m i countTests (counts-of m) (λ e h. as-was)
+under-way-stays m (sends i p) a = host-same m i (λ e. sendTests m e p) (sent m i p) (λ e. sent-touches m i e p)
+under-way-stays m (urges i p) a = host-same m i (urgentTests m p) (urged m i p) (λ e. urged-touches m i e p)
+under-way-stays m (arrives block f) a = arrive-same m block f
+under-way-stays m (hands-out buffer) a = absurd a
+under-way-stays m reports a = absurd a
+under-way-stays m ticks a = tick-same m
 
 -- ---- setup
 

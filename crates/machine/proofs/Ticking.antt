@@ -2,7 +2,7 @@
 use Prim.Native.Nat.{ℕ, zero, suc}
 use mathlib.Core.Path.{_≡_, refl, sym, ap, subst, _∙_}
 use mathlib.Core.Logic.{_≢_}
-use mathlib.Core.Bool.{Bool, true, false}
+use mathlib.Core.Bool.{Bool, true, false, not, _&&_}
 use mathlib.Core.Option.{Option, none, some}
 use mathlib.Core.List.{List, [], _∷_, _++_, append-nil, List·Memᴰ, Memᴰ·append-right}
 use native.Mathlib.Omega.{arith}
@@ -14,29 +14,36 @@ use Rattle.end_points.specs.States.{isOver}
 use Rattle.end_points.specs.declared.State.{State}
 use Rattle.end_points.specs.declared.State.the-variants.{Enabled, Open}
 use Rattle.machine.specs.Calls.{ticks}
-use Rattle.machine.specs.Machine.{Number, End, Item, Sort, acks, resets, urgents, resends, datas, Machine, found, only, past, numbered, anew, failing, tickedAll, anySpent, ticked, each, recovered, bitsFrom, ticking, step}
+use Rattle.machine.specs.Machine.{Number, End, Item, Sort, acks, resets, urgents, resends, datas, Out, Machine, found, only, past, numbered, anew, failing, tickedAll, anySpent, ticked, each, isOf, recovered, bitsFrom, ticking, step}
 use Rattle.machine.specs.Laws.{Is, after, answer, item, shareOf}
-use Rattle.machine.specs.LawsTick.{timers, inTurn, inTable, fails, dueFrom, due, dueOver, SendsAgain, ExpiredResends, Fails, ExpiredFails, FailingFalls, ResetFalls, ResetTimerFalls, ClosedStays, TimersWait, Recovers, TickRecovers, TickAlone}
+use Rattle.machine.specs.LawsTick.{timers, inTurn, inTable, fails, dueFrom, due, SendsAgain, ExpiredResends, Fails, ExpiredFails, FailingFalls, ResetFalls, ResetTimerFalls, ClosedStays, TimersWait, Recovers, TickRecovers, TickAlone}
 use Rattle.machine.proofs.Items.{rank-other, without-none, without-in}
-use Rattle.machine.proofs.Passes.{pass-end, pass-count, pass-waiting, pass-share}
+use Rattle.machine.proofs.Passes.{passed, pass-end, pass-count, pass-head, pass-waiting, pass-share}
 use Rattle.machine.proofs.Timers.{fell, timed, due-own, nothing-due, ticked-is}
 use Rattle.machine.proofs.Numbers.{all-fall, none-retried, due-retried, some-spent, none-spent, due-in}
-use Rattle.machine.proofs.Recovering.{again, overAdds, over-own, recovered-is, bit-iff}
+use Rattle.machine.proofs.Recovering.{again, overAdds, againBy, addsBy, over-own, recovered-is, bit-iff}
 
 -- ---- the two passes
 
 abbrev pub tickOne : ℕ → End → Machine → Machine
 tickOne i e m = ticked m i e (e .state)
 
+-- whatever is under way
+pub tick-is : (u : Option Out) (m : Machine) → m .under ≡ u → (i : ℕ) (e : End) → Is m i e → tickOne i e m ≡ passed (λ i. timed) fails due due-own i e m
+tick-is u m under = ticked-is m
+
 module _ (m : Machine) where
   pub timers-end : (i : ℕ) (e : End) → Is m i e → Is (timers m) i (timed e)
-  timers-end = pass-end timed fails due due-own tickOne ticked-is m
+  timers-end = pass-end (λ i. timed) fails due due-own tickOne m (tick-is (m .under))
 
   timers-count : length (timers m .ends) ≡ length (m .ends)
-  timers-count = pass-count timed fails due due-own tickOne ticked-is m
+  timers-count = pass-count (λ i. timed) fails due due-own tickOne m (tick-is (m .under))
+
+  pub timers-under : timers m .under ≡ m .under
+  timers-under = ap (λ (n : Machine). n .under) (pass-head (λ i. timed) fails due due-own tickOne m (tick-is (m .under)))
 
   timers-share : (q : Sort) (i : ℕ) (e : End) → Is m i e → shareOf i (timers m .waiting q) ≡ pick (fails e) [] (shareOf i (m .waiting q)) ++ due q i e
-  timers-share = pass-share timed fails due due-own tickOne ticked-is m
+  timers-share = pass-share (λ i. timed) fails due due-own tickOne m (tick-is (m .under))
 
   -- then those that are over
   abbrev pub last : Machine
@@ -46,51 +53,57 @@ module _ (m : Machine) where
   unfolding step ticking
   after-is = ap (λ (n : ℕ). each n recovered (timers m)) (sym timers-count)
 
-  last-end : (i : ℕ) (e : End) → Is (timers m) i e → Is last i (again e)
-  last-end = pass-end again (λ e. false) overAdds over-own recovered recovered-is (timers m)
+  abbrev u : Option Out
+  u = timers m .under
 
-  last-share : (q : Sort) (i : ℕ) (e : End) → Is (timers m) i e → shareOf i (last .waiting q) ≡ shareOf i (timers m .waiting q) ++ overAdds q i e
-  last-share = pass-share again (λ e. false) overAdds over-own recovered recovered-is (timers m)
+  last-end : (i : ℕ) (e : End) → Is (timers m) i e → Is last i (againBy u i e)
+  last-end = pass-end (againBy u) (λ e. false) (addsBy u) (over-own u) recovered (timers m) (recovered-is u)
 
-  last-waiting : (q : Sort) → last .waiting q ≡ timers m .waiting q ++ inTable (timers m) (overAdds q)
+  last-share : (q : Sort) (i : ℕ) (e : End) → Is (timers m) i e → shareOf i (last .waiting q) ≡ shareOf i (timers m .waiting q) ++ addsBy u q i e
+  last-share = pass-share (againBy u) (λ e. false) (addsBy u) (over-own u) recovered (timers m) (recovered-is u)
+
+  last-waiting : (q : Sort) → last .waiting q ≡ timers m .waiting q ++ inTable (timers m) (addsBy u q)
   last-waiting q =
-      pass-waiting again (λ e. false) overAdds over-own recovered recovered-is (timers m) q
-      ∙ ap (λ (l : List Item). l ++ inTable (timers m) (overAdds q)) (without-none _ (timers m .waiting q) (λ x z. stays (getElem? (timers m .ends) (x .entry))))
+      pass-waiting (againBy u) (λ e. false) (addsBy u) (over-own u) recovered (timers m) (recovered-is u) q
+      ∙ ap (λ (l : List Item). l ++ inTable (timers m) (addsBy u q)) (without-none _ (timers m .waiting q) (λ x z. stays (getElem? (timers m .ends) (x .entry))))
     where
       stays : (o : Option End) → found o false (λ e. false) ≡ false
       stays none = refl
       stays (some e) = refl
 
-  pub after-end : (i : ℕ) (e : End) → Is m i e → Is (after m ticks) i (again (timed e))
-  after-end i e h = rw after-is (last-end i (timed e) (timers-end i e h))
+  pub after-end : (i : ℕ) (e : End) → Is m i e → Is (after m ticks) i (again (isOf i (m .under)) (timed e))
+  after-end i e h =
+      subst (λ (v : Option Out). Is (after m ticks) i (againBy v i (timed e))) timers-under
+      (subst (λ (n : Machine). Is n i (againBy u i (timed e))) (sym after-is) (last-end i (timed e) (timers-end i e h)))
 
   pub after-share : (q : Sort) (i : ℕ) (e : End) → Is m i e
-      → shareOf i (after m ticks .waiting q) ≡ pick (fails e) [] (shareOf i (m .waiting q)) ++ due q i e ++ overAdds q i (timed e)
+      → shareOf i (after m ticks .waiting q) ≡ pick (fails e) [] (shareOf i (m .waiting q)) ++ due q i e ++ overAdds (isOf i (m .under)) q i (timed e)
   after-share q i e h =
       ap (λ (n : Machine). shareOf i (n .waiting q)) after-is ∙ last-share q i (timed e) (timers-end i e h)
-      ∙ ap (λ (l : List Item). l ++ overAdds q i (timed e)) (timers-share q i e h)
+      ∙ ap (λ (l : List Item). l ++ addsBy u q i (timed e)) (timers-share q i e h)
+      ∙ ap (λ (v : Option Out). (pick (fails e) [] (shareOf i (m .waiting q)) ++ due q i e) ++ addsBy v q i (timed e)) timers-under
 
 pub timers-wait : TimersWait
 unfolding TimersWait
-timers-wait m q = pass-waiting timed fails due due-own tickOne ticked-is m q
+timers-wait m q = pass-waiting (λ i. timed) fails due due-own tickOne m (tick-is (m .under)) q
 
 pub tick-alone : TickAlone
 tick-alone =
     record {
-      becomes = λ e. again (timed e);
-      keeps = λ q i e xs. pick (fails e) [] xs ++ due q i e ++ overAdds q i (timed e);
+      becomes = λ under e. again under (timed e);
+      keeps = λ under q i e xs. pick (fails e) [] xs ++ due q i e ++ overAdds under q i (timed e);
       end = after-end;
       share = λ m i e h q. after-share m q i e h;
     }
 
 -- ---- after all timers
 
-over-waits : (q : Sort) → q ≢ resets → (i : ℕ) (e : End) → overAdds q i e ≡ []
-over-waits acks d i e = refl
-over-waits resets d i e = absurd (d refl)
-over-waits urgents d i e = refl
-over-waits resends d i e = refl
-over-waits datas d i e = refl
+over-waits : (under : Bool) (q : Sort) → q ≢ resets → (i : ℕ) (e : End) → overAdds under q i e ≡ []
+over-waits under acks d i e = refl
+over-waits under resets d i e = absurd (d refl)
+over-waits under urgents d i e = refl
+over-waits under resends d i e = refl
+over-waits under datas d i e = refl
 
 turn-none : (n : ℕ) (f : ℕ → List Item) → ((i : ℕ) → f i ≡ []) → inTurn n f ≡ []
 unfolding inTurn
@@ -101,19 +114,19 @@ last-recovers : (m : Machine) → Recovers (timers m) (last m) (answer m ticks)
 unfolding step ticking
 last-recovers m =
     record {
-      bits = bitsFrom 0 (timers m .ends);
+      bits = bitsFrom (timers m .under) 0 (timers m .ends);
       numbers = refl;
-      bit = bit-iff (timers m .ends);
+      bit = bit-iff (timers m .under) (timers m .ends);
       over = λ i e h o. subst (λ (d : End). Is (last m) i d) (rw o) (last-end m i e h);
       others = λ i e h o. subst (λ (d : End). Is (last m) i d) (rw o) (last-end m i e h);
-      count = pass-count again (λ e. false) overAdds over-own recovered recovered-is (timers m);
+      count = pass-count (againBy (u m)) (λ e. false) (addsBy (u m)) (over-own (u m)) recovered (timers m) (recovered-is (u m));
       behind = last-waiting m resets;
       waiting = λ q d. last-waiting m q ∙ rw (turn-none _ _ (λ i. stays q d i (getElem? (timers m .ends) i))) (append-nil _);
     }
   where
-    stays : (q : Sort) → q ≢ resets → (i : ℕ) (o : Option End) → found o [] (overAdds q i) ≡ []
+    stays : (q : Sort) → q ≢ resets → (i : ℕ) (o : Option End) → found o [] (addsBy (u m) q i) ≡ []
     stays q d i none = refl
-    stays q d i (some e) = over-waits q d i e
+    stays q d i (some e) = over-waits (isOf i (u m)) q d i e
 
 pub tick-recovers : TickRecovers
 unfolding TickRecovers
@@ -125,18 +138,22 @@ module _ (m : Machine) (i : ℕ) (e : End) (here : Is m i e) (state : e .state �
   abbrev ns : List Number
   ns = tickedAll (e .entry .retries) true (e .numbers)
 
+  -- a frame of its own is under way
+  abbrev under : Bool
+  under = isOf i (m .under)
+
   -- none is spent
   module _ (left : anySpent (e .entry .retries) (e .numbers) ≡ false) where
-    stays-open : again (timed e) ≡ numbered (e .start) ns e
+    stays-open : again under (timed e) ≡ numbered (e .start) ns e
     stays-open =
         let t : timed e ≡ numbered (e .start) ns e = ap (λ (s : State). fell s e) state ∙ rw left in
-        ap again t ∙ rw state
+        ap (again under) t ∙ rw state
 
-    none-over : (q : Sort) → overAdds q i (timed e) ≡ []
+    none-over : (q : Sort) → overAdds under q i (timed e) ≡ []
     none-over acks = refl
     none-over resets =
         let t : timed e ≡ numbered (e .start) ns e = ap (λ (s : State). fell s e) state ∙ rw left in
-        ap (dueOver i) t ∙ rw state
+        ap (overAdds under resets i) t ∙ rw state
     none-over urgents = refl
     none-over resends = refl
     none-over datas = refl
@@ -188,7 +205,7 @@ module _ (m : Machine) (i : ℕ) (e : End) (here : Is m i e) (state : e .state �
         record {
           numbers = ns;
           fall = all-fall (e .entry .retries) true (e .numbers);
-          end = subst (λ (d : End). Is (after m ticks) i d) (ap again t) (after-end m i e here);
+          end = subst (λ (d : End). Is (after m ticks) i d) (ap (again under) t) (after-end m i e here);
           silent = λ q. timers-share m q i e here ∙ rw (now-fails, none-due q);
         }
 
@@ -209,7 +226,7 @@ failing-falls m i e n here state =
       numbers = tickedAll (e .entry .retries) false (e .numbers);
       fall = all-fall (e .entry .retries) false (e .numbers);
       retried = none-retried (e .entry .retries) (e .numbers);
-      end = subst (λ (d : End). Is (after m ticks) i d) (ap (λ (s : State). again (fell s e)) state) (after-end m i e here);
+      end = subst (λ (d : End). Is (after m ticks) i d) (ap (λ (s : State). again (isOf i (m .under)) (fell s e)) state) (after-end m i e here);
       stays = λ q. timers-share m q i e here ∙ same q;
     }
   where
@@ -220,7 +237,7 @@ module _ (m : Machine) (i : ℕ) (e : End) (here : Is m i e) (timer : ℕ) (sent
   enabled-share : (q : Sort) (b : Bool) → eqb timer 1 ≡ b → shareOf i (after m ticks .waiting q) ≡ shareOf i (m .waiting q) ++ only resets (λ l. pick b (item i 0 ∷ []) []) q []
   enabled-share q b z = after-share m q i e here ∙ sides q
     where
-      sides : (q : Sort) → pick (fails e) [] (shareOf i (m .waiting q)) ++ due q i e ++ overAdds q i (timed e) ≡ shareOf i (m .waiting q) ++ only resets (λ l. pick b (item i 0 ∷ []) []) q []
+      sides : (q : Sort) → pick (fails e) [] (shareOf i (m .waiting q)) ++ due q i e ++ overAdds (isOf i (m .under)) q i (timed e) ≡ shareOf i (m .waiting q) ++ only resets (λ l. pick b (item i 0 ∷ []) []) q []
       sides acks = rw state (append-nil _)
       sides resets = rw (state, z) (append-nil _)
       sides urgents = rw state (append-nil _)
@@ -230,7 +247,7 @@ module _ (m : Machine) (i : ℕ) (e : End) (here : Is m i e) (timer : ℕ) (sent
   enabled-falls : ResetFalls m i e timer sent
   enabled-falls =
       record {
-        end = subst (λ (d : End). Is (after m ticks) i d) (ap (λ (s : State). again (fell s e)) state) (after-end m i e here);
+        end = subst (λ (d : End). Is (after m ticks) i d) (ap (λ (s : State). again (isOf i (m .under)) (fell s e)) state) (after-end m i e here);
         waits = λ t. enabled-share resets true (eq-eqb timer 1 t);
         still = λ t. enabled-share resets false (ne-eqb timer 1 t) ∙ append-nil _;
         others = λ q d. enabled-share q (eqb timer 1) refl ∙ rw (rank-other q resets d) (append-nil _);
@@ -243,12 +260,12 @@ reset-timer-falls m i e timer sent here state = enabled-falls m i e here timer s
 pub closed-stays : ClosedStays
 unfolding ClosedStays
 closed-stays m i e here state = (
-  subst (λ (d : End). Is (after m ticks) i d) (ap (λ (s : State). pick (isOver s) (anew (Enabled 0 false) e) e) state)
-      (subst (λ (d : End). Is (after m ticks) i (again d)) (ap (λ (s : State). fell s e) state) (after-end m i e here)),
+  subst (λ (d : End). Is (after m ticks) i d) (ap (λ (s : State). pick (isOver s && not (isOf i (m .under))) (anew (Enabled 0 false) e) e) state)
+      (subst (λ (d : End). Is (after m ticks) i (again (isOf i (m .under)) d)) (ap (λ (s : State). fell s e) state) (after-end m i e here)),
   (λ q. after-share m q i e here ∙ same q),
 )
   where
-    same : (q : Sort) → pick (fails e) [] (shareOf i (m .waiting q)) ++ due q i e ++ overAdds q i (timed e) ≡ shareOf i (m .waiting q)
+    same : (q : Sort) → pick (fails e) [] (shareOf i (m .waiting q)) ++ due q i e ++ overAdds (isOf i (m .under)) q i (timed e) ≡ shareOf i (m .waiting q)
     same acks = rw state (append-nil _ ∙ append-nil _)
     same resets = rw state (append-nil _ ∙ append-nil _)
     same urgents = rw state (append-nil _ ∙ append-nil _)

@@ -109,7 +109,7 @@ again-is i e k (x ∷ xs) m = sides (eqb (x .timer) 1) (again-is i e (suc k) xs 
 
 module _ (m : Machine) (i : ℕ) (e : End) (here : Is m i e) where
   abbrev then : Machine
-  then = passed timed fails due due-own i e m
+  then = passed (λ i. timed) fails due due-own i e m
 
   -- the end that it becomes, and what then waits
   becomes : (s : State) (d : End) (w : Sort → List Item) → e .state ≡ s → fell s e ≡ d

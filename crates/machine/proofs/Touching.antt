@@ -1,4 +1,5 @@
--- What a call may do to the machine: it is refused, or it alters its own entry in a few ways and what waits of it.
+-- What a call may do to the machine: it is refused, or it alters its own entry in a few ways and what waits of it. Handing
+-- out and the report alter the frame under way besides.
 -- Assumes nothing.
 use Prim.Native.Nat.{ℕ, zero, suc}
 use mathlib.Core.Path.{_≡_, refl, sym, subst}
@@ -25,7 +26,7 @@ use Rattle.end_points.specs.declared.State.the-variants.{Closed, Enabled, Open,
 use Rattle.end_points.specs.declared.answers.Was.the-variants as was
 use Rattle.end_points.specs.States.{isSends}
 use Rattle.blocks.specs.Blocks.{blockOf}
-use Rattle.machine.specs.Machine.{Number, End, Sort, acks, resets, urgents, datas, Machine, Outcome, stated, counted, turned, waits, silent, notAgain, past, taking, urging, anew, enabled, answers, unless, onEntry, offset, numberAt, timed, ackedRun, running, passing, told, acked, acking, heldRun, delivering, handing-on, isNew, receiving, resetting, takenIn, entryTests, entryFor, reading, isOurs}
+use Rattle.machine.specs.Machine.{Number, End, Sort, acks, resets, urgents, datas, Out, Machine, Outcome, port, stated, counted, found, turned, waits, silent, notAgain, past, taking, urging, anew, enabled, answers, done, unless, onEntry, offset, numberAt, timed, ackedRun, running, passing, told, acked, acking, heldRun, delivering, handing-on, isNew, receiving, resetting, takenIn, entryTests, entryFor, reading, isOurs, recounted, dataTimed, resetTimed, ended, reported}
 use Rattle.machine.specs.Laws.{Is, Free}
 use Rattle.machine.proofs.Entries.{not-none}
 use Rattle.machine.proofs.Blocks.{Places}
@@ -140,3 +141,43 @@ pub by-done : (P : Outcome → Type 0) (m : Machine) (i : ℕ) (tests : End → 
     → ((w : Refusal) → P (answers (refusedOf w) [] m)) → ((e : End) → Is m i e → P (g e)) → P (onEntry m i (λ e. unless (tests e) [] m (g e)))
 by-done P m i tests g refused done =
     by-entry P m i _ _ (refused refusal.NoEntry) (λ e h. by-verdict P (tests e) [] m (g e) refused (λ v. done e h))
+
+-- ---- the report
+
+either : (P : End → Type 0) (b : Bool) (x y : End) → P x → P y → P (pick b x y)
+either P true x y p q = p
+either P false x y p q = q
+
+-- what the end of a frame makes of its end point
+pub ended-follows : (q : FrameType) (e : End) (s : ℕ) → Follows e (ended q e s)
+ended-follows type.Data e s = by (e .state)
+  where
+    timed-follows : Follows e (dataTimed e s)
+    timed-follows = either (Follows e) (numberAt e s .handed && not (numberAt e s .acked)) _ _ (same-follows e refl refl) (same-follows e refl refl)
+
+    by : (z : State) → Follows e (recounted z (dataTimed e s))
+    by Closed = timed-follows
+    by (Enabled timer sent) = timed-follows
+    by Open = timed-follows
+    by (Failing n) = record { entry = timed-follows .entry; free = timed-follows .free }
+ended-follows type.Acknowledge e s = same-follows e refl refl
+ended-follows type.Reset e s = by (e .state)
+  where
+    by : (z : State) → Follows e (resetTimed z e)
+    by Closed = same-follows e refl refl
+    by (Enabled timer sent) = either (Follows e) sent _ _ (same-follows e refl refl) (same-follows e refl refl)
+    by Open = same-follows e refl refl
+    by (Failing n) = same-follows e refl refl
+ended-follows type.Urgent e s = same-follows e refl refl
+
+-- it is refused, or the frame under way is none any more and its entry at most is altered
+pub by-reported : (P : Outcome → Type 0) (m : Machine) (u : Option Out) → P (answers (refusedOf refusal.NoneUnderWay) [] m)
+    → ((f : Out) → u ≡ some f → (m′ : Machine) → Touched (f .1 .entry) m m′ → P (done (port none m′))) → P (reported m u)
+unfolding reported
+by-reported P m none refused ends = refused
+by-reported P m (some f) refused ends = sides (getElem? (m .ends) (f .1 .entry)) refl
+  where
+    sides : (o : Option End) → getElem? (m .ends) (f .1 .entry) ≡ o
+        → P (done (port none (found o m (λ e. turned (f .1 .entry) (ended (f .0) e (f .1 .number)) m))))
+    sides none h = ends f refl m as-was
+    sides (some e) h = ends f refl _ (turns e (ended (f .0) e (f .1 .number)) h (ended-follows (f .0) e (f .1 .number)) as-was)

@@ -13,6 +13,7 @@ pub data Call : Type 0 where
   urges : (index : ℕ) (payload : List ℕ) → Call
   arrives : (block frame : List ℕ) → Call
   hands-out : (buffer : List ℕ) → Call
+  reports : Call  -- the end of the frame under way
   ticks : Call
 
 -- what comes back: the paper's numbers, and what block or frame buffer hold then [O1, O3]
@@ -33,4 +34,5 @@ Fed (sends i p) = Unit {0}
 Fed (urges i p) = Unit {0}
 Fed (arrives block f) = Bytes f
 Fed (hands-out buffer) = Unit {0}
+Fed reports = Unit {0}
 Fed ticks = Unit {0}

@@ -5,7 +5,7 @@
 use Prim.Native.Nat.{ℕ, _≤_, _<_}
 use mathlib.Core.Path.{_≡_}
 use mathlib.Core.Logic.{_≢_}
-use mathlib.Core.Bool.{Bool, not}
+use mathlib.Core.Bool.{Bool, true, not}
 use mathlib.Core.Option.{none, some}
 use mathlib.Core.List.{List, [], _∷_, _++_}
 use lib.ListN.{length, getD, getElem?, replicate}
@@ -14,9 +14,10 @@ use Rattle.end_points.specs.declared.State.{State}
 use Rattle.frame.specs.Reading.{headerOf}
 use Rattle.frame.specs.declared.Header.{Header}
 use Rattle.frame.specs.declared.Read.the-variants as read
-use Rattle.machine.specs.Calls.{Call, opens, closes, counts, sends, urges, arrives, hands-out, ticks, Answer}
-use Rattle.machine.specs.Machine.{End, Item, Sort, Machine, Outcome, node, lending, rank, without, past, offset}
-use Rattle.machine.specs.Machine.{begun, entryFor, step}
+use Rattle.machine.specs.Calls.{Call, opens, closes, counts, sends, urges, arrives, hands-out, reports, ticks}
+use Rattle.machine.specs.Calls.{Answer}
+use Rattle.machine.specs.Machine.{End, Item, Sort, Machine, Outcome, node, port, lending, rank, without, past}
+use Rattle.machine.specs.Machine.{offset, begun, entryFor, isOf, step}
 use Rattle.machine.specs.Sound.{Sound}
 
 -- ---- words
@@ -84,9 +85,10 @@ WindowFolds = (e : End) → e .start < 256 → (k : ℕ) → k < 256 → offset 
 
 -- ---- what no call alters
 
--- nothing but end points and what waits alters, there are as many end points, and each is of its entry [T17]
+-- nothing but end points, what waits and the frame under way alters, there are as many end points, and each is of its
+-- entry [T17]
 pub record Standing (m m′ : Machine) : Type 0 where
-  pub head : node m′ (m .ends) (m .waiting) ≡ m
+  pub head : port (m .under) (node m′ (m .ends) (m .waiting)) ≡ m
   pub count : length (m′ .ends) ≡ length (m .ends)
   pub entry : (i : ℕ) (e d : End) → Is m i e → Is m′ i d → d .entry ≡ e .entry
 
@@ -94,6 +96,22 @@ pub record Standing (m m′ : Machine) : Type 0 where
 -- comes with the call, and no call alters that either. [T17]
 unfoldable pub TableStays : Type 0
 TableStays = (m : Machine) (c : Call) → Standing m (after m c)
+
+-- the calls that are not the port's
+abbrev pub Aside : Call → Type 0
+Aside (opens i) = Unit {0}
+Aside (closes i) = Unit {0}
+Aside (counts i) = Unit {0}
+Aside (sends i p) = Unit {0}
+Aside (urges i p) = Unit {0}
+Aside (arrives block f) = Unit {0}
+Aside (hands-out buffer) = ⊥
+Aside reports = ⊥
+Aside ticks = Unit {0}
+
+-- only handing out puts a frame under way, and only the report ends it: a close does not [H8]
+unfoldable pub UnderWayStays : Type 0
+UnderWayStays = (m : Machine) (c : Call) → Aside c → after m c .under ≡ m .under
 
 -- rules out the one that lets the start wait for its host: what is at the start is delivered at once, so that after
 -- setup and any calls nothing is held there [W7]
@@ -123,6 +141,7 @@ lent (sends i p) = []
 lent (urges i p) = []
 lent (arrives block f) = block
 lent (hands-out buffer) = buffer
+lent reports = []
 lent ticks = []
 
 -- an answer that does not begin with 0 is a refusal, but for a tick, which refuses nothing [R44]
@@ -133,7 +152,8 @@ RefusedStays = (m : Machine) (c : Call) → c ≢ ticks → getD (answer m c .nu
 -- ---- independence: a call on one entry leaves every other's state, window, timers, counts
 
 -- the entry that a call is on: for an arrival the one that the frame is for, for handing out the owner of what goes
--- out; a tick is on all. Of a call that is refused RefusedStays says more. [I1]
+-- out, for the report the owner of the frame under way; a tick is on all. Of a call that is refused RefusedStays says
+-- more. [I1]
 abbrev pub On : Machine → Call → ℕ → Type 0
 On m (opens j) i = j ≡ i
 On m (closes j) i = j ≡ i
@@ -142,6 +162,7 @@ On m (sends j p) i = j ≡ i
 On m (urges j p) i = j ≡ i
 On m (arrives block f) i = (h : Header) × (headerOf f ≡ read.Frame h) × (entryFor m h ≡ i)
 On m (hands-out buffer) i = (q : Sort) × (x : Item) × (xs : List Item) × Next m q x xs × (x .entry ≡ i)
+On m reports i = isOf i (m .under) ≡ true
 On m ticks i = Unit {0}
 
 -- entry i and its share of what waits are as they were [I1]

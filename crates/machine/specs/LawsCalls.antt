@@ -26,7 +26,7 @@ unfoldable pub SetupGoes : Type 0
 SetupGoes = (m : Machine) (t : List ℕ) (room : ℕ)
     → (setting m t room .answer .numbers ≡ 0 ∷ []) ↔ ((goodTable t ≡ true) × (storeOf t ≤ room))
 
--- every entry Closed, window start 1, nothing taken or held, counts 0; no frame waits [T17, E3]
+-- every entry Closed, window start 1, nothing taken or held, counts 0; no frame waits and none is under way [T17, E3]
 pub record Begins (t : List ℕ) (bytes : ℕ) (m : Machine) : Type 0 where
   pub own : m .own ≡ ownOf t
   pub protocol : m .protocol ≡ protocolOf t
@@ -36,6 +36,7 @@ pub record Begins (t : List ℕ) (bytes : ℕ) (m : Machine) : Type 0 where
   pub ends : (i : ℕ) → i < countOf t
       → Is m i (end (entryOf t i) Closed 0 0 1 [] (replicate (entryOf t i .window) none) none)
   pub waiting : (q : Sort) → m .waiting q ≡ []
+  pub under : m .under ≡ none
 
 -- a setup that is not refused leaves this [T17, E3, O4]
 unfoldable pub SetupBegins : Type 0

@@ -16,7 +16,7 @@ use Rattle.end_points.specs.States.{isSends}
 use Rattle.end_points.specs.declared.State.the-variants.{Enabled}
 use Rattle.machine.specs.Calls.{Answer, hands-out}
 use Rattle.machine.specs.Machine.{Number, End, Item, Sort, acks, resets, urgents, resends, datas, Machine}
-use Rattle.machine.specs.Machine.{number, stated, numbered, urging, offset, isOurs, typeOf, carried, frameOf}
+use Rattle.machine.specs.Machine.{Out, number, stated, numbered, urging, offset, isOurs, typeOf, carried, frameOf}
 use Rattle.machine.specs.Sound.{Sound}
 use Rattle.machine.specs.Laws.{Is, answer, after, Next}
 use Rattle.machine.specs.LawsArriving.{Comes}
@@ -28,23 +28,25 @@ unfoldable pub NextOrNone : Type 0
 NextOrNone = (m : Machine)
     → ((q : Sort) × (x : Item) × (xs : List Item) × Next m q x xs) ⊎ ((q : Sort) → m .waiting q ≡ [])
 
--- of e the number s is handed out and its timer starts at T, its payload and retries stay, and so does all else [D2]
-pub record Timed (e : End) (s : ℕ) (d : End) : Type 0 where
+-- of e the number s is handed out, and no timer of it runs yet; its payload and retries stay, and so does all else
+-- [A2, D2]
+pub record NumberOut (e : End) (s : ℕ) (d : End) : Type 0 where
   pub was : Number
   pub there : getElem? (e .numbers) (offset e s) ≡ some was
-  pub is : let x = number (was .payload) (was .retries) true false (e .entry .timeout) in
+  pub is : let x = number (was .payload) (was .retries) true false 0 in
       d ≡ numbered (e .start) (set (e .numbers) (offset e s) x) e
 
--- how an end point alters when number s of a sort goes out: a timer starts at T; an Urgent is no longer kept [D2]
+-- how an end point alters when number s of a sort goes out: no timer starts yet; an Urgent is no longer kept [D2]
 abbrev pub Sent : Sort → End → ℕ → End → Type 0
 Sent acks e s d = d ≡ e
-Sent resets e s d = d ≡ stated (Enabled (e .entry .timeout) true) e
+Sent resets e s d = d ≡ stated (Enabled 0 true) e
 Sent urgents e s d = d ≡ urging none e
-Sent resends e s d = Timed e s d
-Sent datas e s d = Timed e s d
+Sent resends e s d = NumberOut e s d
+Sent datas e s d = NumberOut e s d
 
 -- x of sort q goes out, and its entry is e: its frame, of 9 bytes or more, stands at the buffer's start, the bytes
--- after it stay, and its length is answered; of the sort the rest stays, and all other sorts [H1, H4]
+-- after it stay, and its length is answered; of the sort the rest stays, and all other sorts; it is under way then
+-- [H1, H4, H8]
 pub record HandsOut (m m′ : Machine) (a : Answer) (q : Sort) (x : Item) (xs : List Item) (e : End)
     (buffer : List ℕ) : Type 0 where
   pub long : 9 ≤ length (frameOf m q e (x .number))
@@ -56,24 +58,34 @@ pub record HandsOut (m m′ : Machine) (a : Answer) (q : Sort) (x : Item) (xs : 
   pub end : End
   pub is : Is m′ (x .entry) end
   pub sent : Sent q e (x .number) end
+  pub under : m′ .under ≡ some (typeOf q, x)
 
--- rules out the one that refuses all, and one that never hands out what waits [D2, H1, H2, H3, H4, O4]
+-- rules out the one that refuses all, and one that never hands out what waits [D2, H1, H2, H3, H4, H8, O4]
 unfoldable pub WaitingGoesOut : Type 0
-WaitingGoesOut = (t : List ℕ) (m : Machine) → Sound t m → (q : Sort) (x : Item) (xs : List Item) → Next m q x xs
+WaitingGoesOut = (t : List ℕ) (m : Machine) → Sound t m → m .under ≡ none
+    → (q : Sort) (x : Item) (xs : List Item) → Next m q x xs
     → (e : End) × Is m (x .entry) e × ((buffer : List ℕ) → length (frameOf m q e (x .number)) ≤ length buffer
     → HandsOut m (after m (hands-out buffer)) (answer m (hands-out buffer)) q x xs e buffer)
 
 -- a buffer that is too short: 6, and all is as it was [R6, R38, R44]
 unfoldable pub TooShortStays : Type 0
-TooShortStays = (t : List ℕ) (m : Machine) → Sound t m → (q : Sort) (x : Item) (xs : List Item) → Next m q x xs
+TooShortStays = (t : List ℕ) (m : Machine) → Sound t m → m .under ≡ none
+    → (q : Sort) (x : Item) (xs : List Item) → Next m q x xs
     → (e : End) → Is m (x .entry) e → (buffer : List ℕ) → length buffer < length (frameOf m q e (x .number))
     → (answer m (hands-out buffer) .numbers ≡ 6 ∷ []) × (answer m (hands-out buffer) .out ≡ buffer)
     × (after m (hands-out buffer) ≡ m)
 
--- nothing waiting: length 0, with any frame buffer, and all is as it was [H5]
+-- nothing waiting and none under way: length 0, with any frame buffer, and all is as it was [H5, H8]
 unfoldable pub NothingOut : Type 0
-NothingOut = (t : List ℕ) (m : Machine) → Sound t m → ((q : Sort) → m .waiting q ≡ []) → (buffer : List ℕ)
+NothingOut = (t : List ℕ) (m : Machine) → Sound t m → m .under ≡ none
+    → ((q : Sort) → m .waiting q ≡ []) → (buffer : List ℕ)
     → (answer m (hands-out buffer) .numbers ≡ 0 ∷ 0 ∷ []) × (answer m (hands-out buffer) .out ≡ buffer)
+    × (after m (hands-out buffer) ≡ m)
+
+-- one under way: 19, whatever waits and whatever is lent, and all is as it was [H8, R19, R38, R44]
+unfoldable pub UnderWayRefuses : Type 0
+UnderWayRefuses = (m : Machine) (f : Out) → m .under ≡ some f → (buffer : List ℕ)
+    → (answer m (hands-out buffer) .numbers ≡ 19 ∷ []) × (answer m (hands-out buffer) .out ≡ buffer)
     × (after m (hands-out buffer) ≡ m)
 
 -- ---- how it reads

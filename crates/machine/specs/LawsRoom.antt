@@ -9,7 +9,7 @@ use Rattle.units.specs.Limits.{mostStore, mostWindow}
 use Rattle.units.specs.Refusals.{numberOf}
 use Rattle.units.specs.declared.refusals.Refusal.the-variants as refusal
 use Rattle.blocks.specs.Blocks.{empty, offsetBytes}
-use Rattle.machine.specs.Calls.{Call, opens, closes, counts, sends, urges, arrives, hands-out, ticks}
+use Rattle.machine.specs.Calls.{Call, opens, closes, counts, sends, urges, arrives, hands-out, reports, ticks}
 use Rattle.machine.specs.Machine.{Machine}
 use Rattle.machine.specs.Sound.{Sound}
 use Rattle.machine.specs.Laws.{answer, lent}
@@ -28,6 +28,7 @@ Roomy (sends i p) = Unit {0}
 Roomy (urges i p) = Unit {0}
 Roomy (arrives block f) = mostOut ≤ length block
 Roomy (hands-out buffer) = mostOut ≤ length buffer
+Roomy reports = Unit {0}
 Roomy ticks = Unit {0}
 
 -- then nothing is refused with 6: the store of a sound machine is long enough. A tick's number is no refusal. [R6, L9]

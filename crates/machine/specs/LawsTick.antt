@@ -3,19 +3,19 @@
 use Prim.Native.Nat.{ℕ, zero, suc, _+_, _-_, _/_, _%_, _^_, _≤_, _<_}
 use mathlib.Core.Path.{_≡_}
 use mathlib.Core.Logic.{_≢_, _↔_}
-use mathlib.Core.Bool.{Bool, true, false, _&&_}
-use mathlib.Core.Option.{some}
+use mathlib.Core.Bool.{Bool, true, false, not, _&&_}
+use mathlib.Core.Option.{Option, some}
 use mathlib.Core.List.{List, [], _∷_, _++_, List·Memᴰ}
 use lib.ListN.{length, getElem?}
 use lib.Dec.{eqb}
 use Rattle.units.specs.Refusals.{pick}
-use Rattle.end_points.specs.States.{isSends, isOpen, isOver}
+use Rattle.end_points.specs.States.{isSends, isOpen}
 use Rattle.end_points.specs.declared.State.{State}
 use Rattle.end_points.specs.declared.State.the-variants.{Closed, Enabled, Open, Failing}
 use Rattle.machine.specs.Calls.{ticks, Answer}
 use Rattle.machine.specs.Machine.{Number, End, Item, Sort, acks, resets, urgents, resends, datas, Machine}
-use Rattle.machine.specs.Machine.{stated, numbered, at, without, past, anew, running}
-use Rattle.machine.specs.Machine.{failing, anySpent, ticked, each}
+use Rattle.machine.specs.Machine.{Out, stated, numbered, at, without, past, anew, running}
+use Rattle.machine.specs.Machine.{failing, anySpent, ticked, each, isOf, mayRecover}
 use Rattle.machine.specs.Laws.{Is, answer, after, item, shareOf}
 
 -- ---- words
@@ -94,15 +94,15 @@ ExpiredResends = (m : Machine) (i : ℕ) (e : End) → Is m i e → e .state ≡
     → ((k : ℕ) (x : Number) → getElem? (e .numbers) k ≡ some x → x .timer ≡ 1 → x .retries < e .entry .retries)
     → SendsAgain m i e
 
--- Failing, with as many timers as still run, or, with none, Enabled again [D10]
-abbrev pub failed : List Number → End → End
-failed ns e = pick (eqb (running ns) 0) (anew (Enabled 0 false) e) (failing ns e)
+-- Failing, with as many timers as still run, or, with none and no frame of its own under way, Enabled again [D10]
+abbrev pub failed : Bool → List Number → End → End
+failed under ns e = pick (eqb (running ns) 0 && not under) (anew (Enabled 0 false) e) (failing ns e)
 
 -- entry i fails: each timer falls; its Urgent goes, and nothing of it waits until it is Enabled [D6, D8]
 pub record Fails (m : Machine) (i : ℕ) (e : End) : Type 0 where
   pub numbers : List Number
   pub fall : AllFall (e .numbers) numbers
-  pub end : Is (after m ticks) i (failed numbers e)
+  pub end : Is (after m ticks) i (failed (isOf i (m .under)) numbers e)
   pub silent : (q : Sort) → shareOf i (timers m .waiting q) ≡ []
 
 -- rules out the one that tries for ever: a timer that comes to zero after M retries fails the end [D3, D6, D8]
@@ -116,7 +116,7 @@ pub record GoesOnFailing (m : Machine) (i : ℕ) (e : End) : Type 0 where
   pub numbers : List Number
   pub fall : AllFall (e .numbers) numbers
   pub retried : Retried (λ x. 0) (e .numbers) numbers
-  pub end : Is (after m ticks) i (failed numbers e)
+  pub end : Is (after m ticks) i (failed (isOf i (m .under)) numbers e)
   pub stays : (q : Sort) → shareOf i (timers m .waiting q) ≡ shareOf i (m .waiting q)
 
 -- rules out the one that goes on to resend [D3, D9]
@@ -151,20 +151,21 @@ TimersWait = (m : Machine) (q : Sort)
 
 -- ---- after all timers
 
--- the Reset of a sender that has no timer running [D10]
-abbrev pub dueOver : ℕ → End → List Item
-dueOver i e = pick (isOver (e .state) && isSends (e .entry .kind)) (item i 0 ∷ []) []
+-- the Reset of a sender that has no timer running and, where u is under way, no frame of its own under way [D10]
+abbrev pub dueOver : Option Out → ℕ → End → List Item
+dueOver u i e = pick (mayRecover u i e && isSends (e .entry .kind)) (item i 0 ∷ []) []
 
--- from m, in which all timers have fallen, to m′: each entry that is Failing with no timer running becomes Enabled, its
--- Reset waits, in table order and behind all others, and its bit is answered; nothing else alters [D10, D11]
+-- from m, in which all timers have fallen, to m′: each entry that is Failing with no timer running and no frame of its
+-- own under way becomes Enabled, its Reset waits, in table order and behind all others, and its bit is answered;
+-- nothing else alters [D10, D11]
 pub record Recovers (m m′ : Machine) (a : Answer) : Type 0 where
   pub bits : ℕ
   pub numbers : a .numbers ≡ bits ∷ []
-  pub bit : (i : ℕ) → (bits / 2 ^ i % 2 ≡ 1) ↔ ((e : End) × Is m i e × (isOver (e .state) ≡ true))
-  pub over : (i : ℕ) (e : End) → Is m i e → isOver (e .state) ≡ true → Is m′ i (anew (Enabled 0 false) e)
-  pub others : (i : ℕ) (e : End) → Is m i e → isOver (e .state) ≡ false → Is m′ i e
+  pub bit : (i : ℕ) → (bits / 2 ^ i % 2 ≡ 1) ↔ ((e : End) × Is m i e × (mayRecover (m .under) i e ≡ true))
+  pub over : (i : ℕ) (e : End) → Is m i e → mayRecover (m .under) i e ≡ true → Is m′ i (anew (Enabled 0 false) e)
+  pub others : (i : ℕ) (e : End) → Is m i e → mayRecover (m .under) i e ≡ false → Is m′ i e
   pub count : length (m′ .ends) ≡ length (m .ends)
-  pub behind : m′ .waiting resets ≡ m .waiting resets ++ inTable m dueOver
+  pub behind : m′ .waiting resets ≡ m .waiting resets ++ inTable m (dueOver (m .under))
   pub waiting : (q : Sort) → q ≢ resets → m′ .waiting q ≡ m .waiting q
 
 -- rules out the one that stays Failing, and the one that does not tell its host [D10, D11, R39]
@@ -173,11 +174,11 @@ TickRecovers = (m : Machine) → Recovers (timers m) (after m ticks) (answer m t
 
 -- ---- independence
 
--- what a tick makes of an entry and of its share of what waits depends on that entry alone: two functions that are
--- given nothing else [I1]
+-- what a tick makes of an entry and of its share of what waits depends on that entry alone, and on whether a frame of
+-- its own is under way: two functions that are given nothing else [I1]
 pub record TickAlone : Type 0 where
-  pub becomes : End → End
-  pub keeps : Sort → ℕ → End → List Item → List Item
-  pub end : (m : Machine) (i : ℕ) (e : End) → Is m i e → Is (after m ticks) i (becomes e)
+  pub becomes : Bool → End → End
+  pub keeps : Bool → Sort → ℕ → End → List Item → List Item
+  pub end : (m : Machine) (i : ℕ) (e : End) → Is m i e → Is (after m ticks) i (becomes (isOf i (m .under)) e)
   pub share : (m : Machine) (i : ℕ) (e : End) → Is m i e → (q : Sort)
-      → shareOf i (after m ticks .waiting q) ≡ keeps q i e (shareOf i (m .waiting q))
+      → shareOf i (after m ticks .waiting q) ≡ keeps (isOf i (m .under)) q i e (shareOf i (m .waiting q))

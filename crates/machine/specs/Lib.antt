@@ -3,6 +3,7 @@ pub mod Laws
 pub mod LawsArriving
 pub mod LawsCalls
 pub mod LawsHanding
+pub mod LawsReporting
 pub mod LawsTick
 pub mod Machine
 pub mod Sound

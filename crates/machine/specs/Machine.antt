@@ -41,7 +41,7 @@ use Rattle.end_points.specs.declared.answers.Arrived.the-variants as arrived
 use Rattle.end_points.specs.declared.answers.HandedOut.the-variants.{Length}
 use Rattle.arrive_lookup.specs.Fitting.{fits}
 use Rattle.blocks.specs.Blocks.{empty, offsetBytes, blockOf}
-use Rattle.machine.specs.Calls.{Call, opens, closes, counts, sends, urges, arrives, hands-out, ticks}
+use Rattle.machine.specs.Calls.{Call, opens, closes, counts, sends, urges, arrives, hands-out, reports, ticks}
 use Rattle.machine.specs.Calls.{Answer, Bytes}
 
 -- ---- what a node is made of
@@ -76,8 +76,13 @@ pub record Item : Type 0 where
   pub entry : ℕ
   pub number : ℕ
 
+-- a frame that was handed out: its type, whose it is and its sequence number [H8]
+abbrev pub Out : Type 0
+Out = FrameType × Item
+
 -- a node: its address and protocol ID, how many bytes of store its table asks for and how many it was lent, its end
--- points in table order, and what waits, each sort in the order in which it began to wait [T17, E1, H3, I2]
+-- points in table order, what waits, each sort in the order in which it began to wait, and the frame under way
+-- [T17, E1, H3, H8, I2]
 pub record Machine : Type 0 where
   pub own : Address
   pub protocol : ℕ
@@ -85,6 +90,7 @@ pub record Machine : Type 0 where
   pub room : ℕ
   pub ends : List End
   pub waiting : Sort → List Item
+  pub under : Option Out
 
 -- what a call answers, and the machine that it leaves [O1]
 pub record Outcome : Type 0 where
@@ -124,7 +130,29 @@ urging u e = end (e .entry) (e .state) (e .accepted) (e .confirmed) (e .start) (
 
 -- with other end points and other frames waiting; what setup took from the table stays [T17, I3]
 abbrev pub node : Machine → List End → (Sort → List Item) → Machine
-node m es w = record { own = m .own; protocol = m .protocol; need = m .need; room = m .room; ends = es; waiting = w }
+node m es w =
+    record {
+      own = m .own;
+      protocol = m .protocol;
+      need = m .need;
+      room = m .room;
+      ends = es;
+      waiting = w;
+      under = m .under;
+    }
+
+-- with another frame under way, or none [H8, I3]
+abbrev pub port : Option Out → Machine → Machine
+port u m =
+    record {
+      own = m .own;
+      protocol = m .protocol;
+      need = m .need;
+      room = m .room;
+      ends = m .ends;
+      waiting = m .waiting;
+      under = u;
+    }
 
 -- lent another store, of so many bytes: its length comes with each call that is lent one [P11, R42]
 abbrev pub lending : ℕ → Machine → Machine
@@ -136,6 +164,7 @@ lending room m =
       room = room;
       ends = m .ends;
       waiting = m .waiting;
+      under = m .under;
     }
 
 -- ---- entries and what waits
@@ -242,7 +271,7 @@ listed (suc n) f = listed n f ++ (f n ∷ [])
 abbrev pub first : Entry → End
 first x = end x Closed 0 0 1 [] (replicate (x .window) none) none
 
--- from the table t with a store of room bytes: all Closed, no frame waiting [T17, E3]
+-- from the table t with a store of room bytes: all Closed, no frame waiting and none under way [T17, E3]
 unfoldable pub begun : List ℕ → ℕ → Machine
 begun t room =
     record {
@@ -252,12 +281,13 @@ begun t room =
       room = room;
       ends = listed (countOf t) (λ i. first (entryOf t i));
       waiting = λ q. [];
+      under = none;
     }
 
 -- a new node: count, own address and protocol ID 0 [N1]
 abbrev pub blank : ℕ → Machine
 blank room =
-    record { own = record { 0 = 0 }; protocol = 0; need = 0; room = room; ends = []; waiting = λ q. [] }
+    record { own = record { 0 = 0 }; protocol = 0; need = 0; room = room; ends = []; waiting = λ q. []; under = none }
 
 -- 1, 6 [R1, R6, R31]
 abbrev pub setupTests : List ℕ → ℕ → List (Bool × Refusal)
@@ -520,15 +550,16 @@ frameOf m q e s =
     })
     (carried q e s)
 
--- a timer starts at T when the frame is handed out [E2, D2]
+-- an end point says that a Reset or a number was handed out; no timer runs of it yet [E2, A2, D2]
 abbrev pub handed : Sort → End → ℕ → End
 handed acks e s = e
-handed resets e s = stated (Enabled (e .entry .timeout) true) e
+handed resets e s = stated (Enabled 0 true) e
 handed urgents e s = urging none e
-handed resends e s = numbered (e .start) (timed (e .entry .timeout) false e s) e
-handed datas e s = numbered (e .start) (timed (e .entry .timeout) false e s) e
+handed resends e s = numbered (e .start) (timed 0 false e s) e
+handed datas e s = numbered (e .start) (timed 0 false e s) e
 
--- of a sort: the first that waits goes out, or 6; where none waits, other [H1, H3, H4, R6, R38]
+-- of a sort: the first that waits goes out and is under way, or 6; where none waits, other
+-- [H1, H3, H4, H8, R6, R38]
 unfoldable pub goingOut : Machine → List ℕ → Sort → List Item → Outcome → Outcome
 goingOut m out q [] other = other
 goingOut m out q (x ∷ xs) other =
@@ -536,16 +567,59 @@ goingOut m out q (x ∷ xs) other =
     let f = frameOf m q e (x .number) in
     unless ((ltb (length out) (length f), refusal.TooShort) ∷ []) out m
     (answers (handedOf (Length (length f))) (sets out 0 f)
-    (waitingAs (only q (drop 1)) (turned (x .entry) (handed q e (x .number)) m)))
+    (port (some (typeOf q, x)) (waitingAs (only q (drop 1)) (turned (x .entry) (handed q e (x .number)) m))))
 
 -- sort after sort; nothing waiting: length 0, with any frame buffer [H2, H5]
 unfoldable pub inOrder : Machine → List ℕ → List Sort → Outcome
 inOrder m out [] = answers (handedOf (Length 0)) out m
 inOrder m out (q ∷ qs) = goingOut m out q (m .waiting q) (inOrder m out qs)
 
--- acknowledgements first, then Resets, Urgents, retransmissions, data [H2, R38, R42]
+-- 19, 6; acknowledgements first, then Resets, Urgents, retransmissions, data [H2, R6, R19, R38, R42]
 unfoldable pub handingOut : Machine → List ℕ → Outcome
-handingOut m out = unless (tooShort m ∷ []) out m (inOrder m out (acks ∷ resets ∷ urgents ∷ resends ∷ datas ∷ []))
+handingOut m out =
+    unless ((isSome (m .under), refusal.UnderWay) ∷ tooShort m ∷ []) out m
+    (inOrder m out (acks ∷ resets ∷ urgents ∷ resends ∷ datas ∷ []))
+
+-- ---- the end of the frame under way, which the port reports
+
+-- the timer of Data with number s starts at T if that is still handed out and not acknowledged [D2, D12]
+abbrev pub dataTimed : End → ℕ → End
+dataTimed e s =
+    pick (numberAt e s .handed && not (numberAt e s .acked))
+    (numbered (e .start) (timed (e .entry .timeout) false e s) e) e
+
+-- and a Failing end says how many run then [E2]
+abbrev pub recounted : State → End → End
+recounted Closed e = e
+recounted (Enabled timer sent) e = e
+recounted Open e = e
+recounted (Failing timers) e = stated (Failing (running (e .numbers))) e
+
+-- that of a Reset if its end is still Enabled and one was handed out since Enabled began: it was this one, since no
+-- other frame has gone out [D2, D12]
+abbrev pub resetTimed : State → End → End
+resetTimed Closed e = e
+resetTimed (Enabled timer sent) e = pick sent (stated (Enabled (e .entry .timeout) true) e) e
+resetTimed Open e = e
+resetTimed (Failing timers) e = e
+
+-- what the end of a frame with number s makes of its end point; an Acknowledge and an Urgent start nothing [D2, D12]
+abbrev pub ended : FrameType → End → ℕ → End
+ended type.Data e s = recounted (e .state) (dataTimed e s)
+ended type.Acknowledge e s = e
+ended type.Reset e s = resetTimed (e .state) e
+ended type.Urgent e s = e
+
+-- 20 where none is under way; else none is any more [H8, R20, R49]
+unfoldable pub reported : Machine → Option Out → Outcome
+reported m none = answers (answerOf (Refused refusal.NoneUnderWay)) [] m
+reported m (some f) =
+    let i = f .1 .entry in
+    done (port none (at m i m (λ e. turned i (ended (f .0) e (f .1 .number)) m)))
+
+-- the report [H8, R20, R49]
+unfoldable pub reporting : Machine → Outcome
+reporting m = reported m (m .under)
 
 -- ---- a tick
 
@@ -596,21 +670,30 @@ unfoldable pub each : ℕ → (ℕ → End → Machine → Machine) → Machine 
 each zero f m = m
 each (suc n) f m = let m′ = each n f m in at m′ n m′ (λ e. f n e m′)
 
--- Failing with no timer running: Enabled with a Reset waiting, and its bit is answered, entry 0 lowest [D10, D11]
+-- the frame under way is entry i's [D10]
+abbrev pub isOf : ℕ → Option Out → Bool
+isOf i none = false
+isOf i (some f) = eqb (f .1 .entry) i
+
+-- Failing, with no timer running and, where u is under way, no frame of its own under way [D10]
+abbrev pub mayRecover : Option Out → ℕ → End → Bool
+mayRecover u i e = isOver (e .state) && not (isOf i u)
+
+-- such an end is Enabled with a Reset waiting, and its bit is answered, entry 0 lowest [D10, D11]
 abbrev pub recovered : ℕ → End → Machine → Machine
-recovered i e m = pick (isOver (e .state)) (enabled i e m) m
+recovered i e m = pick (mayRecover (m .under) i e) (enabled i e m) m
 
--- a bit for each Failing end with no timer running, entry 0 lowest [D11]
-unfoldable pub bitsFrom : ℕ → List End → ℕ
-bitsFrom i [] = 0
-bitsFrom i (e ∷ es) = pick (isOver (e .state)) (2 ^ i) 0 + bitsFrom (suc i) es
+-- a bit for each such end, entry 0 lowest [D11]
+unfoldable pub bitsFrom : Option Out → ℕ → List End → ℕ
+bitsFrom u i [] = 0
+bitsFrom u i (e ∷ es) = pick (mayRecover u i e) (2 ^ i) 0 + bitsFrom u (suc i) es
 
--- first all entries' timers, then the entries that have none running; a tick refuses nothing [D10, D11, R39]
+-- first all entries' timers, then the entries that are done with; a tick refuses nothing [D10, D11, R39]
 unfoldable pub ticking : Machine → Outcome
 ticking m =
     let n = length (m .ends) in
     let m′ = each n (λ i e m. ticked m i e (e .state)) m in
-    answers (bitsFrom 0 (m′ .ends) ∷ []) [] (each n recovered m′)
+    answers (bitsFrom (m′ .under) 0 (m′ .ends) ∷ []) [] (each n recovered m′)
 
 -- ---- the calls as one
 
@@ -623,6 +706,7 @@ step m (sends i p) = sending m i p
 step m (urges i p) = urgentSending m i p
 step m (arrives block f) = arriving m block f
 step m (hands-out buffer) = handingOut m buffer
+step m reports = reporting m
 step m ticks = ticking m
 
 -- what setup leaves of a table that it does not refuse [P11]

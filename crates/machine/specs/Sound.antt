@@ -3,6 +3,7 @@
 -- for are sound is proved in crates/refinement. Assumes nothing.
 use Prim.Native.Nat.{ℕ, _≤_, _<_}
 use mathlib.Core.Path.{_≡_}
+use mathlib.Core.Logic.{_≢_}
 use mathlib.Core.Bool.{Bool, true, false}
 use mathlib.Core.Option.{some}
 use mathlib.Core.List.{List, [], List·Memᴰ}
@@ -11,6 +12,7 @@ use Rattle.table.specs.Layout.{countOf, ownOf, protocolOf, entryOf}
 use Rattle.table.specs.Areas.{storeOf}
 use Rattle.table.specs.Rules.{goodTable}
 use Rattle.table.specs.declared.Entry.{Entry}
+use Rattle.frame.specs.declared.FrameType.the-variants as type
 use Rattle.end_points.specs.States.{isSends}
 use Rattle.end_points.specs.declared.State.the-variants.{Enabled, Open, Failing}
 use Rattle.machine.specs.Machine.{Number, End, Item, Sort, acks, resets, urgents, resends, datas, Machine}
@@ -80,6 +82,26 @@ pub record Owned (m : Machine) (q : Sort) (x : Item) : Type 0 where
   pub there : getElem? (m .ends) (x .entry) ≡ some end
   pub byte : x .number < 256
   pub waits : Waits q end (x .number)
+
+-- ---- where a number is that was handed out
+
+-- one of three, and neither of the others [D13]
+pub data OneOf (A B C : Type 0) : Type 0 where
+  the-first : A → (B → ⊥) → (C → ⊥) → OneOf A B C
+  the-second : (A → ⊥) → B → (C → ⊥) → OneOf A B C
+  the-third : (A → ⊥) → (B → ⊥) → C → OneOf A B C
+
+-- number s of entry i, which is e, runs a timer, waits as a retransmission or is under way, and only one of the three
+-- [D13]
+abbrev pub InOnePlace : Machine → ℕ → End → ℕ → Type 0
+InOnePlace m i e s =
+    let x : Item = record { entry = i; number = s } in
+    OneOf (numberAt e s .timer ≢ 0) (List·Memᴰ x (m .waiting resends)) (m .under ≡ some (type.Data, x))
+
+-- so at Open every number that was handed out and is not acknowledged [D13]
+unfoldable pub EachInOnePlace : Machine → Type 0
+EachInOnePlace m = (i : ℕ) (e : End) → getElem? (m .ends) i ≡ some e → e .state ≡ Open
+    → (s : ℕ) → s < 256 → numberAt e s .handed ≡ true → numberAt e s .acked ≡ false → InOnePlace m i e s
 
 -- ---- the whole, for the table that it was set up from
 

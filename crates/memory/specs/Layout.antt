@@ -144,6 +144,11 @@ datas = 3
 abbrev pub queues : ℕ
 queues = 4
 
+-- no thing that waits has the numbers from here to the first Reset's, and the first of them has no links: in the place
+-- of its link is what the port has under way (crates/waiting, specs/Port.antt)
+abbrev pub underAt : ℕ
+underAt = 4
+
 -- then entry i's Reset, and whose Reset x is
 abbrev pub resetId : ℕ → ℕ
 resetId i = 16 + i

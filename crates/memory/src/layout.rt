@@ -90,6 +90,9 @@ pub const DATAS: u16 = 3;
 
 pub const QUEUES: u16 = 4;
 
+// where the book says what is under way: the place of a link that nothing has
+pub const UNDER_AT: usize = 4;
+
 // then entry 0's Reset, entry 0's Urgent, and the payload in cell 0
 pub const RESET_ID: u16 = 16;
 

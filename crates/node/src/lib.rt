@@ -19,6 +19,7 @@ ghost use Rattle.call_open.specs.Opening.{stateAnswer};
 ghost use Rattle.call_send.specs.Sending.{sendAnswer, sendAfter, urgentAnswer, urgentAfter};
 ghost use Rattle.call_arrive.specs.Arriving.{arrivalAnswer, arrivalAfter};
 ghost use Rattle.call_hand_out.specs.Handing.{handOutAnswer, handOutAfter};
+ghost use Rattle.call_report.specs.Reporting.{reportAnswer, reportAfter};
 ghost use Rattle.call_tick.specs.Ticking.{tickAnswer, tickAfter};
 
 // A node's words, and its book. All zeros is a new node. [N1]
@@ -33,7 +34,7 @@ pub fn store_need(table: &[u8]) -> Needed
     call_open::store_need(table)
 }
 
-// The table is read: every entry Closed, nothing waiting, start 1, counts 0. Refuses 1, 6. [E3, R31]
+// The table is read: every entry Closed, nothing waiting or under way, start 1, counts 0. Refuses 1, 6. [E3, R31]
 pub fn setup(node: &mut Node, book: &mut Book, store: &[u8], table: &[u8]) -> Verdict
     ensures answer { λ r.
         let x = stored (now (node .entry)) (now (book .entry)) (now (store .entry)) in
@@ -137,8 +138,8 @@ pub fn arrival(
     call_arrive::arrive(node, book, store, block, arrived)
 }
 
-// What goes out next is written into the frame buffer. Refuses 6; answers the length, 0 where nothing waits.
-// [H1, H5, R38]
+// What goes out next is written into the frame buffer, and is under way then. Refuses 19, 6; answers the length, 0
+// where nothing waits. [H1, H5, H8, R38]
 pub fn hand_out(node: &mut Node, book: &mut Book, store: &[u8], frame: &mut [u8]) -> HandedOut
     ensures answer { λ r.
         let x = whole (now (node .entry)) (now (book .entry)) (now (store .entry)) (now (frame .entry)) in
@@ -148,6 +149,16 @@ pub fn hand_out(node: &mut Node, book: &mut Book, store: &[u8], frame: &mut [u8]
         ⌜ whole (now (node .exit)) (now (book .exit)) (now (store .entry)) (now (frame .exit)) ≡ handOutAfter x r ⌝ }
 {
     call_hand_out::hand_out(node, book, store, frame)
+}
+
+// The frame under way has ended; Data or a Reset starts its timer. Refuses 20. [D2, H8, R49]
+pub fn report(node: &mut Node, book: &mut Book) -> Verdict
+    ensures answer { λ r. ⌜ r ≡ reportAnswer (bare (now (node .entry)) (now (book .entry))) ⌝ }
+    ensures after { λ r.
+        let x = bare (now (node .entry)) (now (book .entry)) in
+        ⌜ bare (now (node .exit)) (now (book .exit)) ≡ reportAfter x r ⌝ }
+{
+    call_report::report(node, book)
 }
 
 // Every running timer falls by one. Refuses nothing; answers the entries that became Enabled, entry 0 lowest.

@@ -3,7 +3,7 @@
 use Prim.Native.Nat.{ℕ, _≤_}
 use mathlib.Core.Path.{_≡_, refl, sym, ap, subst, _∙_}
 use mathlib.Core.Logic.{_≢_, _⊎_, inl, inr}
-use mathlib.Core.Option.{some}
+use mathlib.Core.Option.{Option, none, some}
 use mathlib.Core.List.{List, [], List·Memᴰ, List·Memᴰ·head}
 use native.Mathlib.Decide.{ℕ-discrete}
 use native.Mathlib.Omega.{arith}
@@ -11,22 +11,25 @@ use lib.ListN.{length, take, getElem?, set}
 use lib.Seq.{sets}
 use borrow.Author.Tests.{ltb-false}
 use Rattle.units.specs.Refusals.{pick}
+use Rattle.units.specs.declared.refusals.Refusal.{Refusal}
 use Rattle.units.specs.declared.refusals.Refusal.the-variants as refusal
 use Rattle.units.proofs.Judging.{clear}
 use Rattle.table.specs.Layout.{entryOf}
+use Rattle.frame.specs.Faults.{refusedOf}
 use Rattle.frame.specs.Reading.{soundOf, readOf}
 use Rattle.frame.specs.declared.Header.{Header}
 use Rattle.frame.specs.declared.Read.the-variants as read
 use Rattle.end_points.specs.States.{isSends}
 use Rattle.good.proofs.Stores.{read-own}
 use Rattle.machine.specs.Calls.{hands-out}
-use Rattle.machine.specs.Machine.{End, Item, Sort, Machine, Outcome, typeOf, carried, frameOf, handed, step}
+use Rattle.machine.specs.Machine.{End, Item, Sort, Out, Machine, Outcome, answers}
+use Rattle.machine.specs.Machine.{typeOf, carried, frameOf, handed, step}
 use Rattle.machine.specs.Sound.{Owned, Sound}
 use Rattle.machine.specs.Laws.{Next}
 use Rattle.machine.specs.LawsHanding.{NextOrNone, ReadsAs, ReadsBack}
 use Rattle.machine.proofs.Entries.{elem-lt, elem-set-same}
 use Rattle.machine.proofs.Judged.{by-verdict}
-use Rattle.machine.proofs.Handing.{next-or-none, roomTests, gone, owner, goes-is, none-is, reads-back}
+use Rattle.machine.proofs.Handing.{next-or-none, roomTests, gone, owner, under-is, goes-is, none-is, reads-back}
 use Rattle.machine.proofs.Apart.{gone-leaves}
 use Rattle.promise.specs.Seen.{names}
 use Rattle.promise.proofs.Entries.{some-same, names-own, names-other}
@@ -161,18 +164,21 @@ module _ (K : Watch) (t : List ℕ) (m : Machine) (S : Sound t m) (i : ℕ) (e :
         sides (yes c) = here own n c (z ∙ rw (c, names-own t m S k x (w .owned .there)))
         sides (no d) = apart d (z ∙ rw (names-other t m S i e there k x (w .owned .there) b d))
 
-  -- refused, or nothing waits; or it went out
+  -- refused, for want of room or with another frame under way; or nothing waits; or it went out
   pub by-sort : ((q : Sort) (w : Went m buffer q) → Goes (leaving m buffer q w)) → Goes (step m (hands-out buffer))
   unfolding NextOrNone
-  by-sort h = sides (next-or-none m)
+  by-sort h = way (m .under) refl
     where
-      sides : ((q : Sort) × (x : Item) × (xs : List Item) × Next m q x xs) ⊎ ((q : Sort) → m .waiting q ≡ [])
+      refused : (r : Refusal) → Goes (answers (refusedOf r) buffer m)
+      refused r = still K i m e _ _ e there refl (K .goes buffer _ ∙ rw (refused-done r))
+
+      sides : m .under ≡ none
+          → ((q : Sort) × (x : Item) × (xs : List Item) × Next m q x xs) ⊎ ((q : Sort) → m .waiting q ≡ [])
           → Goes (step m (hands-out buffer))
-      sides (inl (q, x, xs, n)) =
+      sides under (inl (q, x, xs, n)) =
           let w = owner t m S q x xs n in
-          subst Goes (sym (goes-is t m S q x xs n (w .end) (w .there) buffer))
-          (by-verdict Goes (roomTests m buffer q x (w .end)) buffer m (gone m buffer q x (w .end))
-          (λ r. still K i m e _ _ e there refl (K .goes buffer _ ∙ rw (refused-done r)))
+          subst Goes (sym (goes-is t m S under q x xs n (w .end) (w .there) buffer))
+          (by-verdict Goes (roomTests m buffer q x (w .end)) buffer m (gone m buffer q x (w .end)) refused
           (λ p. h q (record {
             item = x;
             rest = xs;
@@ -180,6 +186,10 @@ module _ (K : Watch) (t : List ℕ) (m : Machine) (S : Sound t m) (i : ℕ) (e :
             owned = w;
             long = ltb-false (length buffer) _ (clear (roomTests m buffer q x (w .end)) p .0);
           })))
-      sides (inr none) =
-          subst Goes (sym (none-is t m S none buffer))
+      sides under (inr empty) =
+          subst Goes (sym (none-is t m S under empty buffer))
           (still K i m e _ _ e there refl (K .goes buffer _ ∙ rw read-nothing (K .unread refusal.BadFrame _)))
+
+      way : (u : Option Out) → m .under ≡ u → Goes (step m (hands-out buffer))
+      way none under = sides under (next-or-none m)
+      way (some f) under = subst Goes (sym (under-is m f under buffer)) (refused refusal.UnderWay)

@@ -3,7 +3,7 @@
 -- two; and a node does what the machine does that it stands for. Assumes nothing.
 use Prim.Native.Nat.{ℕ, _-_, _<_}
 use mathlib.Core.Path.{_≡_, refl, sym, ap, subst, _∙_}
-use mathlib.Core.Bool.{true, false}
+use mathlib.Core.Bool.{Bool, true, false}
 use mathlib.Core.Option.{some}
 use mathlib.Core.List.{List, [], _∷_, _++_, map}
 use native.Mathlib.Omega.{arith}
@@ -26,8 +26,8 @@ use Rattle.end_points.specs.States.{isSends}
 use Rattle.call_open.specs.Setup.{setupAfter}
 use Rattle.good.specs.Calls.{Memory, kept, answer, after, relent}
 use Rattle.good.specs.Calls as nodes
-use Rattle.machine.specs.Calls.{Call, opens, closes, counts, sends, urges, arrives, hands-out, ticks, Fed}
-use Rattle.machine.specs.Machine.{End, Machine, lending, first, begun, step, SetUp}
+use Rattle.machine.specs.Calls.{Call, opens, closes, counts, sends, urges, arrives, hands-out, reports, ticks, Fed}
+use Rattle.machine.specs.Machine.{Number, End, Machine, lending, first, begun, step, SetUp}
 use Rattle.machine.specs.Sound.{Sound}
 use Rattle.refinement.specs.Standing.{Reading, standsFor, stateFor, readAt, endFor, endAt, ackItem, waitingFor, Stands, Follows, SetupAnswers, Begins, Refines, Relends, StandsSound}
 use Rattle.machine.proofs.Listed.{elem-listed}
@@ -45,11 +45,11 @@ use Rattle.promise.proofs.Laws.{SLaws, RLaws, s-viewed}
 use Rattle.promise.proofs.Lifting.{demand-3-nodes}
 use Rattle.promise.proofs.Entries.{some-same, entry-is, receiver-runs}
 use Rattle.promise.proofs.Watched.{Watch, owed, Step}
-use Rattle.promise.proofs.SenderCalls.{s-watch, SStep, s-opens, s-closes, s-sends, s-urges, s-counts}
+use Rattle.promise.proofs.SenderCalls.{s-watch, SStep, s-opens, s-closes, s-sends, s-urges, s-counts, s-reports}
 use Rattle.promise.proofs.SenderArrives.{s-arrives}
 use Rattle.promise.proofs.SenderHands.{s-hands}
 use Rattle.promise.proofs.SenderTicks.{s-ticks}
-use Rattle.promise.proofs.ReceiverCalls.{r-watch, RStep, r-opens, r-closes-it, r-sends, r-urges, r-counts}
+use Rattle.promise.proofs.ReceiverCalls.{r-watch, RStep, r-opens, r-closes-it, r-sends, r-urges, r-counts, r-reports}
 use Rattle.promise.proofs.ReceiverArrives.{r-arrives}
 use Rattle.promise.proofs.ReceiverHands.{r-hands}
 use Rattle.promise.proofs.ReceiverTicks.{r-ticks}
@@ -65,6 +65,7 @@ module _ (t : List ℕ) (m : Machine) (S : Sound t m) (i : ℕ) (e : End) (there
   s-step k (urges j p) = s-urges t m S i e there j p
   s-step k (arrives block f) = s-arrives t m S i e there k block f
   s-step k (hands-out buffer) = s-hands t m S i e there k buffer
+  s-step k reports = s-reports t m S i e there
   s-step k ticks = s-ticks t m i e there
 
   r-step : isSends (e .entry .kind) ≡ false → (c : Call) → RStep t m i e c (step m c)
@@ -75,6 +76,7 @@ module _ (t : List ℕ) (m : Machine) (S : Sound t m) (i : ℕ) (e : End) (there
   r-step k (urges j p) = r-urges t m S i e there k j p
   r-step k (arrives block f) = r-arrives t m S i e there k block f
   r-step k (hands-out buffer) = r-hands t m S i e there k buffer
+  r-step k reports = r-reports t m S i e there k
   r-step k ticks = r-ticks t m i e there (receiver-runs t m S i e there k)
 
 -- ---- a machine, the node that stands for it, and the end point that its entry i is
@@ -239,12 +241,13 @@ module _ (t : List ℕ) (i : ℕ) (h : i < countOf t) (k : entryOf t i .kind ≡
       some-same (sym (v .there) ∙ ap (λ (y : Machine). getElem? (y .ends) i) (sym (v .stands .is))
       ∙ elem-listed (countOf t) (endAt n) i h)
 
-  -- a Reset's timer is no part of what is seen
-  seen-for : (L : Reading) (s : State) → s-state-of (stateFor L s) ≡ s-state-of s
-  seen-for L Closed = refl
-  seen-for L (Enabled d sent) = refl
-  seen-for L Open = refl
-  seen-for L (Failing n) = refl
+  -- a Reset's timer and how many of a Failing end's run are no part of what is seen
+  seen-for : (L : Reading) (under : Bool) (ns : List Number) (s : State)
+      → s-state-of (stateFor L under ns s) ≡ s-state-of s
+  seen-for L under ns Closed = refl
+  seen-for L under ns (Enabled d sent) = refl
+  seen-for L under ns Open = refl
+  seen-for L under ns (Failing n) = refl
 
   node-sends : SLaws W (nodal.sender t i)
   unfolding endFor
@@ -254,7 +257,7 @@ module _ (t : List ℕ) (i : ℕ) (h : i < countOf t) (k : entryOf t i .kind ≡
         first = first-node (s-watch t i) t i h s-steps;
         agrees = λ n s v.
             rw (v .1 .1, end-there n (v .0) (v .1 .0))
-            (seen-for (readAt n) (endOf (n .node) i .state), refl, refl);
+            (seen-for (readAt n) _ _ (endOf (n .node) i .state), refl, refl);
         lends = node-lends (s-watch t i) t i h s-steps;
         law = node-law (s-watch t i) t i h s-steps;
       }

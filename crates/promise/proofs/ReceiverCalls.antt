@@ -1,4 +1,5 @@
--- The receiver's entry as it is watched, and the host's calls on the receiver's machine. Assumes nothing.
+-- The receiver's entry as it is watched, and the host's calls and the report on the receiver's machine. Assumes
+-- nothing.
 use Prim.Native.Nat.{ℕ}
 use mathlib.Core.Path.{_≡_, refl, sym, ap, _∙_}
 use mathlib.Core.Bool.{false, true≢false, not}
@@ -14,7 +15,7 @@ use Rattle.frame.specs.Reading.{readOf}
 use Rattle.end_points.specs.States.{isSends, isClosed}
 use Rattle.good.proofs.Known.{is-closed}
 use Rattle.blocks.specs.Reading.{readBlock}
-use Rattle.machine.specs.Calls.{Call, opens, closes, counts, sends, urges, arrives, hands-out, Answer}
+use Rattle.machine.specs.Calls.{Call, opens, closes, counts, sends, urges, arrives, hands-out, reports, Answer}
 use Rattle.machine.specs.Machine.{End, acks, Machine, Outcome, step}
 use Rattle.machine.specs.Sound.{Sound}
 use Rattle.promise.specs.History.{RSeen, r-quiet, r-closes}
@@ -22,8 +23,8 @@ use Rattle.promise.specs.Seen.{isDone, frameIn, r-in, r-out, r-seen}
 use Rattle.promise.proofs.Channel.{Recv}
 use Rattle.promise.proofs.Laws.{RNext, rn-same, rn-open, rn-close}
 use Rattle.promise.proofs.Owing.{owed-gone}
-use Rattle.promise.proofs.Watched.{Watch, Step, counts-step, unseen, opens-step, closes-step, sends-step, urges-step}
-use Rattle.promise.proofs.ReceiverView.{r-state-of, recvOf}
+use Rattle.promise.proofs.Watched.{Watch, owed, Step, counts-step, unseen, opens-step, closes-step, sends-step, urges-step, reports-step}
+use Rattle.promise.proofs.ReceiverView.{r-state-of, recvOf, ended-view}
 
 pub r-comes : (e : Entry) (j : ℕ) (block f : List ℕ) (a : Answer) → r-seen e j (arrives block f) a
     ≡ pick (isDone (a .numbers)) (r-in e (readOf f) (payloadOf f) (readBlock (a .out))) r-quiet
@@ -91,3 +92,8 @@ module _ (t : List ℕ) (m : Machine) (S : Sound t m) (j : ℕ) (e : End) (there
   r-urges k p =
       urges-step K t m S j e there p r-quiet (unseen K t m S j e there (λ i. urges i p) (λ i a. refl))
       (λ c. no-sender (c .0)) k
+
+  -- the end of a frame: a timer starts at most
+  pub r-reports : RStep t m j e reports (step m reports)
+  unfolding r-seen
+  r-reports = reports-step K t m S j e there (ended-view (owed j m) e) refl

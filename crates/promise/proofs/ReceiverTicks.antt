@@ -1,7 +1,7 @@
 -- A tick at the receiver's machine: a receiver has no timers, so nothing is seen of it. Assumes nothing.
 use Prim.Native.Nat.{ℕ}
 use mathlib.Core.Path.{_≡_, refl, sym, ap, _∙_}
-use mathlib.Core.Bool.{false, and-false}
+use mathlib.Core.Bool.{Bool, false, and-false}
 use mathlib.Core.Option.{some}
 use mathlib.Core.List.{List, append-nil}
 use lib.ListN.{getElem?}
@@ -9,7 +9,7 @@ use Rattle.end_points.specs.States.{isOpen}
 use Rattle.end_points.specs.declared.State.{State}
 use Rattle.end_points.specs.declared.State.the-variants.{Closed, Enabled, Open, Failing}
 use Rattle.machine.specs.Calls.{ticks}
-use Rattle.machine.specs.Machine.{End, acks, Machine, anySpent, step}
+use Rattle.machine.specs.Machine.{End, acks, Machine, anySpent, isOf, step}
 use Rattle.machine.specs.Sound.{Receives}
 use Rattle.machine.specs.Laws.{shareOf}
 use Rattle.machine.specs.LawsTick.{fails}
@@ -24,6 +24,10 @@ use Rattle.promise.proofs.ReceiverView.{recvOf}
 use Rattle.promise.proofs.ReceiverCalls.{r-watch, RStep}
 
 module _ (t : List ℕ) (m : Machine) (j : ℕ) (e : End) (there : getElem? (m .ends) j ≡ some e) (R : Receives e) where
+  -- whether a frame of its own is under way
+  abbrev under : Bool
+  under = isOf j (m .under)
+
   -- it does not fail
   spent-none : anySpent (e .entry .retries) (e .numbers) ≡ false
   unfolding anySpent
@@ -33,7 +37,7 @@ module _ (t : List ℕ) (m : Machine) (j : ℕ) (e : End) (there : getElem? (m .
   stays = rw spent-none (and-false (isOpen (e .state)))
 
   -- and is seen as before
-  same : (w : List ℕ) (s : State) → e .state ≡ s → recvOf (again (fell s e)) w ≡ recvOf e w
+  same : (w : List ℕ) (s : State) → e .state ≡ s → recvOf (again under (fell s e)) w ≡ recvOf e w
   same w Closed q = rw q
   same w (Enabled timer sent) q = rw q
   same w Open q = rw (spent-none, q)
@@ -49,5 +53,5 @@ module _ (t : List ℕ) (m : Machine) (j : ℕ) (e : End) (there : getElem? (m .
   pub r-ticks : RStep t m j e ticks (step m ticks)
   unfolding r-seen
   r-ticks =
-      still (r-watch t j) j m e _ (step m ticks) (again (timed e)) (after-end m j e there)
-      (ap (recvOf (again (timed e))) owed-then ∙ same (owed j m) (e .state) refl) refl
+      still (r-watch t j) j m e _ (step m ticks) (again under (timed e)) (after-end m j e there)
+      (ap (recvOf (again under (timed e))) owed-then ∙ same (owed j m) (e .state) refl) refl

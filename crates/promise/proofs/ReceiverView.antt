@@ -2,7 +2,7 @@
 -- Assumes nothing.
 use Prim.Native.Nat.{ℕ, suc, _+_, _-_, _<_}
 use mathlib.Core.Path.{_≡_, refl, sym, ap, _∙_, fun-ext}
-use mathlib.Core.Bool.{true, false, true≢false, not, _&&_}
+use mathlib.Core.Bool.{Bool, true, false, true≢false, not, _&&_}
 use mathlib.Core.Option.{Option, none, some}
 use mathlib.Core.List.{List, [], _∷_, _++_}
 use native.Mathlib.Decide.{decLt}
@@ -13,9 +13,11 @@ use lib.Seq.{getD-drop, getD-append-add}
 use lib.Dec.{ltb}
 use borrow.Author.Tests.{lt-ltb, le-ltb}
 use Rattle.units.specs.Refusals.{pick}
+use Rattle.frame.specs.declared.FrameType.{FrameType}
+use Rattle.frame.specs.declared.FrameType.the-variants as type
 use Rattle.end_points.specs.declared.State.{State}
 use Rattle.end_points.specs.declared.State.the-variants.{Closed, Enabled, Open, Failing}
-use Rattle.machine.specs.Machine.{End, offset, isSome, orNone, heldRun, handing-on, isNew}
+use Rattle.machine.specs.Machine.{End, numbered, offset, numberAt, timed, isSome, orNone, heldRun, handing-on, isNew, dataTimed, recounted, resetTimed, ended}
 use Rattle.machine.proofs.Entries.{elem-there, elem-getD}
 use Rattle.machine.proofs.Blocks.{Places}
 use Rattle.promise.specs.History.{Pay}
@@ -153,3 +155,36 @@ module _ (W : ℕ) (e : End) (wide : length (e .places) ≡ W) (s : ℕ) (p : Li
           fun-ext (λ k. ap orNone (pass-reads n ps k) ∙ pays-then (n + k)),
           run-then,
         )
+
+-- ---- the end of a frame
+
+module _ (w : List ℕ) where
+  -- Data's alters no place
+  data-view : (e : End) (s : ℕ) → recvOf (dataTimed e s) w ≡ recvOf e w
+  data-view e s = sides (numberAt e s .handed && not (numberAt e s .acked))
+    where
+      sides : (b : Bool)
+          → recvOf (pick b (numbered (e .start) (timed (e .entry .timeout) false e s) e) e) w ≡ recvOf e w
+      sides true = refl
+      sides false = refl
+
+  recounted-view : (z : State) (d : End) → r-state-of (d .state) ≡ r-state-of z → recvOf (recounted z d) w ≡ recvOf d w
+  recounted-view Closed d q = refl
+  recounted-view (Enabled timer sent) d q = refl
+  recounted-view Open d q = refl
+  recounted-view (Failing n) d q = rw q
+
+  timer-view : (z : State) (e : End) → e .state ≡ z → recvOf (resetTimed z e) w ≡ recvOf e w
+  timer-view Closed e q = refl
+  timer-view (Enabled timer true) e q = rw q
+  timer-view (Enabled timer false) e q = refl
+  timer-view Open e q = refl
+  timer-view (Failing n) e q = refl
+
+  -- timers are no part of what is seen
+  pub ended-view : (e : End) (q : FrameType) (s : ℕ) → recvOf (ended q e s) w ≡ recvOf e w
+  ended-view e type.Data s =
+      let v = data-view e s in recounted-view (e .state) (dataTimed e s) (ap (λ (x : Recv). x .state) v) ∙ v
+  ended-view e type.Acknowledge s = refl
+  ended-view e type.Reset s = timer-view (e .state) e refl
+  ended-view e type.Urgent s = refl

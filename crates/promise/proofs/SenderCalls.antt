@@ -1,4 +1,4 @@
--- The sender's entry as it is watched, and the host's calls on the sender's machine. Assumes nothing.
+-- The sender's entry as it is watched, and the host's calls and the report on the sender's machine. Assumes nothing.
 use Prim.Native.Nat.{ℕ, _<_}
 use mathlib.Core.Path.{_≡_, refl, sym, ap, subst}
 use mathlib.Core.Option.{some}
@@ -10,7 +10,7 @@ use Rattle.table.specs.Layout.{entryOf}
 use Rattle.table.specs.declared.Entry.{Entry}
 use Rattle.frame.specs.Layout.{payloadOf}
 use Rattle.frame.specs.Reading.{readOf}
-use Rattle.machine.specs.Calls.{Call, opens, closes, counts, sends, urges, arrives, hands-out, Answer}
+use Rattle.machine.specs.Calls.{Call, opens, closes, counts, sends, urges, arrives, hands-out, reports, Answer}
 use Rattle.machine.specs.Machine.{End, Machine, Outcome, sendTests, taking, step}
 use Rattle.machine.specs.Sound.{Sound}
 use Rattle.machine.proofs.Hosting.{clear-send}
@@ -19,8 +19,8 @@ use Rattle.promise.specs.Seen.{isDone, frameIn, s-in, s-out, s-seen, s-s
 use Rattle.promise.proofs.Channel.{Send}
 use Rattle.promise.proofs.Laws.{SNext, sn-same, sn-accept, sn-end}
 use Rattle.promise.proofs.Entries.{entry-is}
-use Rattle.promise.proofs.Watched.{Watch, Step, counts-step, unseen, opens-step, closes-step, sends-step, urges-step}
-use Rattle.promise.proofs.SenderView.{sendOf, sent-view}
+use Rattle.promise.proofs.Watched.{Watch, Step, counts-step, unseen, opens-step, closes-step, sends-step, urges-step, reports-step}
+use Rattle.promise.proofs.SenderView.{sendOf, sent-view, ended-view}
 
 pub s-comes : (e : Entry) (i : ℕ) (block f : List ℕ) (a : Answer)
     → s-seen e i (arrives block f) a ≡ pick (isDone (a .numbers)) (s-in e (readOf f)) s-quiet
@@ -86,3 +86,8 @@ module _ (t : List ℕ) (m : Machine) (S : Sound t m) (i : ℕ) (e : End) (there
   s-urges j p =
       urges-step K t m S i e there p s-quiet (unseen K t m S i e there (λ k. urges k p) (λ k a. refl))
       (λ c. sn-same (sendOf e)) j
+
+  -- the end of a frame: a timer starts at most
+  pub s-reports : SStep t m i e reports (step m reports)
+  unfolding s-seen
+  s-reports = reports-step K t m S i e there (ended-view e) refl

@@ -43,17 +43,17 @@ module _ (t : List ℕ) (m : Machine) (S : Sound t m) (i : ℕ) (e : End) (there
     abbrev own : SSeen
     own = s-sends s (numberAt x s .payload)
 
-    data-out : WaitsData x s → handed q x s ≡ numbered (x .start) (timed (x .entry .timeout) false x s) x
+    data-out : WaitsData x s → handed q x s ≡ numbered (x .start) (timed 0 false x s) x
         → SNext W (sendOf x) own (sendOf (handed q x s))
     data-out h z =
         let byte : byteOf (x .start + offset x s) ≡ s =
         distance-back (x .start) s (S .bounded (w .item .entry) x (w .owned .there) .start) (w .owned .byte) in
-        let view = ap sendOf z ∙ handed-view x s (x .entry .timeout) (h .taken) (h .missing) in
+        let view = ap sendOf z ∙ handed-view x s 0 (h .taken) (h .missing) in
         subst (SNext W (sendOf x) own) (sym view)
         (subst (λ (b : ℕ). SNext W (sendOf x) (s-sends b (numberAt x s .payload)) (s-hand (offset x s) (sendOf x))) byte
         (sn-send (sendOf x) (offset x s) (ap s-state-of (h .opened)) (h .taken)))
 
-    data-step : WaitsData x s → handed q x s ≡ numbered (x .start) (timed (x .entry .timeout) false x s) x
+    data-step : WaitsData x s → handed q x s ≡ numbered (x .start) (timed 0 false x s) x
         → s-went (entryOf t i) (headerOut m q x s) (carried q x s) (typeOf q)
         ≡ pick (names (entryOf t i) (x .entry .remote .0) (x .entry .channel .0)) own s-quiet
         → SStep t m i e (hands-out buffer) (leaving m buffer q w)

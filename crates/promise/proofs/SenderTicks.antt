@@ -10,11 +10,10 @@ use lib.Dec.{eqb}
 use borrow.Author.Tests.{eq-eqb, ne-eqb}
 use Rattle.units.specs.Refusals.{pick}
 use Rattle.table.specs.Layout.{entryOf}
-use Rattle.end_points.specs.States.{isOver}
 use Rattle.end_points.specs.declared.State.{State}
 use Rattle.end_points.specs.declared.State.the-variants.{Closed, Enabled, Open, Failing}
 use Rattle.machine.specs.Calls.{ticks}
-use Rattle.machine.specs.Machine.{End, Machine, anew, anySpent, tickedAll, step}
+use Rattle.machine.specs.Machine.{End, Machine, anew, anySpent, tickedAll, mayRecover, step}
 use Rattle.machine.specs.LawsTick.{timers, Recovers, TickRecovers}
 use Rattle.machine.proofs.Timers.{fell, timed}
 use Rattle.machine.proofs.Ticking.{timers-end, tick-recovers}
@@ -63,7 +62,7 @@ module _ (t : List ℕ) (m : Machine) (i : ℕ) (e : End) (there : getElem? (m .
   unfolding s-seen
   seen = rw (recovers .numbers)
 
-  over : isOver (timed e .state) ≡ true → SStep t m i e ticks (step m ticks)
+  over : mayRecover (timers m .under) i (timed e) ≡ true → SStep t m i e ticks (step m ticks)
   over o =
       let b : bit ≡ 1 = recovers .bit i .1 (timed e, fell-there, o) in
       seen-as (s-watch t i) i m e (seen ∙ rw (eq-eqb bit 1 b)) (record {
@@ -72,7 +71,7 @@ module _ (t : List ℕ) (m : Machine) (i : ℕ) (e : End) (there : getElem? (m .
         next = sn-end _ _;
       })
 
-  still : isOver (timed e .state) ≡ false → SStep t m i e ticks (step m ticks)
+  still : mayRecover (timers m .under) i (timed e) ≡ false → SStep t m i e ticks (step m ticks)
   still o =
       seen-as (s-watch t i) i m e (seen ∙ rw (ne-eqb bit 1 none)) (record {
         end = timed e;
@@ -84,11 +83,11 @@ module _ (t : List ℕ) (m : Machine) (i : ℕ) (e : End) (there : getElem? (m .
       none b =
           let x = recovers .bit i .0 b in
           let same : x .0 ≡ timed e = some-same (sym (x .1) ∙ fell-there) in
-          true≢false (sym (x .2) ∙ ap (λ (y : End). isOver (y .state)) same ∙ o)
+          true≢false (sym (x .2) ∙ ap (mayRecover (timers m .under) i) same ∙ o)
 
   pub s-ticks : SStep t m i e ticks (step m ticks)
-  s-ticks = sides (isOver (timed e .state)) refl
+  s-ticks = sides (mayRecover (timers m .under) i (timed e)) refl
     where
-      sides : (b : Bool) → isOver (timed e .state) ≡ b → SStep t m i e ticks (step m ticks)
+      sides : (b : Bool) → mayRecover (timers m .under) i (timed e) ≡ b → SStep t m i e ticks (step m ticks)
       sides true o = over o
       sides false o = still o

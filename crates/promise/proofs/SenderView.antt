@@ -11,9 +11,13 @@ use lib.ListN.{length, drop, getD, set, length-append, length-drop, length-set, 
 use lib.Seq.{getD-at, getD-drop}
 use lib.Dec.{ltb}
 use borrow.Author.Tests.{eq-eqb, ne-eqb, lt-ltb}
+use Rattle.units.specs.Refusals.{pick}
 use Rattle.window.specs.Numbers.{byteOf}
+use Rattle.frame.specs.declared.FrameType.{FrameType}
+use Rattle.frame.specs.declared.FrameType.the-variants as type
 use Rattle.end_points.specs.declared.State.{State}
-use Rattle.machine.specs.Machine.{Number, number, End, stated, numbered, offset, numberAt, taking, timed, ackedRun, passing, isSpent, fallen, tickedAll}
+use Rattle.end_points.specs.declared.State.the-variants.{Closed, Enabled, Open, Failing}
+use Rattle.machine.specs.Machine.{Number, number, End, stated, numbered, offset, numberAt, taking, timed, ackedRun, passing, dataTimed, recounted, resetTimed, ended, isSpent, fallen, tickedAll}
 use Rattle.machine.proofs.Numbers.{count-fallen}
 use Rattle.promise.specs.History.{Pay, SState}
 use Rattle.promise.specs.Seen.{s-state-of}
@@ -139,6 +143,17 @@ module _ (e : End) (s : ℕ) where
           let z = ap (λ (y : Number). y .handed) (List·getD-eq-default (e .numbers) none-there {n = d} (omega arith)) in
           absurd (true≢false (sym h ∙ z))
 
+  -- its timer alone is put anew, where it was handed out and not acknowledged
+  pub timed-view : (t : ℕ) → x .handed ≡ true → x .acked ≡ false
+      → sendOf (numbered (e .start) (timed t false e s) e) ≡ sendOf e
+  timed-view t h m =
+      let l = handed-taken h in
+      view-is (s-state-of (e .state)) (e .start) (timed t false e s) (e .accepted) (e .confirmed) (length (e .numbers))
+      _ _ _ (length-set (e .numbers) d (set-to false t))
+      (reads-stay (λ y. y .handed) (set-to false t) l h)
+      (reads-stay (λ y. y .acked) (set-to false t) l m)
+      (reads-stay (λ y. y .payload) (set-to false t) l refl)
+
   -- ---- an acknowledgement that counts
 
   module _ (W : ℕ) (narrow : length (e .numbers) ≤ W) where
@@ -185,6 +200,41 @@ module _ (e : End) (s : ℕ) where
           (λ k. dropped (λ y. y .handed) n k ∙ reads-stay (λ y. y .handed) (set-to true 0) l h (n + k))
           (λ k. dropped (λ y. y .acked) n k ∙ acked-marks (n + k))
           (λ k. dropped (λ y. y .payload) n k ∙ reads-stay (λ y. y .payload) (set-to true 0) l refl (n + k)))
+
+-- ---- the end of a frame
+
+-- Data's starts a timer at most
+data-view : (e : End) (s : ℕ) → sendOf (dataTimed e s) ≡ sendOf e
+data-view e s = sides (numberAt e s .handed) (numberAt e s .acked) refl refl
+  where
+    sides : (h a : Bool) → numberAt e s .handed ≡ h → numberAt e s .acked ≡ a
+        → sendOf (pick (h && not a) (numbered (e .start) (timed (e .entry .timeout) false e s) e) e) ≡ sendOf e
+    sides true true h a = refl
+    sides true false h a = timed-view e s (e .entry .timeout) h a
+    sides false a h k = refl
+
+-- a Failing end says anew how many run, and is Failing
+recounted-view : (z : State) (d : End) → s-state-of (d .state) ≡ s-state-of z → sendOf (recounted z d) ≡ sendOf d
+recounted-view Closed d q = refl
+recounted-view (Enabled timer sent) d q = refl
+recounted-view Open d q = refl
+recounted-view (Failing n) d q = rw q
+
+-- a Reset's starts a timer where one was handed out, and one was handed out then too
+reset-view : (z : State) (e : End) → e .state ≡ z → sendOf (resetTimed z e) ≡ sendOf e
+reset-view Closed e q = refl
+reset-view (Enabled timer true) e q = rw q
+reset-view (Enabled timer false) e q = refl
+reset-view Open e q = refl
+reset-view (Failing n) e q = refl
+
+-- timers are no part of what is seen
+pub ended-view : (e : End) (q : FrameType) (s : ℕ) → sendOf (ended q e s) ≡ sendOf e
+ended-view e type.Data s =
+    let v = data-view e s in recounted-view (e .state) (dataTimed e s) (ap (λ (x : Send). x .state) v) ∙ v
+ended-view e type.Acknowledge s = refl
+ended-view e type.Reset s = reset-view (e .state) e refl
+ended-view e type.Urgent s = refl
 
 -- ---- a tick
 

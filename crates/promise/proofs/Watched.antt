@@ -1,9 +1,9 @@
 -- One entry of a machine, watched: it is seen as an end point of the channel, and each call is to be a step of that.
--- Here the host's calls, for a sender and a receiver alike. Assumes nothing.
+-- Here the host's calls and the report, for a sender and a receiver alike. Assumes nothing.
 use Prim.Native.Nat.{ℕ}
 use mathlib.Core.Path.{_≡_, refl, sym, ap, subst, _∙_}
-use mathlib.Core.Bool.{Bool, true, false, _&&_}
-use mathlib.Core.Option.{some}
+use mathlib.Core.Bool.{Bool, true, false, true≢false, _&&_}
+use mathlib.Core.Option.{Option, none, some}
 use mathlib.Core.List.{List, []}
 use native.Mathlib.Decide.{ℕ-discrete}
 use lib.ListN.{length, getElem?, set}
@@ -15,18 +15,21 @@ use Rattle.units.proofs.Judging.{Clear, clear, refused-not-zero}
 use Rattle.frame.specs.Faults.{refusedOf}
 use Rattle.frame.specs.Layout.{payloadOf}
 use Rattle.frame.specs.Reading.{readOf}
+use Rattle.frame.specs.declared.FrameType.{FrameType}
 use Rattle.frame.specs.declared.Read.{Read}
 use Rattle.frame.specs.declared.Read.the-variants as read
 use Rattle.end_points.specs.States.{isSends}
 use Rattle.end_points.specs.declared.State.the-variants.{Closed, Enabled}
-use Rattle.machine.specs.Calls.{Call, opens, closes, counts, sends, urges, arrives, hands-out, Answer}
-use Rattle.machine.specs.Machine.{End, acks, resets, urgents, datas, Machine, Outcome, turned, urging, anew, enabled, silent, waits, past, done, unless, onEntry, sendTests, taking, opening, closing, sending, urgentSending, step}
+use Rattle.machine.specs.Calls.{Call, opens, closes, counts, sends, urges, arrives, hands-out, reports, Answer}
+use Rattle.machine.specs.Machine.{End, acks, resets, urgents, datas, Out, Machine, Outcome, turned, urging, anew, enabled, silent, waits, past, done, unless, onEntry, sendTests, taking, opening, closing, sending, urgentSending, ended, reported, reporting, isOf, step}
 use Rattle.machine.specs.Sound.{Sound}
 use Rattle.machine.specs.Laws.{On, Untouched, OthersStay}
 use Rattle.machine.specs.LawsCalls.{CountsTell}
+use Rattle.machine.specs.LawsReporting.{ReportEnds}
 use Rattle.machine.proofs.Entries.{elem-lt, elem-set-same}
 use Rattle.machine.proofs.Judged.{by-verdict}
 use Rattle.machine.proofs.Hosting.{openTests, closeTests, urgentTests, counts-tell}
+use Rattle.machine.proofs.Reporting.{report-ends}
 use Rattle.machine.proofs.Apart.{others-stay}
 use Rattle.promise.specs.Seen.{isDone, frameIn}
 use Rattle.promise.specs.Link.{owedTo}
@@ -192,3 +195,33 @@ module _ (K : Watch) (t : List ℕ) (m : Machine) (S : Sound t m) (i : ℕ) (e :
   urges-step p own seen =
       entry-step (λ j. urges j p) (λ j h. h) own seen (urgentTests m p)
       (waits urgents i 0 (turned i (urging (some p) e) m)) (urging (some p) e) (rw there) refl
+
+  -- ---- the report
+
+  -- the end of a frame of entry i leaves its end point seen as before; of another's it leaves all
+  pub reports-step : ((q : FrameType) (s : ℕ) → K .view (ended q e s) (owed i m) ≡ K .view e (owed i m))
+      → K .seen reports (step m reports .answer) ≡ K .quiet → Step K i m e reports (step m reports)
+  unfolding ReportEnds step reporting reported
+  reports-step stays q = sides (m .under) refl
+    where
+      other : isOf i (m .under) ≡ false → Step K i m e reports (step m reports)
+      other n = elsewhere reports (λ h. true≢false (sym h ∙ n)) q
+
+      here : (f : Out) → m .under ≡ some f → f .1 .entry ≡ i
+          → getElem? (step m reports .machine .ends) i ≡ some (ended (f .0) e (f .1 .number))
+      here f under c =
+          rw (under, c, there)
+          (elem-set-same (m .ends) i (ended (f .0) e (f .1 .number)) (elem-lt (m .ends) i there))
+
+      waits : owed i (step m reports .machine) ≡ owed i m
+      waits = ap (owedTo i) (report-ends m .waiting acks)
+
+      own : (f : Out) → m .under ≡ some f → Dec (f .1 .entry ≡ i) → Step K i m e reports (step m reports)
+      own f under (yes c) =
+          let d = ended (f .0) e (f .1 .number) in
+          still K i m e _ (step m reports) d (here f under c) (ap (K .view d) waits ∙ stays (f .0) (f .1 .number)) q
+      own f under (no d) = other (ap (isOf i) under ∙ ne-eqb (f .1 .entry) i d)
+
+      sides : (u : Option Out) → m .under ≡ u → Step K i m e reports (step m reports)
+      sides none under = other (ap (isOf i) under)
+      sides (some f) under = own f under (ℕ-discrete (f .1 .entry) i)

@@ -23,10 +23,10 @@ use Rattle.frame.proofs.Parts.{byte}
 use Rattle.arrive_lookup.specs.Fitting as fitting
 use Rattle.blocks.specs.Blocks.{offsets, joinedUp, blockOf}
 use Rattle.blocks.specs.Reading.{get32Of, payloadIn, payloadsIn, readBlock}
-use Rattle.machine.specs.Calls.{Call, opens, sends, arrives, hands-out, ticks, Answer, Fed}
+use Rattle.machine.specs.Calls.{Call, opens, sends, arrives, hands-out, reports, ticks, Answer, Fed}
 use Rattle.machine.specs.Machine as machine
 use Rattle.machine.specs.Machine.{Machine, begun, step, SetUp}
-use Rattle.promise.specs.History.{Pay, SState, s-enabled, s-open, s-first, reset, data!, Tag, old, new, ack, SSeen, s-quiet, s-accepts, s-resets, s-sends, s-hears, RSeen, r-acks, r-resets, r-takes, SOwn, ROwn, s-note, r-note}
+use Rattle.promise.specs.History.{Pay, SState, s-enabled, s-open, s-first, reset, data!, Tag, old, new, ack, SSeen, s-quiet, s-accepts, s-resets, s-sends, s-hears, RSeen, r-quiet, r-acks, r-resets, r-takes, SOwn, ROwn, s-note, r-note}
 use Rattle.promise.specs.Promise.{SSide, RSide, Sys, begin, Move, at-sender, at-receiver, ack-comes, reset-comes, data-comes, Moves, no-move, and-then, Reach, at-setup, by-call, AsPromised, Demand3}
 use Rattle.promise.specs.Seen.{Event, s-seen, r-seen}
 use Rattle.promise.specs.Link.{Did, sender, receiver, Paired, Promise}
@@ -46,7 +46,7 @@ unfolding offsets joinedUp blockOf get32Of payloadIn payloadsIn readBlock
 blocks = tt
 
 calls : Unit {0}
-unfolding machine.without machine.enabled machine.listed machine.begun machine.opening machine.sending machine.handingOut machine.inOrder machine.goingOut machine.frameOf machine.ticking machine.each machine.ticked machine.tickedAll machine.anySpent machine.againFrom machine.running machine.bitsFrom machine.step
+unfolding machine.without machine.enabled machine.listed machine.begun machine.opening machine.sending machine.handingOut machine.inOrder machine.goingOut machine.frameOf machine.reporting machine.reported machine.ticking machine.each machine.ticked machine.tickedAll machine.anySpent machine.againFrom machine.running machine.bitsFrom machine.step
 calls = tt
 
 coming : Unit {0}
@@ -200,15 +200,16 @@ ack-in s f x m n fed said seen out near =
     (did (s .sender) (arrives [] f) x (λ k. byte f k fed) (ap (λ (q : Answer × ℕ). q .0) said)) seen out
     (rw (ap (λ (q : Answer × ℕ). q .1) said) (leb→le m (n + (256 - W)) near))
 
--- at the receiver: an acknowledgement goes out
-ack-out : (s : Sys A B) (f : List ℕ) (n : ℕ)
-    → answer (s .receiver) (hands-out buffer) ≡ went f
-    → B .seen (event (hands-out buffer) (went f)) ≡ r-acks n
-    → Move W A B s (r-does s (hands-out buffer) (old 0) (s .hist .dataIn) (r-acks n))
-ack-out s f n said seen =
-    subst (λ (z : RSeen). ROwn z → Move W A B s (r-does s (hands-out buffer) (old 0) (s .hist .dataIn) z)) seen
-    (λ o. at-receiver s (event (hands-out buffer) (went f)) (after (s .receiver) (hands-out buffer))
-    (did (s .receiver) (hands-out buffer) (went f) tt said) o) tt
+-- at the receiver: a call that brings no frame in
+r-own : (s : Sys A B) (c : Call) (x : Answer) (y : RSeen)
+    → Fed c
+    → answer (s .receiver) c ≡ x
+    → B .seen (event c x) ≡ y
+    → ROwn y
+    → Move W A B s (r-does s c (old 0) (s .hist .dataIn) y)
+r-own s c x y fed said seen own =
+    subst (λ (z : RSeen). ROwn z → Move W A B s (r-does s c (old 0) (s .hist .dataIn) z)) seen
+    (λ o. at-receiver s (event c x) (after (s .receiver) c) (did (s .receiver) c x fed said) o) own
 
 -- a Reset comes in, where nothing is held
 reset-in : (s : Sys A B) (f : List ℕ)
@@ -270,7 +271,7 @@ ack2 = 64 ∷ 238 ∷ 65 ∷ 1 ∷ 0 ∷ 0 ∷ 7 ∷ 2 ∷ 23 ∷ []
 abbrev ack3 : List ℕ
 ack3 = 64 ∷ 238 ∷ 65 ∷ 1 ∷ 0 ∷ 0 ∷ 7 ∷ 3 ∷ 16 ∷ []
 
--- ---- the run
+-- ---- the run: the port reports the end of every frame that is handed out
 
 abbrev g0 : Sys A B
 g0 = begin A B a b []
@@ -280,148 +281,196 @@ abbrev g1 : Sys A B
 g1 = s-does g0 (hands-out buffer) 0 s-resets
 
 abbrev g2 : Sys A B
-g2 = s-does g1 ticks 0 s-quiet
+g2 = s-does g1 reports 0 s-quiet
 
 abbrev g3 : Sys A B
-g3 = s-does g2 (hands-out buffer) 0 s-resets
+g3 = s-does g2 ticks 0 s-quiet
 
 abbrev g4 : Sys A B
-g4 = r-does g3 (arrives [] reset!) (new 0) false r-resets
+g4 = s-does g3 (hands-out buffer) 0 s-resets
 
 abbrev g5 : Sys A B
-g5 = r-does g4 (hands-out buffer) (old 0) (g4 .hist .dataIn) (r-acks 0)
+g5 = s-does g4 reports 0 s-quiet
 
 abbrev g6 : Sys A B
-g6 = s-does g5 (arrives [] ack0) 0 (s-hears 0)
+g6 = r-does g5 (arrives [] reset!) (new 0) false r-resets
 
-starts : Moves W A B g0 g6
-unfolding computes
-starts =
-    and-then (and-then (and-then (and-then (and-then (and-then no-move
-    (s-own g0 (hands-out buffer) (went reset!) 0 s-resets tt refl refl tt))
-    (s-own g1 ticks (says (0 ∷ [])) 0 s-quiet tt refl refl tt))
-    (s-own g2 (hands-out buffer) (went reset!) 0 s-resets tt refl refl tt))
-    (reset-in g3 reset! tt refl refl (List·Memᴰ·head refl) refl))
-    (ack-out g4 ack0 0 refl refl))
-    (ack-in g5 ack0 (says (0 ∷ 2 ∷ 0 ∷ [])) 1 0 tt refl refl (List·Memᴰ·head refl) tt)
-
--- two payloads are handed out; the first is lost; the second arrives, and once more: it is held
 abbrev g7 : Sys A B
-g7 = s-does g6 (sends 0 p1) 0 (s-accepts p1)
+g7 = r-does g6 (hands-out buffer) (old 0) (g6 .hist .dataIn) (r-acks 0)
 
 abbrev g8 : Sys A B
-g8 = s-does g7 (sends 0 p2) 0 (s-accepts p2)
+g8 = r-does g7 reports (old 0) (g7 .hist .dataIn) r-quiet
 
 abbrev g9 : Sys A B
-g9 = s-does g8 (hands-out buffer) 0 (s-sends 1 p1)
+g9 = s-does g8 (arrives [] ack0) 0 (s-hears 0)
 
+starts : Moves W A B g0 g9
+unfolding computes
+starts =
+    and-then (and-then (and-then (and-then (and-then (and-then (and-then (and-then (and-then no-move
+    (s-own g0 (hands-out buffer) (went reset!) 0 s-resets tt refl refl tt))
+    (s-own g1 reports (says (0 ∷ [])) 0 s-quiet tt refl refl tt))
+    (s-own g2 ticks (says (0 ∷ [])) 0 s-quiet tt refl refl tt))
+    (s-own g3 (hands-out buffer) (went reset!) 0 s-resets tt refl refl tt))
+    (s-own g4 reports (says (0 ∷ [])) 0 s-quiet tt refl refl tt))
+    (reset-in g5 reset! tt refl refl (List·Memᴰ·head refl) refl))
+    (r-own g6 (hands-out buffer) (went ack0) (r-acks 0) tt refl refl tt))
+    (r-own g7 reports (says (0 ∷ [])) r-quiet tt refl refl tt))
+    (ack-in g8 ack0 (says (0 ∷ 2 ∷ 0 ∷ [])) 1 0 tt refl refl (List·Memᴰ·head refl) tt)
+
+-- two payloads are handed out; the first is lost; the second arrives, and once more: it is held
 abbrev g10 : Sys A B
-g10 = s-does g9 (hands-out buffer) 0 (s-sends 2 p2)
+g10 = s-does g9 (sends 0 p1) 0 (s-accepts p1)
 
 abbrev g11 : Sys A B
-g11 = r-does g10 (arrives block data2) (new 2) true (r-takes 2 p2 [])
+g11 = s-does g10 (sends 0 p2) 0 (s-accepts p2)
 
 abbrev g12 : Sys A B
-g12 = r-does g11 (arrives block data2) (new 2) true (r-takes 2 p2 [])
+g12 = s-does g11 (hands-out buffer) 0 (s-sends 1 p1)
 
-holds : Moves W A B g0 g12
-unfolding computes
-holds =
-    and-then (and-then (and-then (and-then (and-then (and-then starts
-    (s-own g6 (sends 0 p1) (says (0 ∷ [])) 0 (s-accepts p1) tt refl refl tt))
-    (s-own g7 (sends 0 p2) (says (0 ∷ [])) 0 (s-accepts p2) tt refl refl tt))
-    (s-own g8 (hands-out buffer) (went data1) 0 (s-sends 1 p1) tt refl refl tt))
-    (s-own g9 (hands-out buffer) (went data2) 0 (s-sends 2 p2) tt refl refl tt))
-    (data-in g10 data2 2 p2 [] tt refl refl (List·Memᴰ·head refl) tt))
-    (data-in g11 data2 2 p2 [] tt refl refl (List·Memᴰ·head refl) tt)
-
--- a tick later both wait again; the first goes out and arrives: both are delivered
 abbrev g13 : Sys A B
-g13 = s-does g12 ticks 0 s-quiet
+g13 = s-does g12 reports 0 s-quiet
 
 abbrev g14 : Sys A B
-g14 = s-does g13 (hands-out buffer) 0 (s-sends 1 p1)
+g14 = s-does g13 (hands-out buffer) 0 (s-sends 2 p2)
 
 abbrev g15 : Sys A B
-g15 = r-does g14 (arrives block data1) (new 1) true (r-takes 1 p1 (p1 ∷ p2 ∷ []))
+g15 = s-does g14 reports 0 s-quiet
 
-delivers : Moves W A B g0 g15
-unfolding computes
-delivers =
-    and-then (and-then (and-then holds
-    (s-own g12 ticks (says (0 ∷ [])) 0 s-quiet tt refl refl tt))
-    (s-own g13 (hands-out buffer) (went data1) 0 (s-sends 1 p1) tt refl refl tt))
-    (data-in g14 data1 1 p1 (p1 ∷ p2 ∷ []) tt refl refl (List·Memᴰ·head refl) tt)
-
--- three acknowledgements go out, and the last of them comes first: one payload is confirmed
 abbrev g16 : Sys A B
-g16 = r-does g15 (hands-out buffer) (old 0) (g15 .hist .dataIn) (r-acks 2)
+g16 = r-does g15 (arrives block data2) (new 2) true (r-takes 2 p2 [])
 
 abbrev g17 : Sys A B
-g17 = r-does g16 (hands-out buffer) (old 0) (g16 .hist .dataIn) (r-acks 2)
+g17 = r-does g16 (arrives block data2) (new 2) true (r-takes 2 p2 [])
 
+holds : Moves W A B g0 g17
+unfolding computes
+holds =
+    and-then (and-then (and-then (and-then (and-then (and-then (and-then (and-then starts
+    (s-own g9 (sends 0 p1) (says (0 ∷ [])) 0 (s-accepts p1) tt refl refl tt))
+    (s-own g10 (sends 0 p2) (says (0 ∷ [])) 0 (s-accepts p2) tt refl refl tt))
+    (s-own g11 (hands-out buffer) (went data1) 0 (s-sends 1 p1) tt refl refl tt))
+    (s-own g12 reports (says (0 ∷ [])) 0 s-quiet tt refl refl tt))
+    (s-own g13 (hands-out buffer) (went data2) 0 (s-sends 2 p2) tt refl refl tt))
+    (s-own g14 reports (says (0 ∷ [])) 0 s-quiet tt refl refl tt))
+    (data-in g15 data2 2 p2 [] tt refl refl (List·Memᴰ·head refl) tt))
+    (data-in g16 data2 2 p2 [] tt refl refl (List·Memᴰ·head refl) tt)
+
+-- a tick later both wait again; the first goes out and arrives: both are delivered
 abbrev g18 : Sys A B
-g18 = r-does g17 (hands-out buffer) (old 0) (g17 .hist .dataIn) (r-acks 1)
+g18 = s-does g17 ticks 0 s-quiet
 
 abbrev g19 : Sys A B
-g19 = s-does g18 (arrives [] ack1) 0 (s-hears 1)
+g19 = s-does g18 (hands-out buffer) 0 (s-sends 1 p1)
 
-confirms : Moves W A B g0 g19
-unfolding computes
-confirms =
-    and-then (and-then (and-then (and-then delivers
-    (ack-out g15 ack2 2 refl refl))
-    (ack-out g16 ack2 2 refl refl))
-    (ack-out g17 ack1 1 refl refl))
-    (ack-in g18 ack1 (says (0 ∷ 1 ∷ 0 ∷ 1 ∷ [])) 1 1 tt refl refl (List·Memᴰ·head refl) tt)
-
--- there is room for a third payload; the second, which still waits, goes out before it and arrives after it, when it is passed
 abbrev g20 : Sys A B
-g20 = s-does g19 (sends 0 p3) 1 (s-accepts p3)
+g20 = s-does g19 reports 0 s-quiet
 
 abbrev g21 : Sys A B
-g21 = s-does g20 (hands-out buffer) 1 (s-sends 2 p2)
+g21 = r-does g20 (arrives block data1) (new 1) true (r-takes 1 p1 (p1 ∷ p2 ∷ []))
 
+delivers : Moves W A B g0 g21
+unfolding computes
+delivers =
+    and-then (and-then (and-then (and-then holds
+    (s-own g17 ticks (says (0 ∷ [])) 0 s-quiet tt refl refl tt))
+    (s-own g18 (hands-out buffer) (went data1) 0 (s-sends 1 p1) tt refl refl tt))
+    (s-own g19 reports (says (0 ∷ [])) 0 s-quiet tt refl refl tt))
+    (data-in g20 data1 1 p1 (p1 ∷ p2 ∷ []) tt refl refl (List·Memᴰ·head refl) tt)
+
+-- three acknowledgements go out, and the last of them comes first: one payload is confirmed
 abbrev g22 : Sys A B
-g22 = s-does g21 (hands-out buffer) 1 (s-sends 3 p3)
+g22 = r-does g21 (hands-out buffer) (old 0) (g21 .hist .dataIn) (r-acks 2)
 
 abbrev g23 : Sys A B
-g23 = r-does g22 (arrives block data3) (new 3) true (r-takes 3 p3 (p3 ∷ []))
+g23 = r-does g22 reports (old 0) (g22 .hist .dataIn) r-quiet
 
 abbrev g24 : Sys A B
-g24 = r-does g23 (arrives block data2) (new 2) true (r-takes 2 p2 [])
+g24 = r-does g23 (hands-out buffer) (old 0) (g23 .hist .dataIn) (r-acks 2)
 
-passes : Moves W A B g0 g24
-unfolding computes
-passes =
-    and-then (and-then (and-then (and-then (and-then confirms
-    (s-own g19 (sends 0 p3) (says (0 ∷ [])) 1 (s-accepts p3) tt refl refl tt))
-    (s-own g20 (hands-out buffer) (went data2) 1 (s-sends 2 p2) tt refl refl tt))
-    (s-own g21 (hands-out buffer) (went data3) 1 (s-sends 3 p3) tt refl refl tt))
-    (data-in g22 data3 3 p3 (p3 ∷ []) tt refl refl (List·Memᴰ·head refl) tt))
-    (data-in g23 data2 2 p2 [] tt refl refl (List·Memᴰ·tail (List·Memᴰ·head refl)) tt)
-
--- the third's acknowledgement comes before the second's, which was handed out long before it, and comes once more
 abbrev g25 : Sys A B
-g25 = r-does g24 (hands-out buffer) (old 0) (g24 .hist .dataIn) (r-acks 3)
+g25 = r-does g24 reports (old 0) (g24 .hist .dataIn) r-quiet
 
 abbrev g26 : Sys A B
-g26 = s-does g25 (arrives [] ack3) 0 (s-hears 3)
+g26 = r-does g25 (hands-out buffer) (old 0) (g25 .hist .dataIn) (r-acks 1)
 
 abbrev g27 : Sys A B
-g27 = s-does g26 (arrives [] ack2) 0 (s-hears 2)
+g27 = r-does g26 reports (old 0) (g26 .hist .dataIn) r-quiet
 
 abbrev g28 : Sys A B
-g28 = s-does g27 (arrives [] ack2) 0 (s-hears 2)
+g28 = s-does g27 (arrives [] ack1) 0 (s-hears 1)
 
-runs : Moves W A B g0 g28
+confirms : Moves W A B g0 g28
+unfolding computes
+confirms =
+    and-then (and-then (and-then (and-then (and-then (and-then (and-then delivers
+    (r-own g21 (hands-out buffer) (went ack2) (r-acks 2) tt refl refl tt))
+    (r-own g22 reports (says (0 ∷ [])) r-quiet tt refl refl tt))
+    (r-own g23 (hands-out buffer) (went ack2) (r-acks 2) tt refl refl tt))
+    (r-own g24 reports (says (0 ∷ [])) r-quiet tt refl refl tt))
+    (r-own g25 (hands-out buffer) (went ack1) (r-acks 1) tt refl refl tt))
+    (r-own g26 reports (says (0 ∷ [])) r-quiet tt refl refl tt))
+    (ack-in g27 ack1 (says (0 ∷ 1 ∷ 0 ∷ 1 ∷ [])) 1 1 tt refl refl (List·Memᴰ·head refl) tt)
+
+-- there is room for a third payload; the second, which still waits, goes out before it and arrives after it, when it is passed
+abbrev g29 : Sys A B
+g29 = s-does g28 (sends 0 p3) 1 (s-accepts p3)
+
+abbrev g30 : Sys A B
+g30 = s-does g29 (hands-out buffer) 1 (s-sends 2 p2)
+
+abbrev g31 : Sys A B
+g31 = s-does g30 reports 1 s-quiet
+
+abbrev g32 : Sys A B
+g32 = s-does g31 (hands-out buffer) 1 (s-sends 3 p3)
+
+abbrev g33 : Sys A B
+g33 = s-does g32 reports 1 s-quiet
+
+abbrev g34 : Sys A B
+g34 = r-does g33 (arrives block data3) (new 3) true (r-takes 3 p3 (p3 ∷ []))
+
+abbrev g35 : Sys A B
+g35 = r-does g34 (arrives block data2) (new 2) true (r-takes 2 p2 [])
+
+passes : Moves W A B g0 g35
+unfolding computes
+passes =
+    and-then (and-then (and-then (and-then (and-then (and-then (and-then confirms
+    (s-own g28 (sends 0 p3) (says (0 ∷ [])) 1 (s-accepts p3) tt refl refl tt))
+    (s-own g29 (hands-out buffer) (went data2) 1 (s-sends 2 p2) tt refl refl tt))
+    (s-own g30 reports (says (0 ∷ [])) 1 s-quiet tt refl refl tt))
+    (s-own g31 (hands-out buffer) (went data3) 1 (s-sends 3 p3) tt refl refl tt))
+    (s-own g32 reports (says (0 ∷ [])) 1 s-quiet tt refl refl tt))
+    (data-in g33 data3 3 p3 (p3 ∷ []) tt refl refl (List·Memᴰ·head refl) tt))
+    (data-in g34 data2 2 p2 [] tt refl refl (List·Memᴰ·tail (List·Memᴰ·head refl)) tt)
+
+-- the third's acknowledgement comes before the second's, which was handed out long before it, and comes once more
+abbrev g36 : Sys A B
+g36 = r-does g35 (hands-out buffer) (old 0) (g35 .hist .dataIn) (r-acks 3)
+
+abbrev g37 : Sys A B
+g37 = r-does g36 reports (old 0) (g36 .hist .dataIn) r-quiet
+
+abbrev g38 : Sys A B
+g38 = s-does g37 (arrives [] ack3) 0 (s-hears 3)
+
+abbrev g39 : Sys A B
+g39 = s-does g38 (arrives [] ack2) 0 (s-hears 2)
+
+abbrev g40 : Sys A B
+g40 = s-does g39 (arrives [] ack2) 0 (s-hears 2)
+
+runs : Moves W A B g0 g40
 unfolding computes
 runs =
-    and-then (and-then (and-then (and-then passes
-    (ack-out g24 ack3 3 refl refl))
-    (ack-in g25 ack3 (says (0 ∷ 1 ∷ 0 ∷ 0 ∷ [])) 2 3 tt refl refl (List·Memᴰ·head refl) tt))
-    (ack-in g26 ack2 (says (0 ∷ 1 ∷ 0 ∷ 2 ∷ [])) 2 2 tt refl refl (List·Memᴰ·tail (List·Memᴰ·tail (List·Memᴰ·head refl))) tt))
-    (ack-in g27 ack2 (says (0 ∷ 0 ∷ 0 ∷ [])) 4 2 tt refl refl (List·Memᴰ·tail (List·Memᴰ·tail (List·Memᴰ·head refl))) tt)
+    and-then (and-then (and-then (and-then (and-then passes
+    (r-own g35 (hands-out buffer) (went ack3) (r-acks 3) tt refl refl tt))
+    (r-own g36 reports (says (0 ∷ [])) r-quiet tt refl refl tt))
+    (ack-in g37 ack3 (says (0 ∷ 1 ∷ 0 ∷ 0 ∷ [])) 2 3 tt refl refl (List·Memᴰ·head refl) tt))
+    (ack-in g38 ack2 (says (0 ∷ 1 ∷ 0 ∷ 2 ∷ [])) 2 2 tt refl refl (List·Memᴰ·tail (List·Memᴰ·tail (List·Memᴰ·head refl))) tt))
+    (ack-in g39 ack2 (says (0 ∷ 0 ∷ 0 ∷ [])) 4 2 tt refl refl (List·Memᴰ·tail (List·Memᴰ·tail (List·Memᴰ·head refl))) tt)
 
 -- ---- what it shows
 
@@ -429,7 +478,7 @@ runs =
 abbrev shown : Machine → SState × ℕ × ℕ
 shown n = (A .state n, A .accepted n, A .confirmed n)
 
-at-end : shown (g28 .sender) ≡ (s-open, 3, 3)
+at-end : shown (g40 .sender) ≡ (s-open, 3, 3)
 unfolding computes
 at-end = refl
 
@@ -451,7 +500,7 @@ window-2 : W ≡ 2
 unfolding computes
 window-2 = refl
 
-worked : Worked g28
+worked : Worked g40
 worked =
     record {
       paired = paired;
@@ -468,10 +517,10 @@ worked =
     }
 
 pub worked-machines : (end : Sys A B) × Worked end
-worked-machines = (g28, worked)
+worked-machines = (g40, worked)
 
 -- the promise speaks of this run
-pub applies : Promise → AsPromised (A .accepted (g28 .sender)) (A .confirmed (g28 .sender)) (g28 .hist)
+pub applies : Promise → AsPromised (A .accepted (g40 .sender)) (A .confirmed (g40 .sender)) (g40 .hist)
 unfolding Promise Demand3
 applies promise =
-    promise sends-table 0 receives-table 0 paired a b [] reached reached′ enabled g28 runs (rw (worked .opened) tt)
+    promise sends-table 0 receives-table 0 paired a b [] reached reached′ enabled g40 runs (rw (worked .opened) tt)

@@ -73,7 +73,7 @@ blank delivered tags =
 
 -- what one call on the sender's node was for its entry, read from the call and its answer alone [P1, P2]
 pub data SSeen : Type 0 where
-  s-quiet : SSeen  -- refused; another entry's; counts; Urgent; a tick that does not answer the entry's bit
+  s-quiet : SSeen  -- refused; another entry's; counts; Urgent; a report; a tick that does not answer the entry's bit
   s-accepts : (p : Pay) → SSeen  -- send, not refused
   s-resets : SSeen  -- a Reset of the entry was handed out
   s-sends : (b : ℕ) (p : Pay) → SSeen  -- Data of the entry was handed out, with its sequence byte and its payload
@@ -82,7 +82,7 @@ pub data SSeen : Type 0 where
 
 -- the same of a call on the receiver's node [P2, P3]
 pub data RSeen : Type 0 where
-  r-quiet : RSeen  -- refused; another entry's; open; Urgent
+  r-quiet : RSeen  -- refused; another entry's; open; Urgent; a report
   r-acks : (b : ℕ) → RSeen  -- an Acknowledge of the entry was handed out
   r-resets : RSeen  -- a Reset for the entry came in and was not refused
   r-takes : (b : ℕ) (p : Pay) (given : List Pay) → RSeen  -- Data came in, not refused; the payloads of its block

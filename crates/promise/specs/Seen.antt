@@ -17,7 +17,8 @@ use Rattle.frame.specs.declared.FrameType.the-variants as type
 use Rattle.end_points.specs.declared.State.{State}
 use Rattle.end_points.specs.declared.State.the-variants as state
 use Rattle.blocks.specs.Reading.{readBlock}
-use Rattle.machine.specs.Calls.{Call, opens, closes, counts, sends, urges, arrives, hands-out, ticks, Answer}
+use Rattle.machine.specs.Calls.{Call, opens, closes, counts, sends, urges, arrives, hands-out, reports, ticks}
+use Rattle.machine.specs.Calls.{Answer}
 use Rattle.promise.specs.History.{Pay, SState, s-closed, s-enabled, s-open, s-failing}
 use Rattle.promise.specs.History.{SSeen, s-quiet, s-accepts, s-resets, s-sends, s-hears, s-ends}
 use Rattle.promise.specs.History.{RSeen, r-quiet, r-acks, r-resets, r-takes, r-closes}
@@ -77,6 +78,7 @@ s-seen e i (urges j p) a = s-quiet
 s-seen e i (arrives block f) a = pick (isDone (a .numbers)) (s-in e (readOf f)) s-quiet
 s-seen e i (hands-out buffer) a =
     pick (isDone (a .numbers)) (s-out e (readOf (frameIn a)) (payloadOf (frameIn a))) s-quiet
+s-seen e i reports a = s-quiet
 s-seen e i ticks a = pick (bitOf (getD (a .numbers) 0 0) i) s-ends s-quiet
 
 -- ---- seen at the receiver's node
@@ -111,6 +113,7 @@ r-seen e j (urges i p) a = r-quiet
 r-seen e j (arrives block f) a =
     pick (isDone (a .numbers)) (r-in e (readOf f) (payloadOf f) (readBlock (a .out))) r-quiet
 r-seen e j (hands-out buffer) a = pick (isDone (a .numbers)) (r-out e (readOf (frameIn a))) r-quiet
+r-seen e j reports a = r-quiet
 r-seen e j ticks a = r-quiet
 
 -- ---- a sender's state, as far as the promise speaks of it

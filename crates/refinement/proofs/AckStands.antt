@@ -15,6 +15,7 @@ use Rattle.units.specs.Refusals.{pick}
 use Rattle.memory.specs.Layout.{allCells, timerAt, retriesAt, cellId, quietAt}
 use Rattle.waiting.specs.Queues.{unlinked}
 use Rattle.waiting.specs.Order.{acksIn}
+use Rattle.waiting.specs.Port.{underIn, isReset}
 use Rattle.window.specs.Numbers.{byteOf}
 use Rattle.window.specs.Windows.{offsetOf, Good as GoodWindow}
 use Rattle.window.specs.declared.Window.{Window}
@@ -64,9 +65,9 @@ use Rattle.refinement.specs.Standing.{Reading, readAt, stateFor, numberF
 use Rattle.refinement.proofs.Listing.{map-ext}
 use Rattle.refinement.proofs.Elsewhere.{no-places, Leaves, leaves, end-at, still, turned-stands}
 use Rattle.refinement.proofs.Waiting.{silent-steady, windows-other, lists-are, waits-still, without-map, sender-acks, silent-stands}
-use Rattle.refinement.proofs.Following.{low-at, stated-at, stated-then, item-for, item-at}
+use Rattle.refinement.proofs.Following.{stateIn, low-at, stated-at, stated-then, item-for, item-at}
 use Rattle.refinement.proofs.Passing.{start-past}
-use Rattle.refinement.proofs.Numbers.{counts-is, run-is, numbers-then, running-is}
+use Rattle.refinement.proofs.Numbers.{counts-is, run-is, numbers-then}
 
 -- what a frame that is taken in came to, and what the machine makes of it
 pub record Takes (t : List ℕ) (o : Outcome) (a : Arrived) (x : Lent) : Type 0 where
@@ -196,7 +197,7 @@ module _ (t : List ℕ) (n : Memory) (l : Lists) (g : Good t (n .node) (n .book)
           mod-eq-of-lt (omega (arith, S .counted, S .handed))
 
       E-then : (z z′ : State) → e .state ≡ z → endOf (now z .node) i ≡ turnedTo e z′ acked → now z .book ≡ b
-          → endAt (kept (now z)) i ≡ stated (stateFor L z′) passed
+          → endAt (kept (now z)) i ≡ stated (stateFor L (isReset (underIn b) i) (passed .numbers) z′) passed
       unfolding endFor memory.ackedRun
       E-then z z′ q end book =
           end-at (left z q) end
@@ -381,7 +382,7 @@ module _ (t : List ℕ) (n : Memory) (l : Lists) (g : Good t (n .node) (n .book)
       open-counts = (
         acked-run-is (O .sending) timer (book .retries),
         turned-stands g room li K
-            (E-then (O .sending) timer (book .retries) Open Open q end book-is ∙ ap (λ (z : State). stated (stateFor L z) passed) (sym q)) waiting,
+            (E-then (O .sending) timer (book .retries) Open Open q end book-is ∙ ap (λ (z : State). stated (stateIn L (n .store) (n .book) i e z) passed) (sym q)) waiting,
       )
 
     -- ---- Failing
@@ -419,15 +420,6 @@ module _ (t : List ℕ) (n : Memory) (l : Lists) (g : Good t (n .node) (n .book)
       run-f : ackedRun noted ≡ p
       run-f = acked-run-is (F .sending) timer-f retries-f
 
-      fewer-is : fewer ≡ running (passed .numbers)
-      unfolding memory.ackedRun
-      fewer-is =
-          let F′ = stated-then (left (Failing m) q) li true kind (Failing fewer) end-f in
-          F′ .timers ∙ ap (λ (b : List ℕ). good.running b i (e-f .run .window) (e-f .run .handed)) book-f
-          ∙ sym (running-is L zero-left (n .store) b-f i e-f (e .run .taken - p) (F′ .sending .handed))
-          ∙ ap running (sym (numbers-left (F .sending) timer-f retries-f (Failing fewer)))
-          ∙ ap (λ (p : ℕ). running (drop p noted)) (sym run-f)
-
       abbrev saved-f : List ℕ
       saved-f = saved (n .node) i (Failing fewer) acked
 
@@ -437,8 +429,7 @@ module _ (t : List ℕ) (n : Memory) (l : Lists) (g : Good t (n .node) (n .book)
       failing-counts = (
         run-f,
         turned-stands g room li (left (Failing m) q)
-            (E-then (F .sending) timer-f retries-f (Failing m) (Failing fewer) q end-f book-f
-            ∙ ap (λ (j : ℕ). stated (Failing j) passed) fewer-is)
+            (E-then (F .sending) timer-f retries-f (Failing m) (Failing fewer) q end-f book-f)
             (waits-still (left (Failing m) q) (silent-steady (F .silent))
             (rw c (clocked-acks saved-f (roused saved-f) (clocked-set saved-f quietAt 0 (omega arith) (omega arith))
             ∙ saved-acks (n .node) i (Failing fewer) acked .1)) book-f
@@ -504,13 +495,13 @@ module _ (t : List ℕ) (n : Memory) (l : Lists) (g : Good t (n .node) (n .book)
           record { numbers = ap (λ (k : ℕ). 0 ∷ 1 ∷ i ∷ k ∷ []) (sym (counts c .0)); out = refl; stands = counts c .1 }
       sides false c = rw (stays c) same
 
-  takes-in : (z : State) → e .state ≡ z → Takes t (acking M block i E s (stateFor L z)) (At i (ackAnswer e z s)) (now z)
+  takes-in : (z : State) → e .state ≡ z → Takes t (acking M block i E s (stateIn L (n .store) (n .book) i e z)) (At i (ackAnswer e z s)) (now z)
   unfolding acking ackAnswer ackNode ackBook
   takes-in Closed q = same
   takes-in (Enabled timer₀ sent) q = sides (sent && eqb s 0) refl
     where
       sides : (z : Bool) → (sent && eqb s 0) ≡ z
-          → Takes t (acking M block i E s (Enabled (L timer₀) sent)) (At i (ackAnswer e (Enabled timer₀ sent) s)) (now (Enabled timer₀ sent))
+          → Takes t (acking M block i E s (stateIn L (n .store) (n .book) i e (Enabled timer₀ sent))) (At i (ackAnswer e (Enabled timer₀ sent) s)) (now (Enabled timer₀ sent))
       sides true c = rw c (record { numbers = refl; out = refl; stands = rw c at (opened-stands timer₀ sent q c) })
       sides false c = rw c same
   takes-in Open q =

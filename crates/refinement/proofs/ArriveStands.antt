@@ -181,7 +181,7 @@ module _ (t : List ℕ) (n : Memory) (l : Lists) (g : Good t (n .node) (n .book)
     -- the tests are the same: how many acknowledgements wait, the store that is needed, the window in force
     same : verdict (machine.entryTests M (endAt n i) (h .kind) (h .length) (length block)) ≡ entryVerdict x i h
     unfolding endFor
-    same = rw (closed-for (readAt n) (e .state), open-for (readAt n) (e .state), waiting-is, lt-leb (countIn (n .node)) i li, g .tabled .need, size-is g li)
+    same = rw (closed-for (readAt n) (n .store) (n .book) i e (e .state), open-for (readAt n) (n .store) (n .book) i e (e .state), waiting-is, lt-leb (countIn (n .node)) i li, g .tabled .need, size-is g li)
 
     passed : entryVerdict x i h ≡ Passed → TakesAs (h .kind)
     passed v =

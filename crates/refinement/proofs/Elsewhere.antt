@@ -8,10 +8,11 @@ use mathlib.Core.Option.{Option, none, some}
 use mathlib.Core.List.{List}
 use native.Mathlib.Omega.{arith}
 use lib.ListN.{length, getD, take, drop, replicate, set}
-use lib.Dec.{eqb}
+use lib.Dec.{eqb, ltb}
 use lib.Seq.{sets}
 use borrow.Author.Tests.{not-true, eq-eqb}
 use Rattle.units.specs.Refusals.{pick}
+use Rattle.waiting.specs.Port.{underIn, isReset, dataOut}
 use Rattle.memory.specs.Layout.{cellsAt, lengthAt, timerAt, retriesAt}
 use Rattle.window.specs.Windows.{held, Good as GoodWindow}
 use Rattle.table.specs.Layout.{countOf, entryOf}
@@ -23,6 +24,7 @@ use Rattle.end_points.specs.Lent.{Lent}
 use Rattle.end_points.specs.declared.State.{State}
 use Rattle.end_points.specs.declared.State.the-variants.{Closed, Enabled, Open, Failing}
 use Rattle.end_points.specs.declared.EndPoint.{EndPoint}
+use Rattle.end_points.specs.declared.Run.{Run}
 use Rattle.timing.specs.Timing.{leftOf}
 use Rattle.slots.specs.Slots.{cell, past, spot, timerIn, retriesIn}
 use Rattle.call_hand_out.specs.Handing.{urgentPayload}
@@ -30,14 +32,32 @@ use Rattle.good.specs.Good.{Lists, Stated, Good}
 use Rattle.good.specs.Calls.{Memory}
 use Rattle.good.proofs.Turns.{Kept}
 use Rattle.good.proofs.Known.{stated-as}
-use Rattle.good.proofs.Framing.{Within, Apart, entry-low, timer-owner, retries-owner}
+use Rattle.good.proofs.Framing.{same-under, Within, Apart, entry-low, timer-owner, retries-owner}
 use Rattle.good.proofs.Stores.{urgent-low, areas-stay, read-own, slot-room}
 use Rattle.good.proofs.Payloads.{s-filled, r-filled, Stored, unaltered, put, stored-long, payload-stays}
-use Rattle.machine.specs.Machine.{End, Item, Sort, node, listed, turned}
-use Rattle.refinement.specs.Standing.{Reading, readAt, payloadFor, numberFor, placeFor, endFor, endAt, waitingFor, standsFor, Stands}
+use Rattle.machine.specs.Machine.{End, Item, Sort, Out, number, stated, node, port, listed, turned}
+use Rattle.refinement.specs.Standing.{Reading, readAt, payloadFor, numberFor, placeFor, stateFor, endFor, endAt, waitingFor, underFor, standsFor, Stands}
 use Rattle.machine.proofs.Listed.{listed-ext, listed-replicate, set-listed}
 
 -- ---- an end point stands for the same, in another book and store
+
+-- a number, part by part
+pub number-as : {p q : List ℕ} {r s : ℕ} {h k a c : Bool} {t u : ℕ} → p ≡ q → r ≡ s → h ≡ k → a ≡ c → t ≡ u → number p r h a t ≡ number q s k c u
+number-as f r h a t = rw (f, r, h, a, t)
+
+-- a timer, as it is read: it is the number's own where that was handed out and is not under way
+abbrev pub timerFor : Reading → List ℕ → ℕ → Run → ℕ → ℕ
+timerFor L b i r k =
+    pick (ltb k (r .handed) && not (eqb (past (r .window) k) (dataOut b i))) (L (timerIn b (cell i (r .window) (past (r .window) k)))) 0
+
+pub timer-as : (L : Reading) (b b′ : List ℕ) (i i′ : ℕ) (r r′ : Run) (k k′ : ℕ) → ltb k′ (r′ .handed) ≡ ltb k (r .handed)
+    → eqb (past (r′ .window) k′) (dataOut b′ i′) ≡ eqb (past (r .window) k) (dataOut b i)
+    → timerIn b′ (cell i′ (r′ .window) (past (r′ .window) k′)) ≡ timerIn b (cell i (r .window) (past (r .window) k))
+    → timerFor L b′ i′ r′ k′ ≡ timerFor L b i r k
+timer-as L b b′ i i′ r r′ k k′ h u t = parts h u (ap L t)
+  where
+    parts : {h g u v : Bool} {s t : ℕ} → h ≡ g → u ≡ v → s ≡ t → pick (h && not u) s 0 ≡ pick (g && not v) t 0
+    parts a b c = rw (a, b, c)
 
 -- a test on two pieces, both true
 both-true : (a b : Bool) → (a && b) ≡ true → (a ≡ true) × (b ≡ true)
@@ -60,9 +80,9 @@ module _ (L : Reading) (st st′ b b′ : List ℕ) (i : ℕ) (e : EndPoint) whe
           ap some (p k (not-true (isSends (e .entry .kind)) (z .0)) (z .1))
       sides false h = refl
 
-  pub numbers-same : (k : ℕ) → payloadFor st′ b′ i e k ≡ payloadFor st b i e k → Same retriesIn k → Same timerIn k
+  pub numbers-same : dataOut b′ i ≡ dataOut b i → (k : ℕ) → payloadFor st′ b′ i e k ≡ payloadFor st b i e k → Same retriesIn k → Same timerIn k
       → numberFor L st′ b′ i e k ≡ numberFor L st b i e k
-  numbers-same k p r t = rw (p, r, t)
+  numbers-same u k p r t = number-as p r refl refl (timer-as L b b′ i i (e .run) (e .run) k k refl (ap (eqb (past (e .run .window) k)) u) t)
 
   abbrev urgentIn : List ℕ → Option (List ℕ)
   urgentIn st = pick (eqb (e .run .urgent) 0) none (some (urgentPayload st e))
@@ -76,27 +96,32 @@ module _ (L : Reading) (st st′ b b′ : List ℕ) (i : ℕ) (e : EndPoint) whe
       sides true h = rw (s h)
       sides false h = rw (eq-eqb (e .run .urgent) 0 (r h))
 
-  pub end-same : ((k : ℕ) → k < e .run .taken → numberFor L st′ b′ i e k ≡ numberFor L st b i e k)
+  pub end-same : isReset (underIn b′) i ≡ isReset (underIn b) i
+      → ((k : ℕ) → k < e .run .taken → numberFor L st′ b′ i e k ≡ numberFor L st b i e k)
       → ((k : ℕ) → isSends (e .entry .kind) ≡ false → held (e .run .window) k ≡ true → payloadFor st′ b′ i e k ≡ payloadFor st b i e k)
       → (isSends (e .entry .kind) ≡ true → urgentPayload st′ e ≡ urgentPayload st e)
       → (isSends (e .entry .kind) ≡ false → e .run .urgent ≡ 0)
       → endFor L st′ b′ i e ≡ endFor L st b i e
   unfolding endFor
-  end-same ns ps us ur =
+  end-same reset ns ps us ur =
       rw (
+        reset,
         listed-ext (e .run .taken) (numberFor L st′ b′ i e) (numberFor L st b i e) ns,
         listed-ext (e .entry .window) (placeFor st′ b′ i e) (placeFor st b i e) (λ k h. places-same ps k),
         urgent-same us ur,
       )
 
--- where only links alter
-pub cells-same : (L : Reading) (st b b′ : List ℕ) (i : ℕ) (e : EndPoint) → ((k : ℕ) → cellsAt ≤ k → getD b′ k 0 ≡ getD b k 0)
-    → endFor L st b′ i e ≡ endFor L st b i e
+-- where only links alter, and what is under way, and every timer reads the same: all but the state, which sees whether a
+-- Reset is under way
+pub cells-read : (L : Reading) (st b b′ : List ℕ) (i : ℕ) (e : EndPoint) → ((k : ℕ) → cellsAt ≤ k → getD b′ k 0 ≡ getD b k 0)
+    → ((k : ℕ) → timerFor L b′ i (e .run) k ≡ timerFor L b i (e .run) k)
+    → endFor L st b′ i e
+    ≡ stated (stateFor L (isReset (underIn b′) i) (listed (e .run .taken) (numberFor L st b i e)) (e .state)) (endFor L st b i e)
 unfolding endFor
-cells-same L st b b′ i e c =
+cells-read L st b b′ i e c u =
     rw (
       listed-ext (e .run .taken) (numberFor L st b′ i e) (numberFor L st b i e)
-          (λ k h. numbers-same L st st b b′ i e k (payload k) (c (retriesAt (at k)) (omega arith)) (c (timerAt (at k)) (omega arith))),
+          (λ k h. number-as (payload k) (c (retriesAt (at k)) (omega arith)) refl refl (u k)),
       listed-ext (e .entry .window) (placeFor st b′ i e) (placeFor st b i e) (λ k h. places-same L st st b b′ i e (λ j s l. payload j) k),
     )
   where
@@ -105,6 +130,28 @@ cells-same L st b b′ i e c =
 
     payload : (k : ℕ) → payloadFor st b′ i e k ≡ payloadFor st b i e k
     payload k = rw (c (lengthAt (at k)) (omega arith))
+
+-- so where the same Data of entry i is under way
+pub cells-but : (L : Reading) (st b b′ : List ℕ) (i : ℕ) (e : EndPoint) → ((k : ℕ) → cellsAt ≤ k → getD b′ k 0 ≡ getD b k 0)
+    → dataOut b′ i ≡ dataOut b i
+    → endFor L st b′ i e
+    ≡ stated (stateFor L (isReset (underIn b′) i) (listed (e .run .taken) (numberFor L st b i e)) (e .state)) (endFor L st b i e)
+cells-but L st b b′ i e c u =
+    cells-read L st b b′ i e c
+    (λ k. timer-as L b b′ i i (e .run) (e .run) k k refl (ap (eqb (past (e .run .window) k)) u) (c (timerAt (cell i (e .run .window) (past (e .run .window) k))) (omega arith)))
+
+-- and where its Reset is too, or is not, the state as well
+pub cells-as : (L : Reading) (st b b′ : List ℕ) (i : ℕ) (e : EndPoint) → ((k : ℕ) → cellsAt ≤ k → getD b′ k 0 ≡ getD b k 0)
+    → dataOut b′ i ≡ dataOut b i → isReset (underIn b′) i ≡ isReset (underIn b) i → endFor L st b′ i e ≡ endFor L st b i e
+unfolding endFor
+cells-as L st b b′ i e c u r =
+    cells-but L st b b′ i e c u
+    ∙ ap (λ (z : Bool). stated (stateFor L z (listed (e .run .taken) (numberFor L st b i e)) (e .state)) (endFor L st b i e)) r
+
+-- where only links alter
+pub cells-same : (L : Reading) (st b b′ : List ℕ) (i : ℕ) (e : EndPoint) → ((k : ℕ) → cellsAt ≤ k → getD b′ k 0 ≡ getD b k 0)
+    → underIn b′ ≡ underIn b → endFor L st b′ i e ≡ endFor L st b i e
+cells-same L st b b′ i e c u = cells-as L st b b′ i e c (same-under i b b′ u .data!) (same-under i b b′ u .reset)
 
 -- a sender has no places
 pub no-places : (st b : List ℕ) (i : ℕ) (e : EndPoint) → isSends (e .entry .kind) ≡ true
@@ -211,8 +258,8 @@ module _ (t : List ℕ) (n m : Memory) (l l′ : Lists) (g : Good t (n .node) (n
   pub elsewhere : endFor L (m .store) (m .book) i (endOf (m .node) i) ≡ endFor L (n .store) (n .book) i was
   elsewhere =
       ap (endFor L (m .store) (m .book) i) (a .others i d)
-      ∙ end-same L (n .store) (m .store) (n .book) (m .book) i was
-      (λ k h. numbers-same L (n .store) (m .store) (n .book) (m .book) i was k (taken-stays k h) (retries-stay k) (timer-stays k))
+      ∙ end-same L (n .store) (m .store) (n .book) (m .book) i was (v .under i low d .reset)
+      (λ k h. numbers-same L (n .store) (m .store) (n .book) (m .book) i was (v .under i low d .data!) k (taken-stays k h) (retries-stay k) (timer-stays k))
       (λ k s h. payload-there k (payload-stays t n m l l′ g room i j li d a v st k (r-filled t (n .node) (n .book) l g i li s k h)))
       urgent-stays (no-urgent g li)
 
@@ -225,11 +272,12 @@ pub record Leaves (t : List ℕ) (n m : Memory) (l : Lists) (i : ℕ) : Type 0 w
   pub apart : Apart i (n .node) (m .node)
   pub within : Within i (n .book) (m .book) l lists
   pub stored : Stored t n (m .store) i
+  pub under : underIn (m .book) ≡ underIn (n .book)
 
 pub leaves : {t : List ℕ} {n : Memory} {store out : List ℕ} {y : Lent} {l : Lists} {i : ℕ}
     → Kept t (record { node = n .node; book = n .book; store = store; out = out }) y l i → (st : List ℕ) → Stored t n st i
     → Leaves t n (record { node = y .node; book = y .book; store = st }) l i
-leaves k st s = record { lists = k .lists; good = k .good; apart = k .apart; within = k .within; stored = s }
+leaves k st s = record { lists = k .lists; good = k .good; apart = k .apart; within = k .within; stored = s; under = k .under }
 
 -- entry i is read as it was: no tick has passed
 pub end-at : {t : List ℕ} {n m : Memory} {l : Lists} {i : ℕ} → Leaves t n m l i → {e : EndPoint} → endOf (m .node) i ≡ e
@@ -250,22 +298,30 @@ turned-same {t} n {l} g {i} li =
     ap (λ (es : List End). node (standsFor t n l) es (standsFor t n l .waiting))
     (set-listed (countOf t) (endAt n) (endAt n) i (endAt n i) (let c = g .tabled .count in omega arith) refl (λ j h d. refl))
 
--- entry i stands for E now, and what waits for w
-pub turned-stands : {t : List ℕ} {n : Memory} {l : Lists} (g : Good t (n .node) (n .book) l) → storeOf t ≤ length (n .store)
-    → {i : ℕ} → i < countIn (n .node) → {m : Memory} (k : Leaves t n m l i) {E : End} {w : Sort → List Item}
-    → endAt m i ≡ E → ((q : Sort) → waitingFor (m .node) (k .lists) q ≡ w q)
-    → Stands t m (node (standsFor t n l) (set (listed (countOf t) (endAt n)) i E) w)
-turned-stands {t} {n} {l} g room {i} li {m} k {E} here waits =
+-- entry i stands for E now, what waits for w, and what is under way for u
+pub ported-stands : {t : List ℕ} {n : Memory} {l : Lists} (g : Good t (n .node) (n .book) l) → storeOf t ≤ length (n .store)
+    → {i : ℕ} → i < countIn (n .node) → {m : Memory} {l′ : Lists} → Good t (m .node) (m .book) l′ → Apart i (n .node) (m .node)
+    → Within i (n .book) (m .book) l l′ → Stored t n (m .store) i → {E : End} {w : Sort → List Item} {u : Option Out}
+    → endAt m i ≡ E → ((q : Sort) → waitingFor (m .node) l′ q ≡ w q) → underFor (underIn (m .book)) ≡ u
+    → Stands t m (port u (node (standsFor t n l) (set (listed (countOf t) (endAt n)) i E) w))
+ported-stands {t} {n} {l} g room {i} li {m} {l′} good apart within stored {E} here waits under =
     let c = g .tabled .count in
-    let long = stored-long t n (m .store) i (k .stored) in
+    let long = stored-long t n (m .store) i stored in
     record {
-      lists = k .lists;
-      good = k .good;
+      lists = l′;
+      good = good;
       room = rw long room;
-      is = rw (long, set-listed (countOf t) (endAt n) (endAt m) i E (omega arith) here away, fun-ext waits);
+      is = rw (long, set-listed (countOf t) (endAt n) (endAt m) i E (omega arith) here away, fun-ext waits, under);
     }
   where
     away : (j : ℕ) → j < countOf t → j ≢ i → endAt m j ≡ endAt n j
     away j h d =
-        ap (λ (c : ℕ). endFor (leftOf c) (m .store) (m .book) j (endOf (m .node) j)) (k .apart .clock)
-        ∙ elsewhere t n m l (k .lists) g room (readAt n) j i (omega (arith, g .tabled .count)) d (k .apart) (k .within) (k .stored)
+        ap (λ (c : ℕ). endFor (leftOf c) (m .store) (m .book) j (endOf (m .node) j)) (apart .clock)
+        ∙ elsewhere t n m l l′ g room (readAt n) j i (omega (arith, g .tabled .count)) d apart within stored
+
+-- and what is under way is as it was
+pub turned-stands : {t : List ℕ} {n : Memory} {l : Lists} (g : Good t (n .node) (n .book) l) → storeOf t ≤ length (n .store)
+    → {i : ℕ} → i < countIn (n .node) → {m : Memory} (k : Leaves t n m l i) {E : End} {w : Sort → List Item}
+    → endAt m i ≡ E → ((q : Sort) → waitingFor (m .node) (k .lists) q ≡ w q)
+    → Stands t m (node (standsFor t n l) (set (listed (countOf t) (endAt n)) i E) w)
+turned-stands g room li k here waits = ported-stands g room li (k .good) (k .apart) (k .within) (k .stored) here waits (ap underFor (k .under))

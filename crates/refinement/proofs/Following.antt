@@ -9,7 +9,7 @@ use native.Mathlib.Omega.{arith}
 use lib.ListN.{length}
 use lib.Dec.{leb}
 use borrow.Author.Tests.{le-leb, lt-leb}
-use Rattle.units.specs.Refusals.{verdict}
+use Rattle.units.specs.Refusals.{pick, verdict}
 use Rattle.units.specs.declared.refusals.Refusal.{Refusal}
 use Rattle.units.specs.declared.refusals.Refusal.the-variants.{NoEntry}
 use Rattle.units.specs.declared.refusals.Verdict.{Verdict}
@@ -32,6 +32,7 @@ use Rattle.end_points.specs.States.{isSends, isClosed, isOpen}
 use Rattle.end_points.specs.declared.Run.{Run}
 use Rattle.slots.specs.Slots.{slotFor, past}
 use Rattle.memory.specs.Layout.{idSlot}
+use Rattle.waiting.specs.Port.{underIn, isReset}
 use Rattle.good.specs.Good.{Lists, Sending, Stated, Entered, Good, idAt}
 use Rattle.good.specs.Calls.{Memory, answer, after}
 use Rattle.machine.specs.Calls.{Call}
@@ -41,7 +42,7 @@ use Rattle.good.proofs.Known.{stated-as}
 use Rattle.good.proofs.Offsets.{id-owner, number-at}
 use Rattle.good.proofs.Turns.{turnedTo}
 use Rattle.machine.specs.Machine.{End, Machine, Outcome, listed, anew, answers, judged, onEntry, step}
-use Rattle.refinement.specs.Standing.{Reading, stateFor, endFor, endAt, slotItem, standsFor, Stands, Follows}
+use Rattle.refinement.specs.Standing.{Reading, stateFor, numberFor, endFor, endAt, slotItem, standsFor, Stands, Follows}
 use Rattle.machine.proofs.Listed.{elem-listed, elem-none}
 use Rattle.refinement.proofs.Elsewhere.{none-held, Leaves, still}
 
@@ -82,17 +83,21 @@ follows {t} {n} {l} g room i {c} tests o f steps same refused passed = sides (de
 
 -- ---- a state, however its timer is read
 
-pub closed-for : (L : Reading) (s : State) → isClosed (stateFor L s) ≡ isClosed s
-closed-for L Closed = refl
-closed-for L (Enabled d sent) = refl
-closed-for L Open = refl
-closed-for L (Failing n) = refl
+-- in the book b, at an end point that is otherwise e
+abbrev pub stateIn : Reading → List ℕ → List ℕ → ℕ → EndPoint → State → State
+stateIn L st b i e = stateFor L (isReset (underIn b) i) (listed (e .run .taken) (numberFor L st b i e))
 
-pub open-for : (L : Reading) (s : State) → isOpen (stateFor L s) ≡ isOpen s
-open-for L Closed = refl
-open-for L (Enabled d sent) = refl
-open-for L Open = refl
-open-for L (Failing n) = refl
+pub closed-for : (L : Reading) (st b : List ℕ) (i : ℕ) (e : EndPoint) (s : State) → isClosed (stateIn L st b i e s) ≡ isClosed s
+closed-for L st b i e Closed = refl
+closed-for L st b i e (Enabled d sent) = refl
+closed-for L st b i e Open = refl
+closed-for L st b i e (Failing n) = refl
+
+pub open-for : (L : Reading) (st b : List ℕ) (i : ℕ) (e : EndPoint) (s : State) → isOpen (stateIn L st b i e s) ≡ isOpen s
+open-for L st b i e Closed = refl
+open-for L st b i e (Enabled d sent) = refl
+open-for L st b i e Open = refl
+open-for L st b i e (Failing n) = refl
 
 -- ---- the entry then, as Good states it
 
@@ -107,9 +112,20 @@ stated-then {n = n} {m = m} {i = i} k li z kind s {r} e =
 -- ---- a window begun anew
 
 pub begun-end : (L L₀ : Reading) (st b st₀ b₀ : List ℕ) (i : ℕ) (e : EndPoint) (s : State)
-    → endFor L st b i (turnedTo e s (runs.anew (e .run))) ≡ anew (stateFor L s) (endFor L₀ st₀ b₀ i e)
+    → endFor L st b i (turnedTo e s (runs.anew (e .run))) ≡ anew (stateFor L (isReset (underIn b) i) [] s) (endFor L₀ st₀ b₀ i e)
 unfolding endFor runs.anew listed
 begun-end L L₀ st b st₀ b₀ i e s = rw (none-held st b i (turnedTo e s (runs.anew (e .run))) (new-held (e .run .window .size)))
+
+-- as Enabled: no timer of it runs, whatever is under way
+pub enabled-end : (L : Reading) → L 0 ≡ 0 → (L₀ : Reading) (st b st₀ b₀ : List ℕ) (i : ℕ) (e : EndPoint) (sent : Bool)
+    → endFor L st b i (turnedTo e (Enabled 0 sent) (runs.anew (e .run))) ≡ anew (Enabled 0 sent) (endFor L₀ st₀ b₀ i e)
+enabled-end L zero L₀ st b st₀ b₀ i e sent =
+    begun-end L L₀ st b st₀ b₀ i e (Enabled 0 sent)
+    ∙ ap (λ (z : ℕ). anew (Enabled z sent) (endFor L₀ st₀ b₀ i e)) (none (isReset (underIn b) i))
+  where
+    none : (u : Bool) → pick u 0 (L 0) ≡ 0
+    none true = refl
+    none false = zero
 
 -- ---- a payload that waits
 

@@ -12,6 +12,7 @@ pub mod Places
 pub mod ReceiveStands
 pub mod ArriveStands
 pub mod HandStands
+pub mod ReportStands
 pub mod SetupStands
 pub mod TickNumbers
 pub mod TickStands
@@ -20,6 +21,7 @@ pub mod TickAllStands
 pub mod Refining
 pub mod Relending
 pub mod Sounding
+pub mod OnePlace
 pub mod OneMachine
 pub mod NewNodes
 pub mod Independently

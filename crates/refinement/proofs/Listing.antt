@@ -8,11 +8,12 @@ use native.Mathlib.Decide.{decLt}
 use native.Mathlib.Omega.{arith}
 use lib.ListN.{getD, set, length-set}
 use lib.Seq.{getD-set-same, getD-set-other}
-use Rattle.memory.specs.Layout.{cellsAt, idsEnd, bookHalves}
+use Rattle.memory.specs.Layout.{cellsAt, idsEnd, underAt, resetId, bookHalves}
 use Rattle.waiting.specs.Queues.{appended}
 use Rattle.waiting.specs.Order.{Chain, Out, Queue}
+use Rattle.waiting.specs.Port.{underIn}
 use Rattle.good.specs.Good.{Lists, Lines}
-use Rattle.good.proofs.Lined.{added, append-lines, append-cells, set-lines}
+use Rattle.good.proofs.Lined.{added, append-lines, append-cells, append-under, set-lines}
 
 -- ---- what no step alters from m on
 
@@ -57,8 +58,9 @@ pub record Put (b b′ : List ℕ) (l : Lists) (c v d w q x : ℕ) : Type 0 wher
   pub first : getD b′ c 0 ≡ v
   pub second : getD b′ d 0 ≡ w
   pub others : (k : ℕ) → cellsAt ≤ k → k ≢ c → k ≢ d → getD b′ k 0 ≡ getD b k 0
+  pub under : underIn b′ ≡ underIn b
 
-pub put-both : {b : List ℕ} {l : Lists} → Lines b l → (c v d w q x : ℕ) → cellsAt ≤ c → c < d → d < bookHalves → q < 4 → 4 ≤ x → x < idsEnd
+pub put-both : {b : List ℕ} {l : Lists} → Lines b l → (c v d w q x : ℕ) → cellsAt ≤ c → c < d → d < bookHalves → q < 4 → resetId 0 ≤ x → x < idsEnd
     → ((r : ℕ) → r < 4 → List·Memᴰ x (l r) → ⊥) → Put b (appended (set (set b c v) d w) q x) l c v d w q x
 put-both {b} {l} L c v d w q x hc hd long hq hx low free =
     record {
@@ -66,6 +68,9 @@ put-both {b} {l} L c v d w q x hc hd long hq hx low free =
       first = cells c hc ∙ getD-set-other (set b c v) d c w 0 (λ z. omega arith) ∙ getD-set-same b c v 0 (omega (arith, L .long));
       second = cells d (omega arith) ∙ getD-set-same (set b c v) d w 0 (omega (arith, L .long, length-set b c v));
       others = λ k h n m. cells k h ∙ getD-set-other (set b c v) d k w 0 m ∙ getD-set-other b c k v 0 n;
+      under =
+          append-under (set (set b c v) d w) l both q x hq hx low free ∙ getD-set-other (set b c v) d underAt w 0 (λ e. omega arith)
+          ∙ getD-set-other b c underAt v 0 (λ e. omega arith);
     }
   where
     both : Lines (set (set b c v) d w) l

@@ -22,12 +22,13 @@ use Rattle.call_open.specs.Opening.{openAnswer, closeAnswer, countsAnswer}
 use Rattle.call_send.specs.Sending.{sendAnswer, urgentAnswer}
 use Rattle.call_arrive.specs.Arriving as memory
 use Rattle.call_hand_out.specs.Handing.{nextOut, frameOut, handOutAnswer, handOutAfter, outNode, outBook}
+use Rattle.call_report.specs.Reporting.{reportAnswer}
 use Rattle.timing.specs.Timing.{clockIn, later}
 use Rattle.call_tick.specs.Ticking.{tickAnswer, tickBoth, scanAfter, scanBoth, stillAfter, recoverAll, tickEntries}
 use Rattle.good.specs.Calls.{Memory, lent, bare, answer}
 use Rattle.good.specs.NewNode.{newAt}
-use Rattle.machine.specs.Calls.{Call, opens, closes, counts, sends, urges, arrives, hands-out, ticks, Answer}
-use Rattle.machine.specs.Machine.{Machine, Outcome, blank, opening, closing, counting, sending, urgentSending, reading, arriving, goingOut, inOrder, handingOut, each, bitsFrom, ticking, judged, step}
+use Rattle.machine.specs.Calls.{Call, opens, closes, counts, sends, urges, arrives, hands-out, reports, ticks, Answer}
+use Rattle.machine.specs.Machine.{Machine, Outcome, blank, opening, closing, counting, sending, urgentSending, reading, arriving, goingOut, inOrder, handingOut, reported, reporting, each, bitsFrom, ticking, judged, step}
 use Rattle.refinement.specs.Standing.{NewIsBlank}
 
 module _ (store : List ℕ) (c q : ℕ) where
@@ -69,6 +70,11 @@ module _ (store : List ℕ) (c q : ℕ) where
   hands-same buffer =
       let long = le-ltb (length store) 0 (omega arith) in
       (rw (long, le-ltb (length buffer) 0 (omega arith)), rw long)
+
+  -- no frame is under way
+  reports-same : same reports
+  unfolding answer step reporting reported reportAnswer
+  reports-same = (refl, refl)
 
   -- a tick that passes, and one that goes through no entries
   abbrev d : ℕ
@@ -115,6 +121,7 @@ module _ (store : List ℕ) (c q : ℕ) where
   all-same (urges i p) = urges-same i p
   all-same (arrives block f) = arrives-same block f
   all-same (hands-out buffer) = hands-same buffer
+  all-same reports = reports-same
   all-same ticks = ticks-same
 
 pub new-is-blank : NewIsBlank

@@ -9,9 +9,10 @@ use native.Mathlib.Omega.{arith}
 use lib.ListN.{length, getD, drop, length-set, length-drop, List·getD-eq-default}
 use lib.Seq.{ext-getD, getD-set-same, getD-set-other, getD-drop}
 use lib.Dec.{ltb, eqb}
-use borrow.Author.Tests.{lt-ltb, le-ltb, eqb-true}
+use borrow.Author.Tests.{lt-ltb, le-ltb, eqb-true, eq-eqb, ne-eqb}
 use Rattle.units.specs.Refusals.{pick}
 use Rattle.memory.specs.Layout.{allCells}
+use Rattle.waiting.specs.Port.{underIn, isReset, noNumber, dataOut}
 use Rattle.window.specs.Windows.{offsetOf, held, acceptOf, withHeld, Good as GoodWindow}
 use Rattle.window.specs.declared.Found.the-variants.{New, Held}
 use Rattle.window.specs.declared.Window.{Window}
@@ -23,19 +24,19 @@ use Rattle.end_points.specs.declared.State.{State}
 use Rattle.end_points.specs.declared.Run.{Run}
 use Rattle.end_points.specs.declared.EndPoint.{EndPoint}
 use Rattle.end_points.specs.States.{isSends}
-use Rattle.slots.specs.Slots.{cell, past, timerIn, retriesIn}
+use Rattle.slots.specs.Slots.{cell, past, lengthIn, timerIn, retriesIn}
 use Rattle.arrive_ack.specs.Acking as acking
 use Rattle.good.specs.Good.{Sending}
 use Rattle.good.specs.Good as good
-use Rattle.good.proofs.Framing.{cell-low}
+use Rattle.good.proofs.Framing.{same-under, cell-low}
 use Rattle.good.proofs.Turns.{turnedTo}
 use Rattle.good.proofs.Senders.{Timed}
 use Rattle.good.proofs.AckRuns.{Passes, Counts, passes, passed-le}
-use Rattle.machine.specs.Machine.{Number, End, listed, numberAt, timed, ackedRun, number, numbered, running}
-use Rattle.refinement.specs.Standing.{Reading, payloadFor, numberFor, endFor}
+use Rattle.machine.specs.Machine.{Number, End, listed, numberAt, timed, ackedRun, number, stated, numbered, running}
+use Rattle.refinement.specs.Standing.{Reading, payloadFor, numberFor, stateFor, endFor}
 use Rattle.machine.proofs.Listed.{length-listed, getD-listed, set-listed}
 use Rattle.refinement.proofs.Listing.{beyond, count-snoc}
-use Rattle.refinement.proofs.Elsewhere.{no-places}
+use Rattle.refinement.proofs.Elsewhere.{number-as, timerFor, timer-as, no-places}
 use Rattle.refinement.proofs.Passing.{payload-past}
 
 -- ---- how many timers run, one more at the end
@@ -90,18 +91,42 @@ module _ (L : Reading) (zero-left : (d : ℕ) → eqb (L d) 0 ≡ eqb d 0) (st b
   none-left : L 0 ≡ 0
   none-left = eqb-true (L 0) 0 (zero-left 0)
 
-  -- ---- how many timers run, in the machine as in the book
+  -- ---- a number's timer, as it is read
 
-  under : (n : ℕ) → n ≤ r .handed → running (listed n N) ≡ good.running b i w n
-  unfolding listed running good.running
-  under zero h = refl
-  under (suc n) h = running-snoc (listed n N) (N n) ∙ rw (lt-ltb n (r .handed) (omega arith), zero-left (timerIn b (cell i w (past w n))), under n (omega arith))
+  pub timer-unhanded : (k : ℕ) → r .handed ≤ k → N k .timer ≡ 0
+  timer-unhanded k h = rw (le-ltb k (r .handed) h)
 
-  pub running-is : (n : ℕ) → r .handed ≤ n → running (listed n N) ≡ good.running b i w (r .handed)
-  unfolding listed
-  running-is n h =
-      beyond (λ k. running (listed k N)) (r .handed) (λ k h. running-snoc (listed k N) (N k) ∙ rw (le-ltb k (r .handed) h)) n h
-      ∙ under (r .handed) (omega arith)
+  pub timer-under : (k : ℕ) → past w k ≡ dataOut b i → N k .timer ≡ 0
+  timer-under k u = parts (ltb k (r .handed)) (L (timerIn b (cell i w (past w k)))) (eq-eqb (past w k) (dataOut b i) u)
+    where
+      parts : (h : Bool) {u : Bool} (t : ℕ) → u ≡ true → pick (h && not u) t 0 ≡ 0
+      parts true t e = rw e
+      parts false t e = refl
+
+  pub timer-else : (k : ℕ) → k < r .handed → past w k ≢ dataOut b i → N k .timer ≡ L (timerIn b (cell i w (past w k)))
+  timer-else k h u = parts (lt-ltb k (r .handed) h) (ne-eqb (past w k) (dataOut b i) u)
+    where
+      parts : {h u : Bool} {t : ℕ} → h ≡ true → u ≡ false → pick (h && not u) t 0 ≡ t
+      parts h e = rw (h, e)
+
+  -- ---- how many timers run, in the machine as in the book, where none of its numbers is under way
+
+  module _ (none : dataOut b i ≡ noNumber) where
+    not-out : (k : ℕ) → past w k ≢ dataOut b i
+    not-out k u = omega (arith, u, none)
+
+    among : (n : ℕ) → n ≤ r .handed → running (listed n N) ≡ good.running b i w n
+    unfolding listed running good.running
+    among zero h = refl
+    among (suc n) h =
+        running-snoc (listed n N) (N n)
+        ∙ rw (timer-else n (omega arith) (not-out n), zero-left (timerIn b (cell i w (past w n))), among n (omega arith))
+
+    pub running-is : (n : ℕ) → r .handed ≤ n → running (listed n N) ≡ good.running b i w (r .handed)
+    unfolding listed
+    running-is n h =
+        beyond (λ k. running (listed k N)) (r .handed) (λ k h. running-snoc (listed k N) (N k) ∙ rw (timer-unhanded k h)) n h
+        ∙ among (r .handed) (omega arith)
 
   -- ---- one handed out
 
@@ -114,29 +139,45 @@ module _ (L : Reading) (zero-left : (d : ℕ) → eqb (L d) 0 ≡ eqb d 0) (st b
     unfolding endFor
     number-is = rw back (getD-listed (r .taken) N k _ hk)
 
-    -- in another book its timer starts at v, and no other number alters
-    module _ (b′ : List ℕ) (low : i < 16) (sends : isSends (e .entry .kind) ≡ true) (h v d : ℕ) (starts : L d ≡ v) (T : Timed b b′ i w k d)
-        (R : (c : ℕ) → c < allCells → retriesIn b′ c ≡ retriesIn b c) (out : k < h) (missing : held w k ≡ false)
+    -- two numbers of the window differ
+    apart : (j : ℕ) → j < r .taken → j ≢ k → past w j ≢ past w k
+    apart j hj d p = let y = size-le (w .size) (g .sized) in d (omega (arith, p))
+
+    -- in another book its timer reads v, and no other number alters
+    module _ (b′ : List ℕ) (low : i < 16) (sends : isSends (e .entry .kind) ≡ true) (h v : ℕ)
+        (lengths : (c : ℕ) → c < allCells → lengthIn b′ c ≡ lengthIn b c)
+        (retries : (c : ℕ) → c < allCells → retriesIn b′ c ≡ retriesIn b c)
+        (timers : (j : ℕ) → j < w .size → j ≢ k → timerIn b′ (cell i w (past w j)) ≡ timerIn b (cell i w (past w j)))
+        (under : (s : ℕ) → s < 256 → s ≢ past w k → eqb s (dataOut b′ i) ≡ eqb s (dataOut b i))
+        (starts : timerFor L b′ i (handedTo e h .run) k ≡ v) (out : k < h) (missing : held w k ≡ false)
         (others : (j : ℕ) → j ≢ k → ltb j h ≡ ltb j (r .handed)) where
       abbrev then : EndPoint
       then = handedTo e h
 
       payload-stays : (j : ℕ) → payloadFor st b′ i then j ≡ payloadFor st b i e j
-      payload-stays j = rw (T .lengths (cell i w (past w j)) (cell-low i low w g (past w j)))
+      payload-stays j = rw (lengths (cell i w (past w j)) (cell-low i low w g (past w j)))
 
-      here : numberFor L st b′ i then k ≡ number (numberAt E (past w k) .payload) (numberAt E (past w k) .retries) true false v
-      here = rw (number-is, payload-stays k, R (cell i w (past w k)) (cell-low i low w g (past w k)), lt-ltb k h out, missing, T .here, starts)
+      abbrev its : Number
+      its = numberAt E (past w k)
+
+      here : numberFor L st b′ i then k ≡ number (its .payload) (its .retries) true false v
+      here =
+          number-as (payload-stays k) (retries (cell i w (past w k)) (cell-low i low w g (past w k))) (lt-ltb k h out) missing starts
+          ∙ ap (λ (x : Number). number (x .payload) (x .retries) true false v) (sym number-is)
 
       there : (j : ℕ) → j < r .taken → j ≢ k → numberFor L st b′ i then j ≡ N j
-      there j hj d = rw (payload-stays j, R (cell i w (past w j)) (cell-low i low w g (past w j)), others j d, T .there j (omega arith) d)
+      there j hj d =
+          number-as (payload-stays j) (retries (cell i w (past w j)) (cell-low i low w g (past w j))) (others j d) refl
+          (timer-as L b b′ i i r (then .run) j j (others j d) (under (past w j) (omega arith) (apart j hj d)) (timers j (omega arith) d))
 
-      numbers : listed (r .taken) (numberFor L st b′ i then) ≡ timed v false E (past w k)
+      pub numbers-timed : listed (r .taken) (numberFor L st b′ i then) ≡ timed v false E (past w k)
       unfolding endFor
-      numbers = set-listed (r .taken) N (numberFor L st b′ i then) k _ hk here there ∙ rw back
+      numbers-timed = set-listed (r .taken) N (numberFor L st b′ i then) k _ hk here there ∙ rw back
 
-      pub timed-end : endFor L st b′ i then ≡ numbered (E .start) (timed v false E (past w k)) E
+      pub timed-end : endFor L st b′ i then
+          ≡ stated (stateFor L (isReset (underIn b′) i) (timed v false E (past w k)) (e .state)) (numbered (E .start) (timed v false E (past w k)) E)
       unfolding endFor
-      timed-end = rw (numbers, no-places st b′ i then sends, no-places st b i e sends)
+      timed-end = rw (numbers-timed, no-places st b′ i then sends, no-places st b i e sends)
 
   -- ---- the number s acknowledged
 
@@ -246,31 +287,31 @@ module _ (L : Reading) (zero-left : (d : ℕ) → eqb (L d) 0 ≡ eqb d 0) (st b
           sides (inr z) = sym z
       held-there j d false q = sym (P .none j q .1)
 
+      out-is : (j : ℕ) → eqb (past u j) (dataOut b′ i) ≡ eqb (past w (p + j)) (dataOut b i)
+      out-is j = ap (λ (x : ℕ). eqb x (dataOut b′ i)) (P .numbers j) ∙ ap (eqb (past w (p + j))) (same-under i b b′ (T .under) .data!)
+
+      -- where it stands, it reads 0, whatever is under way
+      timer-none : (j : ℕ) → p + j ≡ at → timerFor L b′ i (acking.ackedRun r s) j ≡ 0
+      unfolding acking.ackedRun
+      timer-none j q =
+          parts (ltb j (r .handed - p) && not (eqb (past u j) (dataOut b′ i)))
+          (ap L (ap (timerIn b′) (P .cells j) ∙ ap (λ (k : ℕ). timerIn b′ (cell i w (past w k))) q ∙ T .here) ∙ none-left)
+        where
+          parts : (z : Bool) {t : ℕ} → t ≡ 0 → pick z t 0 ≡ 0
+          parts true e = e
+          parts false e = refl
+
       later : (z : State) (j : ℕ) → j < r .taken - p → Dec (p + j ≡ at) → getD ns (p + j) nobody ≡ numberFor L st b′ i (e′ z) j
       unfolding acking.ackedRun
       later z j h (yes q) =
           rw (q, ns-here)
-          (sym (rw (
-            payload-is z j,
-            retries-is j,
-            handed-is j,
-            held-here j q (held u j) refl,
-            lt-ltb (p + j) (r .handed) (rw q (C .handed)),
-            ap (timerIn b′) (P .cells j),
-            q,
-            T .here,
-            none-left,
-          )))
+          (sym (number-as (payload-is z j ∙ ap (payloadFor st b i e) q) (retries-is j ∙ ap (λ (k : ℕ). retriesIn b (cell i w (past w k))) q)
+          (handed-is j ∙ lt-ltb (p + j) (r .handed) (rw q (C .handed))) (held-here j q (held u j) refl) (timer-none j q)))
       later z j h (no d) =
           ns-there (p + j) (omega arith) d
-          ∙ sym (rw (
-            payload-is z j,
-            retries-is j,
-            handed-is j,
-            held-there j d (held u j) refl,
-            ap (timerIn b′) (P .cells j),
-            T .there (p + j) (omega (arith, S .taken)) d,
-          ))
+          ∙ sym (number-as (payload-is z j) (retries-is j) (handed-is j) (held-there j d (held u j) refl)
+          (timer-as L b b′ i i r (acking.ackedRun r s) (p + j) j (handed-is j) (out-is j)
+          (ap (timerIn b′) (P .cells j) ∙ T .there (p + j) (omega (arith, S .taken)) d)))
 
       pub numbers-then : (z : State) → drop p ns ≡ listed (r .taken - p) (numberFor L st b′ i (e′ z))
       numbers-then z =

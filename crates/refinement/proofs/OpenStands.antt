@@ -34,7 +34,7 @@ use Rattle.machine.specs.Machine.{answers, closing, counting}
 use Rattle.refinement.specs.Standing.{readAt, endFor, endAt, standsFor, Stands, Follows}
 use Rattle.refinement.proofs.Elsewhere.{Leaves, leaves, end-at, turned-stands, still}
 use Rattle.refinement.proofs.Waiting.{silent-steady, waits-still, waits-reset, sender-acks, silent-stands}
-use Rattle.refinement.proofs.Following.{closed-for, low-at, stated-at, follows, begun-end, stated-then}
+use Rattle.refinement.proofs.Following.{closed-for, low-at, stated-at, follows, begun-end, enabled-end, stated-then}
 
 module _ (t : List ℕ) (n : Memory) (l : Lists) (g : Good t (n .node) (n .book) l) (room : storeOf t ≤ length (n .store)) (i : ℕ) where
   abbrev M : Machine
@@ -58,7 +58,7 @@ module _ (t : List ℕ) (n : Memory) (l : Lists) (g : Good t (n .node) (n .book)
     here : endAt now i ≡ anew (Enabled 0 false) (endAt n i)
     here =
         end-at left (open-passed t (bare n) l i g h .1)
-        ∙ begun-end (readAt n) (readAt n) (n .store) (now .book) (n .store) (n .book) i e (Enabled 0 false)
+        ∙ enabled-end (readAt n) refl (readAt n) (n .store) (now .book) (n .store) (n .book) i e false
 
     acks-stay : acksIn (now .node) ≡ acksIn (n .node)
     unfolding openAfter
@@ -80,7 +80,7 @@ module _ (t : List ℕ) (n : Memory) (l : Lists) (g : Good t (n .node) (n .book)
   pub open-follows : Follows t n M (opens i)
   unfolding answer after step opening openAnswer openAfter endFor
   open-follows =
-      follows g room i ((not (isClosed (e .state)), WrongState) ∷ []) (done (enabled i (endAt n i) M)) _ refl (λ li. rw (closed-for (readAt n) (e .state)))
+      follows g room i ((not (isClosed (e .state)), WrongState) ∷ []) (done (enabled i (endAt n i) M)) _ refl (λ li. rw (closed-for (readAt n) (n .store) (n .book) i e (e .state)))
       (λ w h. (rw h, rw h)) (λ li h. (rw h, opened li h))
 
   -- ---- close
@@ -117,7 +117,7 @@ module _ (t : List ℕ) (n : Memory) (l : Lists) (g : Good t (n .node) (n .book)
   unfolding answer after step closing closeAnswer closeAfter endFor
   close-follows =
       follows g room i ((isClosed (e .state), WrongState) ∷ []) (done (silent i (turned i (anew Closed (endAt n i)) M))) _ refl
-      (λ li. rw (closed-for (readAt n) (e .state)))
+      (λ li. rw (closed-for (readAt n) (n .store) (n .book) i e (e .state)))
       (λ w h. (rw h, rw h)) (λ li h. (rw h, closed li h))
 
   -- ---- counts: nothing alters

@@ -9,6 +9,7 @@ use lib.ListN.{length, set}
 use Rattle.table.specs.Layout.{countOf, ownOf, protocolOf}
 use Rattle.table.specs.Areas.{storeOf}
 use Rattle.waiting.specs.Order.{acksIn, notOf}
+use Rattle.waiting.specs.Port.{underIn}
 use Rattle.end_points.specs.Ends.{endOf}
 use Rattle.end_points.specs.Heads.{countIn}
 use Rattle.good.specs.Good.{Lists, Good, mine}
@@ -16,7 +17,7 @@ use Rattle.good.specs.Calls.{Memory}
 use Rattle.good.proofs.Payloads.{stored-long}
 use Rattle.machine.specs.Machine.{End, Item, Sort, Machine, node, listed, turned, silent}
 use Rattle.machine.proofs.Listed.{listed-ext, set-listed}
-use Rattle.refinement.specs.Standing.{Reading, endFor, waitingFor}
+use Rattle.refinement.specs.Standing.{Reading, endFor, waitingFor, underFor}
 use Rattle.refinement.proofs.Elsewhere.{Leaves, elsewhere}
 use Rattle.refinement.proofs.Waiting.{silent-waits}
 
@@ -35,6 +36,7 @@ standsWith R t n l =
       room = length (n .store);
       ends = listed (countOf t) (endWith R n);
       waiting = waitingFor (n .node) l;
+      under = underFor (underIn (n .book));
     }
 
 pub record StandsWith (R : Readings) (t : List ℕ) (n : Memory) (m : Machine) : Type 0 where
@@ -73,7 +75,7 @@ turned-with {R} {R′} {t} {n} {l} g room {i} li read {m} k {E} here waits =
       lists = k .lists;
       good = k .good;
       room = rw long room;
-      is = rw (long, set-listed (countOf t) (endWith R n) (endWith R′ m) i E (omega arith) here away, fun-ext waits);
+      is = rw (long, set-listed (countOf t) (endWith R n) (endWith R′ m) i E (omega arith) here away, fun-ext waits, k .under);
     }
   where
     away : (j : ℕ) → j < countOf t → j ≢ i → endWith R′ m j ≡ endWith R n j

@@ -305,6 +305,7 @@ module _ (t : List ℕ) (n : Memory) (l : Lists) (g : Good t (n .node) (n .book)
           end-at (left-d (now-d .store) new-stored) end
           ∙ ap (λ (y : Lent). endFor (readAt n) (y .store) (y .book) i (turnedTo e (e .state) (withWindow (e .run) u))) now-new
           ∙ rw (
+            o,
             run-long,
             none-taken g li kind,
             no-urgent g li kind,

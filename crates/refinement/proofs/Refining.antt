@@ -17,16 +17,18 @@ use Rattle.end_points.specs.declared.State.the-variants.{Closed, Enabled, Open,
 use Rattle.call_open.specs.Opening.{stateAnswer}
 use Rattle.good.specs.Good.{Lists, Good}
 use Rattle.good.specs.Calls.{Memory, relent, at-setup, by-call, by-store}
-use Rattle.machine.specs.Calls.{Call, Fed, opens, closes, counts, sends, urges, arrives, hands-out, ticks}
+use Rattle.machine.specs.Calls.{Call, Fed, opens, closes, counts, sends, urges, arrives, hands-out, reports, ticks}
 use Rattle.machine.specs.Machine.{Machine, begun, stating, step}
 use Rattle.machine.proofs.Listed.{elem-listed, elem-none}
-use Rattle.refinement.specs.Standing.{Reading, readAt, stateFor, endFor, endAt}
+use Rattle.refinement.specs.Standing.{readAt, endFor, endAt}
 use Rattle.refinement.specs.Standing.{standsFor, Stands, Follows, Begins, Refines, StatesAnswer, ReachStands}
+use Rattle.refinement.proofs.Following.{stateIn}
 use Rattle.refinement.proofs.SetupStands.{begins}
 use Rattle.refinement.proofs.OpenStands.{open-follows, close-follows, counts-follow}
 use Rattle.refinement.proofs.SendStands.{send-follows, urgent-follows}
 use Rattle.refinement.proofs.ArriveStands.{arrive-follows}
 use Rattle.refinement.proofs.HandStands.{hand-follows}
+use Rattle.refinement.proofs.ReportStands.{report-follows}
 use Rattle.refinement.proofs.TickAllStands.{tick-follows}
 
 -- of the machine that the memory stands for
@@ -39,6 +41,7 @@ follows-at t n l g room (sends i p) f = send-follows t n l g room i p
 follows-at t n l g room (urges i p) f = urgent-follows t n l g room i p
 follows-at t n l g room (arrives block frame) f = arrive-follows t n l g room block frame f
 follows-at t n l g room (hands-out buffer) f = hand-follows t n l g room buffer
+follows-at t n l g room reports f = report-follows t n l g room
 follows-at t n l g room ticks f = tick-follows t n l g room
 
 pub refines : Refines
@@ -52,16 +55,16 @@ states-answer t n m S i = subst (λ (m : Machine). statedOf (stateAnswer (n .nod
     count : countIn (n .node) ≡ countOf t
     count = S .good .tabled .count
 
-    same : (L : Reading) (s : State) → stateNumber s ≡ stateNumber (stateFor L s)
-    same L Closed = refl
-    same L (Enabled timer sent) = refl
-    same L Open = refl
-    same L (Failing timers) = refl
+    same : (s : State) → stateNumber s ≡ stateNumber (stateIn (readAt n) (n .store) (n .book) i (endOf (n .node) i) s)
+    same Closed = refl
+    same (Enabled timer sent) = refl
+    same Open = refl
+    same (Failing timers) = refl
 
     sides : Dec (i < countIn (n .node)) → statedOf (stateAnswer (n .node) i) ≡ stating (standsFor t n (S .lists)) i
     sides (yes h) =
         rw (lt-leb (countIn (n .node)) i h, elem-listed (countOf t) (endAt n) i (omega (arith, count)))
-        (ap (λ (k : ℕ). 0 ∷ k ∷ []) (same (readAt n) (endOf (n .node) i .state)))
+        (ap (λ (k : ℕ). 0 ∷ k ∷ []) (same (endOf (n .node) i .state)))
     sides (no h) =
         rw (le-leb (countIn (n .node)) i (omega arith), elem-none (countOf t) (endAt n) i (omega (arith, count)))
 

@@ -28,7 +28,7 @@ use Rattle.good.specs.Good.{Lists, Fresh, Stated, Good, Filled}
 use Rattle.good.specs.Calls.{Memory, relent}
 use Rattle.good.proofs.Stores.{slot-low, slot-room, urgent-low}
 use Rattle.good.proofs.Payloads.{s-filled, r-filled}
-use Rattle.machine.specs.Machine.{End, Machine, listed, lending}
+use Rattle.machine.specs.Machine.{Number, End, Machine, listed, lending}
 use Rattle.machine.proofs.Listed.{listed-ext, elem-listed, length-listed}
 use Rattle.machine.proofs.Entries.{not-none, elem-lt, elem-in}
 use Rattle.refinement.specs.Standing.{Reading, readAt, payloadFor, numberFor, placeFor, stateFor, endFor, endAt, standsFor, Stands}
@@ -69,7 +69,7 @@ same-machine t n m S s long same =
     with-ends : List End → Machine
     with-ends es =
         let k = standsFor t (relent s n) (S .lists) in
-        record { own = k .own; protocol = k .protocol; need = k .need; room = k .room; ends = es; waiting = k .waiting }
+        record { own = k .own; protocol = k .protocol; need = k .need; room = k .room; ends = es; waiting = k .waiting; under = k .under }
 
 module _ (t : List ℕ) (n : Memory) (l : Lists) (g : Good t (n .node) (n .book) l) (s : List ℕ) (i : ℕ)
     (li : i < countIn (n .node)) where
@@ -84,8 +84,8 @@ module _ (t : List ℕ) (n : Memory) (l : Lists) (g : Good t (n .node) (n .book)
       → (isSends (e .entry .kind) ≡ true → urgentPayload s e ≡ urgentPayload (n .store) e)
       → endAt (relent s n) i ≡ endAt n i
   end-as taken places urgent =
-      end-same (readAt n) (n .store) s (n .book) (n .book) i e
-      (λ k h. numbers-same (readAt n) (n .store) s (n .book) (n .book) i e k (taken k h) refl refl)
+      end-same (readAt n) (n .store) s (n .book) (n .book) i e refl
+      (λ k h. numbers-same (readAt n) (n .store) s (n .book) (n .book) i e refl k (taken k h) refl refl)
       places urgent (no-urgent g li)
 
   -- ---- the same bytes in the entries' areas
@@ -162,14 +162,14 @@ fresh-empty L st b i e f =
     no-some (suc n) p (List·Memᴰ·tail h) = no-some n p h
 
 -- a run of such a state is fresh, of a sender and of a receiver
-fresh-idle : (b : List ℕ) (l : Lists) (i : ℕ) (e : EndPoint) (k : Bool) (s : State) → Stated b l i e k s → (L : Reading)
-    → Idle (stateFor L s) → Fresh (e .run)
-fresh-idle b l i e true Closed a L h = a .fresh
-fresh-idle b l i e false Closed a L h = a .fresh
-fresh-idle b l i e true (Enabled d sent) a L h = a .fresh
-fresh-idle b l i e false (Enabled d sent) a L h = a .0 .fresh
-fresh-idle b l i e k Open a L h = absurd h
-fresh-idle b l i e k (Failing timers) a L h = absurd h
+fresh-idle : (b : List ℕ) (l : Lists) (i : ℕ) (e : EndPoint) (k : Bool) (s : State) → Stated b l i e k s → (L : Reading) (u : Bool) (ns : List Number)
+    → Idle (stateFor L u ns s) → Fresh (e .run)
+fresh-idle b l i e true Closed a L u ns h = a .fresh
+fresh-idle b l i e false Closed a L u ns h = a .fresh
+fresh-idle b l i e true (Enabled d sent) a L u ns h = a .fresh
+fresh-idle b l i e false (Enabled d sent) a L u ns h = a .0 .fresh
+fresh-idle b l i e k Open a L u ns h = absurd h
+fresh-idle b l i e k (Failing timers) a L u ns h = absurd h
 
 pub idle-is-empty : IdleIsEmpty
 unfolding IdleIsEmpty endFor
@@ -177,7 +177,7 @@ idle-is-empty t n m S i e here idle =
     subst Empty is
     (fresh-empty (readAt n) (n .store) (n .book) i (endOf (n .node) i)
     (fresh-idle (n .book) (S .lists) i (endOf (n .node) i) (isSends (endOf (n .node) i .entry .kind)) (endOf (n .node) i .state)
-    (stated-at (S .good) li (isSends (endOf (n .node) i .entry .kind)) refl (endOf (n .node) i .state) refl) (readAt n)
+    (stated-at (S .good) li (isSends (endOf (n .node) i .entry .kind)) refl (endOf (n .node) i .state) refl) (readAt n) _ _
     (subst (λ (d : End). Idle (d .state)) (sym is) idle)))
   where
     there : getElem? (listed (countOf t) (endAt n)) i ≡ some e

@@ -40,7 +40,7 @@ use Rattle.good.specs.Calls.{Memory, lent, kept, answer, after}
 use Rattle.machine.specs.Calls.{sends, urges}
 use Rattle.good.proofs.Lined.{append-cells, append-lines}
 use Rattle.good.proofs.Offsets.{cell-inj, slot-inj, urgent-owner}
-use Rattle.good.proofs.Framing.{cell-low, slot-lt}
+use Rattle.good.proofs.Framing.{same-under, cell-low, slot-lt}
 use Rattle.good.proofs.Turns.{turnedTo, saved-acks}
 use Rattle.good.proofs.RunSets.{sent-puts}
 use Rattle.good.proofs.SendKeeps.{next-waits, SendPassed, send-passed, send-keeps}
@@ -148,7 +148,7 @@ module _ (t : List ℕ) (n : Memory) (l : Lists) (g : Good t (n .node) (n .book)
         let hc = cell-low i low w good (past w k) in
         let ha = cell-low i low w good (past w (e .run .taken)) in
         let apart : c ≢ at = (λ z. let y = cell-inj w good i k (e .run .taken) (omega (arith, went .room)) (went .room) z in omega arith) in
-        numbers-same (readAt n) (n .store) (now .store) (n .book) (now .book) i e k (old-payload k hk)
+        numbers-same (readAt n) (n .store) (now .store) (n .book) (now .book) i e (same-under i (n .book) (now .book) (left .under) .data!) k (old-payload k hk)
         (ap (λ (b : List ℕ). retriesIn b c) book ∙ put-s .others (retriesAt c) (omega arith) (λ z. omega arith) (λ z. apart (omega arith)))
         (ap (λ (b : List ℕ). timerIn b c) book ∙ put-s .others (timerAt c) (omega arith) (λ z. omega arith) (λ z. omega arith))
 
@@ -174,7 +174,7 @@ module _ (t : List ℕ) (n : Memory) (l : Lists) (g : Good t (n .node) (n .book)
     unfolding endFor sentRun
     here =
         end-at left end
-        ∙ rw (numbers, no-places (now .store) (now .book) i e (went .sends), no-places (n .store) (n .book) i e (went .sends), urgent)
+        ∙ rw (went .opened, numbers, no-places (now .store) (now .book) i e (went .sends), no-places (n .store) (n .book) i e (went .sends), urgent)
 
     -- what waits: one more, last of the data
 
@@ -203,7 +203,7 @@ module _ (t : List ℕ) (n : Memory) (l : Lists) (g : Good t (n .node) (n .book)
   -- the tests are the same: the window in force, how many numbers are taken, the store that is needed
   same : i < countIn (n .node) → verdict (sendTests M E p) ≡ verdict (memory.sendTests e (length p) (length (n .store)) (needIn (n .node)))
   unfolding endFor
-  same li = rw (open-for (readAt n) (e .state), long, size-is g li, g .tabled .need)
+  same li = rw (open-for (readAt n) (n .store) (n .book) i e (e .state), long, size-is g li, g .tabled .need)
 
   abbrev then : Machine
   then = waits datas i (machine.past E (length (E .numbers))) (turned i (taking p E) M)
@@ -269,7 +269,7 @@ module _ (t : List ℕ) (n : Memory) (l : Lists) (g : Good t (n .node) (n .book)
     numbers-u : (k : ℕ) → k < e .run .taken → numberFor (readAt n) (now-u .store) (now-u .book) i e k ≡ numberFor (readAt n) (n .store) (n .book) i e k
     numbers-u k hk =
         let c = cell i w (past w k) in
-        numbers-same (readAt n) (n .store) (now-u .store) (n .book) (now-u .book) i e k (payload-u k hk)
+        numbers-same (readAt n) (n .store) (now-u .store) (n .book) (now-u .book) i e (same-under i (n .book) (now-u .book) (left-u .under) .data!) k (payload-u k hk)
         (cells-u (retriesAt c) (omega arith)) (cells-u (timerAt c) (omega arith))
 
     urgent-new : take (length p) (drop (spot (e .place) (e .entry .largest) (w .size)) (now-u .store)) ≡ p
@@ -280,6 +280,7 @@ module _ (t : List ℕ) (n : Memory) (l : Lists) (g : Good t (n .node) (n .book)
     here-u =
         end-at left-u end-u
         ∙ rw (
+          went-u .opened,
           listed-ext (e .run .taken) (numberFor (readAt n) (now-u .store) (now-u .book) i e) (numberFor (readAt n) (n .store) (n .book) i e) numbers-u,
           no-places (now-u .store) (now-u .book) i e (went-u .sends),
           no-places (n .store) (n .book) i e (went-u .sends),
@@ -311,7 +312,7 @@ module _ (t : List ℕ) (n : Memory) (l : Lists) (g : Good t (n .node) (n .book)
   -- the tests are the same: an Urgent waits, and the store that is needed
   same-u : verdict (asks E) ≡ verdict (memory.urgentTests e (length p) (length (n .store)) (needIn (n .node)))
   unfolding endFor
-  same-u = rw (open-for (readAt n) (e .state), waits-is (eqb (e .run .urgent) 0), g .tabled .need)
+  same-u = rw (open-for (readAt n) (n .store) (n .book) i e (e .state), waits-is (eqb (e .run .urgent) 0), g .tabled .need)
     where
       waits-is : (b : Bool) → isSome (pick b none (some (urgentPayload (n .store) e))) ≡ not b
       waits-is true = refl

@@ -2,12 +2,16 @@
 use Prim.Native.Nat.{ℕ, _≤_, _<_}
 use mathlib.Core.Path.{_≡_, refl, sym, ap, subst, _∙_, fun-ext}
 use mathlib.Core.List.{List, [], map}
-use lib.ListN.{length}
+use native.Mathlib.Omega.{arith}
+use lib.ListN.{length, set, length-set}
+use lib.Seq.{getD-set-same}
 use Rattle.units.specs.declared.refusals.Verdict.the-variants.{Passed}
+use Rattle.memory.specs.Layout.{underAt, bookHalves}
+use Rattle.waiting.specs.Port.{underIn}
 use Rattle.window.proofs.Resetting.{new-held}
 use Rattle.table.specs.Layout.{countOf, entryOf}
 use Rattle.table.specs.Areas.{storeOf}
-use Rattle.call_open.specs.Setup.{setupAnswer, setupAfter}
+use Rattle.call_open.specs.Setup.{setupAnswer, emptied, setupAfter}
 use Rattle.good.specs.Calls.{Memory, kept, SetUp}
 use Rattle.good.proofs.Entering.{closedAt}
 use Rattle.good.proofs.SetupGood.{setup-good, setup-ends}
@@ -38,9 +42,15 @@ module _ (t : List ℕ) (n : Memory) (s : SetUp t n) where
   none-waits resends = refl
   none-waits datas = refl
 
+  none-under : underIn (done .book) ≡ 0
+  unfolding setupAfter
+  none-under =
+      let long : length (set (emptied (s .before .book)) underAt 0) ≡ bookHalves = setup-good (s .before) t (s .node) (s .book) (s .bytes) (s .passed) .lines .long in
+      getD-set-same (emptied (s .before .book)) underAt 0 0 (omega (arith, long, length-set (emptied (s .before .book)) underAt 0))
+
   stands-for : standsFor t done (λ r. []) ≡ begun t (length (done .store))
   unfolding begun
-  stands-for = rw (listed-ext (countOf t) (endAt done) (λ i. first (entryOf t i)) ends, fun-ext none-waits)
+  stands-for = rw (listed-ext (countOf t) (endAt done) (λ i. first (entryOf t i)) ends, fun-ext none-waits, none-under)
 
   begins-at : Stands t n (begun t (length (n .store)))
   begins-at =

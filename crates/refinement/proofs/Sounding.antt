@@ -14,6 +14,7 @@ use lib.Dec.{eqb}
 use borrow.Author.Tests.{eqb-false}
 use Rattle.units.specs.Refusals.{pick}
 use Rattle.memory.specs.Layout as layout
+use Rattle.waiting.specs.Port.{underIn, isReset}
 use Rattle.waiting.specs.Acks.{placeOf, waitingOf}
 use Rattle.waiting.specs.Order.{acksIn}
 use Rattle.waiting.proofs.Ringed.{from-length}
@@ -46,7 +47,7 @@ use Rattle.machine.specs.Sound.{Sized, Receives, Bounded, WaitsData, Waits, Own
 use Rattle.refinement.specs.Standing.{Reading, readAt, stateFor, payloadFor, numberFor, placeFor, endFor, endAt, ackItem, plainItem, slotItem, waitingFor, standsFor, StandsSound}
 use Rattle.machine.proofs.Listed.{length-listed, getD-listed, elem-listed, elem-none}
 use Rattle.refinement.proofs.Elsewhere.{no-urgent, none-taken, urgent-most}
-use Rattle.refinement.proofs.Following.{item-at}
+use Rattle.refinement.proofs.Following.{stateIn, item-at}
 
 -- ---- members of a list by its numbers
 
@@ -65,7 +66,7 @@ not-some a e = let z : _≡_ {A = ℕ} 0 1 = cc in omega arith
 some-same : {A : Type 0} (a b : A) → _≡_ {A = Option A} (some a) (some b) → a ≡ b
 some-same a b e = cc
 
-elem-of : {A : Type 0} (n : ℕ) (f : ℕ → A) (i : ℕ) (a : A) → getElem? (listed n f) i ≡ some a → (i < n) × (a ≡ f i)
+pub elem-of : {A : Type 0} (n : ℕ) (f : ℕ → A) (i : ℕ) (a : A) → getElem? (listed n f) i ≡ some a → (i < n) × (a ≡ f i)
 elem-of {A} n f i a e = sides (decLt i n)
   where
     sides : Dec (i < n) → (i < n) × (a ≡ f i)
@@ -77,7 +78,7 @@ picked : {A : Type 0} (t : Bool) (a p : A) → pick t (some a) none ≡ some p �
 picked true a p e = (refl, some-same p a (sym e))
 picked false a p e = absurd (not-some p e)
 
-picked-not : {A : Type 0} (t : Bool) (a p : A) → pick t none (some a) ≡ some p → (t ≡ false) × (p ≡ a)
+pub picked-not : {A : Type 0} (t : Bool) (a p : A) → pick t none (some a) ≡ some p → (t ≡ false) × (p ≡ a)
 picked-not true a p e = absurd (not-some p e)
 picked-not false a p e = (refl, some-same p a (sym e))
 
@@ -90,11 +91,11 @@ not-true true h = absurd (let z : _≡_ {A = ℕ} 0 1 = cc in omega arith)
 not-true false h = refl
 
 -- a state is Failing where it reads so
-failing-for : (L : Reading) (s : State) (k : ℕ) → stateFor L s ≡ Failing k → s ≡ Failing k
-failing-for L Closed k h = absurd (let z : _≡_ {A = ℕ} 0 1 = cc in omega arith)
-failing-for L (Enabled d sent) k h = absurd (let z : _≡_ {A = ℕ} 0 1 = cc in omega arith)
-failing-for L Open k h = absurd (let z : _≡_ {A = ℕ} 0 1 = cc in omega arith)
-failing-for L (Failing m) k h = h
+failing-for : (L : Reading) (u : Bool) (ns : List Number) (s : State) (k : ℕ) → stateFor L u ns s ≡ Failing k → (m : ℕ) × (s ≡ Failing m)
+failing-for L u ns Closed k h = absurd (let z : _≡_ {A = ℕ} 0 1 = cc in omega arith)
+failing-for L u ns (Enabled d sent) k h = absurd (let z : _≡_ {A = ℕ} 0 1 = cc in omega arith)
+failing-for L u ns Open k h = absurd (let z : _≡_ {A = ℕ} 0 1 = cc in omega arith)
+failing-for L u ns (Failing m) k h = (m, refl)
 
 module _ (t : List ℕ) (n : Memory) (l : Lists) (g : Good t (n .node) (n .book) l) (room : storeOf t ≤ length (n .store)) where
   abbrev M : Machine
@@ -167,7 +168,9 @@ module _ (t : List ℕ) (n : Memory) (l : Lists) (g : Good t (n .node) (n .book)
     receiver-still s =
         record {
           numbers = ap (λ (k : ℕ). listed k (numberFor (readAt n) (n .store) (n .book) i e)) (none-taken g li s);
-          runs = λ k h. stated-as (n .book) l i e (g .entered i li) false s (Failing k) (failing-for (readAt n) (e .state) k h);
+          runs = λ k h.
+              let z = failing-for (readAt n) _ _ (e .state) k h in
+              stated-as (n .book) l i e (g .entered i li) false s (Failing (z .0)) (z .1);
         }
 
     narrow : e .run .taken ≤ entryOf t i .window
@@ -208,7 +211,7 @@ module _ (t : List ℕ) (n : Memory) (l : Lists) (g : Good t (n .node) (n .book)
         let far : k < length (listed (e .run .taken) (numberFor (readAt n) (n .store) (n .book) i e)) = rw (length-listed (e .run .taken) (numberFor (readAt n) (n .store) (n .book) i e)) h in
         record {
           sends = s;
-          opened = ap (stateFor (readAt n)) o;
+          opened = ap (stateIn (readAt n) (n .store) (n .book) i e) o;
           taken = rw d far;
           missing = rw d (ap (λ (x : Number). x .acked) (getD-listed (e .run .taken) (numberFor (readAt n) (n .store) (n .book) i e) k _ h) ∙ m);
         }
@@ -245,7 +248,7 @@ module _ (t : List ℕ) (n : Memory) (l : Lists) (g : Good t (n .node) (n .book)
           sides : isSends (e .entry .kind) ≡ true → (u : State) → e .state ≡ u → Stated (n .book) l i e true u → Own resets 0
           sides s Closed q a = absurd (empty 0 m (a .silent .share .resets))
           sides s (Enabled timer sent) q a =
-              record { end = endAt n i; there = there; byte = omega arith; waits = record { sends = s; zero = refl; timer = readAt n timer; sent = sent; enabled = ap (stateFor (readAt n)) q } }
+              record { end = endAt n i; there = there; byte = omega arith; waits = record { sends = s; zero = refl; timer = pick (isReset (underIn (n .book)) i) 0 (readAt n timer); sent = sent; enabled = ap (stateIn (readAt n) (n .store) (n .book) i e) q } }
           sides s Open q a = absurd (empty 0 m (a .share .resets))
           sides s (Failing k) q a = absurd (empty 0 m (a .silent .share .resets))
 
@@ -316,7 +319,7 @@ module _ (t : List ℕ) (n : Memory) (l : Lists) (g : Good t (n .node) (n .book)
         end = endAt n (v / 256);
         there = rw same (there (v / 256) (a .known));
         byte = omega arith;
-        waits = record { receives = a .receives; opened = ap (stateFor (readAt n)) (a .opened) };
+        waits = record { receives = a .receives; opened = ap (stateIn (readAt n) (n .store) (n .book) (v / 256) (endOf (n .node) (v / 256))) (a .opened) };
       }
 
   of-queue : (q : Sort) (k : ℕ) → k < 4 → (f : ℕ → Item) → ((y : ℕ) → (i : ℕ) → i < countIn (n .node) → ownerOf y ≡ i → List·Memᴰ y (l k) → Owned M q (f y))

@@ -1,19 +1,21 @@
--- A tick is the machine's: every entry in table order, then every end that is over; and where no timer can run out, the
--- clock alone moves, as every timer of the machine falls. Assumes nothing.
+-- A tick is the machine's: every entry in table order, then every end that is over and has no frame of its own under
+-- way; and where no timer can run out, the clock alone moves, as every timer of the machine falls. Assumes nothing.
 use Prim.Native.Nat.{ℕ, zero, suc, _+_, _-_, _^_, min, _≤_, _<_}
 use mathlib.Core.Path.{_≡_, refl, sym, ap, subst, _∙_, fun-ext}
 use mathlib.Core.Logic.{_≢_}
-use mathlib.Core.Bool.{Bool, true, false}
+use mathlib.Core.Bool.{Bool, true, false, not, _&&_, true≢false, and-false}
+use mathlib.Core.Option.{Option, none, some}
 use mathlib.Core.List.{List, [], _∷_, _++_, map}
 use native.Mathlib.Decide.{decLt, ℕ-discrete}
 use native.Mathlib.Omega.{arith}
 use lib.ListN.{length}
-use lib.Dec.{ltb}
-use borrow.Author.Tests.{eqb-true, ne-eqb, lt-ltb, le-ltb}
+use lib.Dec.{eqb, ltb}
+use borrow.Author.Tests.{eqb-true, eq-eqb, ne-eqb, lt-ltb, le-ltb}
 use Rattle.units.specs.Refusals.{pick}
 use Rattle.memory.specs.Layout as layout
 use Rattle.memory.specs.Layout.{resetId}
 use Rattle.waiting.specs.Queues.{appended}
+use Rattle.waiting.specs.Port.{underIn, outEntry, isOwn, noNumber, dataOut}
 use Rattle.table.specs.Layout.{countOf}
 use Rattle.table.specs.Areas.{storeOf}
 use Rattle.end_points.specs.Ends.{endOf, saved}
@@ -25,34 +27,40 @@ use Rattle.end_points.specs.declared.State.{State}
 use Rattle.end_points.specs.declared.State.the-variants.{Closed, Enabled, Open, Failing}
 use Rattle.end_points.specs.declared.EndPoint.{EndPoint}
 use Rattle.timing.specs.Timing.{clockIn, quietIn, later, leftOf, passed}
-use Rattle.timing.proofs.Falling.{later-next}
+use Rattle.timing.proofs.Falling.{later-next, left-zero}
 use Rattle.call_tick.specs.Ticking as memory
 use Rattle.call_tick.specs.Ticking.{Scanned, Recovered, recover, recoverAll, tickEntry, tickEntries, scanBoth, scanAfter, stillAfter, tickBoth, tickAfter, tickAnswer}
-use Rattle.good.specs.Good.{Lists, Silent, Good}
+use Rattle.good.specs.Good.{Lists, Silent, Stated, Good}
 use Rattle.good.specs.Calls.{Memory, bare, keptBare, answer, after}
 use Rattle.machine.specs.Calls.{ticks}
 use Rattle.good.proofs.Lined.{added}
-use Rattle.good.proofs.Framing.{Within, apart-saved, count-low}
+use Rattle.good.proofs.Framing.{same-under, Within, apart-saved, count-low}
+use Rattle.good.proofs.Porting.{none-idle, other-idle}
 use Rattle.good.proofs.Turns.{turnedTo, end-saved, run-fits, anew-fits, anew-size, saved-acks, sender-turn}
-use Rattle.good.proofs.Senders.{reset-within, reset-silent, enabled-sender}
+use Rattle.good.proofs.Senders.{reset-within, reset-under, reset-silent, enabled-sender}
 use Rattle.good.proofs.Clocked.{Clocked, pass-clocked, pass-clock, clocked-end, clocked-acks}
 use Rattle.good.proofs.Timely.{passes-over}
 use Rattle.good.proofs.TickKeeps as keeps
 use Rattle.good.proofs.TickKeeps.{Pass, Round, rounds, TickKept, tick-keeps}
 use Rattle.good.proofs.Payloads.{unaltered}
 use Rattle.machine.specs.Machine.{End, Item, Sort, acks, resets, urgents, resends, datas, Machine, listed, anew, enabled, answers, at, ticked, each, recovered}
-use Rattle.machine.specs.Machine.{bitsFrom, ticking, step, node}
-use Rattle.refinement.specs.Standing.{Reading, stateFor, endFor, endAt, slotItem, plainItem, ackItem, waitingFor, standsFor, Stands, Follows}
+use Rattle.machine.specs.Machine.{Out, isOf, mayRecover, bitsFrom, ticking, step, node}
+use Rattle.refinement.specs.Standing.{Reading, endFor, endAt, underFor, slotItem, plainItem, ackItem, waitingFor, standsFor, Stands, Follows}
 use Rattle.machine.proofs.Listed.{length-listed, listed-ext, elem-listed}
 use Rattle.refinement.proofs.Elsewhere.{Leaves}
 use Rattle.refinement.proofs.Readings.{Readings, endWith, standsWith, StandsWith, still-with, turned-with}
 use Rattle.refinement.proofs.Waiting.{items-stay, lists-are, waits-reset}
-use Rattle.refinement.proofs.Following.{low-at, stated-at, begun-end}
+use Rattle.refinement.proofs.Following.{stateIn, low-at, stated-at, enabled-end}
+use Rattle.refinement.proofs.Numbers.{running-is}
 use Rattle.refinement.proofs.TickStands.{entry-ticks}
 use Rattle.refinement.proofs.TickQuiet.{entry-passes}
 
 abbrev tickOne : ℕ → End → Machine → Machine
 tickOne i e m = ticked m i e (e .state)
+
+-- the bits that a tick answers, once all entries' timers have ticked
+abbrev bits-of : Machine → ℕ
+bits-of m = bitsFrom (m .under) 0 (m .ends)
 
 -- ---- the first k entries are read by tick c′, the others by tick c
 
@@ -136,9 +144,9 @@ module _ (t : List ℕ) (n : Memory) (l : Lists) (g : Good t (n .node) (n .book)
 
   -- where none can
   passing : quietIn (n .node) ≢ 0 → (k : ℕ) → k ≤ countIn (n .node) → StandsWith (upto c now k) t n (each k tickOne (standsFor t n l))
-  passing some =
+  passing bound =
       each-stands t tickOne (λ k. n) (upto c now) (standsFor t n l) (countIn (n .node)) (omega (arith, g .tabled .count)) none-yet
-      (λ k h l′ g′ room′. entry-passes t n l′ g′ room′ some k h (upto c now k) (upto c now (suc k)) (upto-here c now k) (upto-next c now k) (upto-other c now k))
+      (λ k h l′ g′ room′. entry-passes t n l′ g′ room′ bound k h (upto c now k) (upto c now (suc k)) (upto-here c now k) (upto-next c now k) (upto-other c now k))
 
 -- ---- an end that is over becomes Enabled
 
@@ -148,11 +156,56 @@ is-over (Enabled n sent) h = absurd (let z : _≡_ {A = ℕ} 0 1 = cc in omega a
 is-over Open h = absurd (let z : _≡_ {A = ℕ} 0 1 = cc in omega arith)
 is-over (Failing n) h = ap Failing (eqb-true n 0 h)
 
-over-reads : (L : Reading) (s : State) → isOver (stateFor L s) ≡ isOver s
-over-reads L Closed = refl
-over-reads L (Enabled n sent) = refl
-over-reads L Open = refl
-over-reads L (Failing n) = refl
+first-true : (a b : Bool) → (a && b) ≡ true → a ≡ true
+first-true true b h = refl
+first-true false b h = h
+
+-- the frame under way is entry i's own, in the machine as in the book
+of-own : (b : List ℕ) (i : ℕ) → isOf i (underFor (underIn b)) ≡ isOwn b i
+of-own b i = sides (eqb (underIn b) 0) _
+  where
+    sides : (z : Bool) (f : Out) → isOf i (pick z none (some f)) ≡ (not z && eqb (f .1 .entry) i)
+    sides true f = refl
+    sides false f = refl
+
+-- where it is not, none of its numbers is under way
+none-own : (b : List ℕ) (i : ℕ) → i < 16 → isOwn b i ≡ false → dataOut b i ≡ noNumber
+none-own b i low own = sides (ℕ-discrete (underIn b) 0)
+  where
+    other : underIn b ≢ 0 → i ≢ outEntry (underIn b)
+    other d e = true≢false (sym (rw (ne-eqb (underIn b) 0 d, eq-eqb (outEntry (underIn b)) i (sym e))) ∙ own)
+
+    sides : Dec (underIn b ≡ 0) → dataOut b i ≡ noNumber
+    sides (yes z) = none-idle b i z .data!
+    sides (no d) = other-idle b (outEntry (underIn b)) i low (other d) refl .data!
+
+-- so an end recovers in the machine where it does in the memory: its timers that run are then all that the book counts
+module _ {t ws b : List ℕ} {l : Lists} (g : Good t ws b l) {i : ℕ} (li : i < countIn ws) (c : ℕ) (st : List ℕ) where
+  abbrev its : EndPoint
+  its = endOf ws i
+
+  abbrev E : End
+  E = endFor (leftOf c) st b i its
+
+  over-in : dataOut b i ≡ noNumber → (s : State) (k : Bool) → Stated b l i its k s
+      → isOver (stateIn (leftOf c) st b i its s) ≡ isOver s
+  over-in free Closed k S = refl
+  over-in free (Enabled d sent) k S = refl
+  over-in free Open k S = refl
+  over-in free (Failing m) true S =
+      ap (λ (x : ℕ). eqb x 0) (running-is (leftOf c) (left-zero c) st b i its free (its .run .taken) (S .sending .handed) ∙ sym (S .timers))
+  over-in free (Failing m) false S = absurd S
+
+  over-reads : isOwn b i ≡ false → isOver (E .state) ≡ isOver (its .state)
+  unfolding endFor
+  over-reads own = over-in (none-own b i (low-at g li) own) (its .state) (isSends (its .entry .kind)) (g .entered i li .stated)
+
+  may-reads : mayRecover (underFor (underIn b)) i E ≡ (isOver (its .state) && not (isOwn b i))
+  may-reads = ap (λ (o : Bool). isOver (E .state) && not o) (of-own b i) ∙ sides (isOwn b i) refl
+    where
+      sides : (o : Bool) → isOwn b i ≡ o → (isOver (E .state) && not o) ≡ (isOver (its .state) && not o)
+      sides true h = and-false (isOver (E .state)) ∙ sym (and-false (isOver (its .state)))
+      sides false h = ap (λ (z : Bool). z && true) (over-reads h)
 
 module _ (t : List ℕ) (n : Memory) (l : Lists) (g : Good t (n .node) (n .book) l) (room : storeOf t ≤ length (n .store))
     (c : ℕ) (i : ℕ) (li : i < countIn (n .node)) where
@@ -197,10 +250,11 @@ module _ (t : List ℕ) (n : Memory) (l : Lists) (g : Good t (n .node) (n .book)
           lists = l′;
           good = sender-turn t (n .node) (n .book) l g i li kind (Enabled 0 false) (runs.anew (e .run)) (omega arith)
               (anew-fits (e .run) (run-fits (n .node) i)) (anew-size (e .run)) book l′ v
-              (enabled-sender book l′ i e kind (g .entered i li .window) (reset-silent (n .book) l (g .lines) i low quiet)) (λ runs. absurd (runs refl));
+              (enabled-sender book l′ i e kind (g .entered i li .window) (reset-silent (n .book) l (g .lines) i low quiet)) (λ o runs. absurd (runs refl));
           apart = apart-saved i (n .node) (Enabled 0 false) (runs.anew (e .run));
           within = v;
           stored = unaltered refl;
+          under = reset-under (n .book) l (g .lines) i low quiet;
         }
 
     end : endOf words i ≡ turnedTo e (Enabled 0 false) (runs.anew (e .run))
@@ -209,7 +263,7 @@ module _ (t : List ℕ) (n : Memory) (l : Lists) (g : Good t (n .node) (n .book)
         (anew-size (e .run))
 
     here : endWith R then i ≡ anew (Enabled 0 false) (endWith R n i)
-    here = ap (endFor (leftOf c) (n .store) book i) end ∙ begun-end (leftOf c) (leftOf c) (n .store) book (n .store) (n .book) i e (Enabled 0 false)
+    here = ap (endFor (leftOf c) (n .store) book i) end ∙ enabled-end (leftOf c) refl (leftOf c) (n .store) book (n .store) (n .book) i e false
 
     over-stands : StandsWith R t then (enabled i (endWith R n i) (standsWith R t n l))
     unfolding enabled endFor
@@ -221,14 +275,14 @@ module _ (t : List ℕ) (n : Memory) (l : Lists) (g : Good t (n .node) (n .book)
   -- or stays as it is
   recover-stands : (bits : ℕ)
       → StandsWith R t (keptBare n (recover i (record { lent = bare n; bits = bits }) .lent)) (recovered i (endWith R n i) (standsWith R t n l))
-  unfolding recover endFor
-  recover-stands bits = rw (over-reads (leftOf c) (e .state)) (sides (isOver (e .state)) refl)
+  unfolding recover
+  recover-stands bits = rw (may-reads g li c (n .store)) (sides (isOver (e .state) && not (isOwn (n .book) i)) refl)
     where
-      sides : (z : Bool) → isOver (e .state) ≡ z
+      sides : (z : Bool) → (isOver (e .state) && not (isOwn (n .book) i)) ≡ z
           → StandsWith R t (keptBare n
           (pick z (memory.again i (record { lent = bare n; bits = bits }))
           (record { lent = bare n; bits = bits }) .lent)) (pick z (enabled i (endWith R n i) (standsWith R t n l)) (standsWith R t n l))
-      sides true z = over-stands (is-over (e .state) z)
+      sides true z = over-stands (is-over (e .state) (first-true (isOver (e .state)) (not (isOwn (n .book) i)) z))
       sides false z = still-with R g room (λ j h. refl)
 
 -- ---- every end that is over
@@ -258,48 +312,57 @@ module _ (t : List ℕ) (n : Memory) (l : Lists) (g : Good t (n .node) (n .book)
       (recovered k (endWith by (keptBare n (r .lent)) k) (standsWith by t (keptBare n (r .lent)) l′))) (bare-is n (r .lent) (P .store) (P .out))
       (recover-stands t (keptBare n (r .lent)) l′ g′ room′ c k (let c = P .count in omega arith) (r .bits)))
 
-  -- none is
-  none-over : ((j : ℕ) → j < countIn (n .node) → isOver (endOf (n .node) j .state) ≡ false)
-      → (k : ℕ) → k ≤ countIn (n .node) → StandsWith by t n (each k recovered (standsWith by t n l))
-  unfolding endFor
-  none-over none =
+  -- none recovers
+  abbrev Stay : Type 0
+  Stay = (j : ℕ) → j < countIn (n .node) → (isOver (endOf (n .node) j .state) && not (isOwn (n .book) j)) ≡ false
+
+  none-over : Stay → (k : ℕ) → k ≤ countIn (n .node) → StandsWith by t n (each k recovered (standsWith by t n l))
+  none-over stay =
       each-stands t recovered (λ k. n) (λ k. by) (standsWith by t n l) (countIn (n .node))
       (omega (arith, g .tabled .count)) (still-with by g room (λ j h. refl))
-      (λ k h l′ g′ room′. rw (over-reads (leftOf c) (endOf (n .node) k .state), none k h) (still-with by g′ room′ (λ j h. refl)))
+      (λ k h l′ g′ room′. rw (may-reads g′ h c (n .store), stay k h) (still-with by g′ room′ (λ j h. refl)))
 
   -- the bits
+  abbrev u : Option Out
+  u = underFor (underIn (n .book))
+
   bits-snoc : (i : ℕ) (xs : List End) (x : End)
-      → bitsFrom i (xs ++ (x ∷ [])) ≡ bitsFrom i xs + pick (isOver (x .state)) (2 ^ (i + length xs)) 0
+      → bitsFrom u i (xs ++ (x ∷ [])) ≡ bitsFrom u i xs + pick (mayRecover u (i + length xs) x) (2 ^ (i + length xs)) 0
   unfolding bitsFrom
   bits-snoc i [] x = let z : i + 0 ≡ i = omega arith in rw z (omega arith)
   bits-snoc i (y ∷ ys) x =
       let z : suc i + length ys ≡ i + suc (length ys) = omega arith in
       rw (bits-snoc (suc i) ys x, z) (omega arith)
 
-  over-at : (j : ℕ) → isOver (endWith by n j .state) ≡ isOver (endOf (n .node) j .state)
-  unfolding endFor
-  over-at j = over-reads (leftOf c) (endOf (n .node) j .state)
+  -- one more of the entries
+  bits-more : (k : ℕ) → k < countIn (n .node) → bitsFrom u 0 (listed (suc k) (endWith by n))
+      ≡ bitsFrom u 0 (listed k (endWith by n)) + pick (isOver (endOf (n .node) k .state) && not (isOwn (n .book) k)) (2 ^ k) 0
+  unfolding listed
+  bits-more k h =
+      let z : 0 + k ≡ k = omega arith in
+      bits-snoc 0 (listed k (endWith by n)) (endWith by n k) ∙ rw (length-listed k (endWith by n), z, may-reads g h c (n .store))
 
-  bits-are : (k : ℕ) → k ≤ countIn (n .node) → from k .bits ≡ bitsFrom 0 (listed k (endWith by n))
+  bits-are : (k : ℕ) → k ≤ countIn (n .node) → from k .bits ≡ bitsFrom u 0 (listed k (endWith by n))
   unfolding recoverAll recover bitsFrom listed
   bits-are zero h = refl
   bits-are (suc k) h =
-      ap (λ (e : EndPoint). pick (isOver (e .state)) (memory.again k (from k)) (from k) .bits)
-      (round k (omega arith) .later k (omega arith))
-      ∙ sides (isOver (endOf (n .node) k .state)) (bits-are k (omega arith))
-      ∙ sym (bits-snoc 0 (listed k (endWith by n)) (endWith by n k) ∙ rw (length-listed k (endWith by n), over-at k))
+      let P = round k (omega arith) in
+      ap (λ (e : EndPoint). pick (isOver (e .state) && not (isOwn (from k .lent .book) k)) (memory.again k (from k)) (from k) .bits)
+      (P .later k (omega arith))
+      ∙ ap (λ (o : Bool). pick (isOver (endOf (n .node) k .state) && not o) (memory.again k (from k)) (from k) .bits)
+      (same-under k (n .book) (from k .lent .book) (P .under) .own)
+      ∙ sides (isOver (endOf (n .node) k .state) && not (isOwn (n .book) k)) (bits-are k (omega arith))
+      ∙ sym (bits-more k h)
     where
-      sides : (z : Bool) → from k .bits ≡ bitsFrom 0 (listed k (endWith by n))
-          → pick z (memory.again k (from k)) (from k) .bits ≡ bitsFrom 0 (listed k (endWith by n)) + pick z (2 ^ (0 + k)) 0
-      sides true below = let z : 0 + k ≡ k = omega arith in rw (z, below)
+      sides : (z : Bool) → from k .bits ≡ bitsFrom u 0 (listed k (endWith by n))
+          → pick z (memory.again k (from k)) (from k) .bits ≡ bitsFrom u 0 (listed k (endWith by n)) + pick z (2 ^ k) 0
+      sides true below = rw below
       sides false below = omega arith
 
-  no-bits : ((j : ℕ) → j < countIn (n .node) → isOver (endOf (n .node) j .state) ≡ false)
-      → (k : ℕ) → k ≤ countIn (n .node) → bitsFrom 0 (listed k (endWith by n)) ≡ 0
+  no-bits : Stay → (k : ℕ) → k ≤ countIn (n .node) → bitsFrom u 0 (listed k (endWith by n)) ≡ 0
   unfolding bitsFrom listed
-  no-bits none zero h = refl
-  no-bits none (suc k) h =
-      bits-snoc 0 (listed k (endWith by n)) (endWith by n k) ∙ rw (over-at k, none k h, no-bits none k (omega arith))
+  no-bits stay zero h = refl
+  no-bits stay (suc k) h = bits-more k h ∙ rw (stay k h, no-bits stay k (omega arith))
 
 -- ---- the clock's words
 
@@ -367,12 +430,12 @@ module _ (t : List ℕ) (n : Memory) (l : Lists) (g : Good t (n .node) (n .book)
   K : TickKept t (bare n) (tickAfter (bare n)) (tickAnswer (bare n))
   K = tick-keeps t (bare n) l g
 
-  step-is : step M₀ ticks ≡ answers (bitsFrom 0 (each N tickOne M₀ .ends) ∷ []) [] (each N recovered (each N tickOne M₀))
+  step-is : step M₀ ticks ≡ answers (bits-of (each N tickOne M₀) ∷ []) [] (each N recovered (each N tickOne M₀))
   unfolding step ticking
-  step-is = ap (λ (k : ℕ). answers (bitsFrom 0 (each k tickOne M₀ .ends) ∷ []) [] (each k recovered (each k tickOne M₀))) long
+  step-is = ap (λ (k : ℕ). answers (bits-of (each k tickOne M₀) ∷ []) [] (each k recovered (each k tickOne M₀))) long
 
   -- in short: the bits, and what is left
-  goes : tickAnswer (bare n) ≡ bitsFrom 0 (each N tickOne M₀ .ends) → Stands t (keptBare n (tickAfter (bare n))) (each N recovered (each N tickOne M₀))
+  goes : tickAnswer (bare n) ≡ bits-of (each N tickOne M₀) → Stands t (keptBare n (tickAfter (bare n))) (each N recovered (each N tickOne M₀))
       → Follows t n M₀ ticks
   unfolding answer after
   goes bits S = record { answers = rw (step-is, bits); stands = rw step-is S }
@@ -420,12 +483,12 @@ module _ (t : List ℕ) (n : Memory) (l : Lists) (g : Good t (n .node) (n .book)
         subst (λ (m : Machine). StandsWith read t (keptBare n (last .lent)) (each N recovered m)) (S₁ .is)
         (recovers t n₁ (S₁ .lists) (S₁ .good) (S₁ .room) C N within-count)
 
-    bits-is : tickAnswer (bare n) ≡ bitsFrom 0 (each N tickOne M₀ .ends)
+    bits-is : tickAnswer (bare n) ≡ bits-of (each N tickOne M₀)
     unfolding tickAnswer scanAfter
     bits-is =
         ap (λ (r : Recovered). r .bits) both-is ∙ ap (λ (r : Recovered). r .bits) scan-is
         ∙ bits-are t n₁ (S₁ .lists) (S₁ .good) (S₁ .room) C N within-count
-        ∙ ap (λ (k : ℕ). bitsFrom 0 (listed k (endWith read n₁))) (g .tabled .count) ∙ ap (λ (m : Machine). bitsFrom 0 (m .ends)) (S₁ .is)
+        ∙ ap (λ (k : ℕ). bitsFrom (underFor (underIn (n₁ .book))) 0 (listed k (endWith read n₁))) (g .tabled .count) ∙ ap bits-of (S₁ .is)
 
     abbrev q : ℕ
     q = memory.scanned C (bare n) .least - 1
@@ -442,28 +505,28 @@ module _ (t : List ℕ) (n : Memory) (l : Lists) (g : Good t (n .node) (n .book)
     scan-follows = goes bits-is (stands-then (keptBare n (last .lent)) q (S₂ .good .long) refl words-are book-is S₂)
 
   -- where none can
-  module _ (some : quietIn (n .node) ≢ 0) where
+  module _ (bound : quietIn (n .node) ≢ 0) where
     still-is : tickBoth (bare n) ≡ stillAfter C (bare n)
     unfolding tickBoth
-    still-is = rw (ne-eqb (quietIn (n .node)) 0 some)
+    still-is = rw (ne-eqb (quietIn (n .node)) 0 bound)
 
-    none : (j : ℕ) → j < N → isOver (endOf (n .node) j .state) ≡ false
-    none j h = passes-over (clockIn (n .node)) (quietIn (n .node)) (omega arith) some (n .book) j (endOf (n .node) j) (endOf (n .node) j .state) (g .timely j h)
+    stay : (j : ℕ) → j < N → (isOver (endOf (n .node) j .state) && not (isOwn (n .book) j)) ≡ false
+    stay j h = passes-over (clockIn (n .node)) (quietIn (n .node)) (omega arith) bound (n .book) j (endOf (n .node) j) (endOf (n .node) j .state) (g .timely j h)
 
     Q₁ : StandsWith read t n (each N tickOne M₀)
-    Q₁ = all-read t n l g room N (omega (arith, g .tabled .count)) (passing t n l g room some N (omega arith))
+    Q₁ = all-read t n l g room N (omega (arith, g .tabled .count)) (passing t n l g room bound N (omega arith))
 
     Q₂ : StandsWith read t n (each N recovered (each N tickOne M₀))
     Q₂ =
         subst (λ (m : Machine). StandsWith read t n (each N recovered m)) (Q₁ .is)
-        (none-over t n (Q₁ .lists) (Q₁ .good) (Q₁ .room) C none N (omega arith))
+        (none-over t n (Q₁ .lists) (Q₁ .good) (Q₁ .room) C stay N (omega arith))
 
-    zero-bits : tickAnswer (bare n) ≡ bitsFrom 0 (each N tickOne M₀ .ends)
+    zero-bits : tickAnswer (bare n) ≡ bits-of (each N tickOne M₀)
     unfolding tickAnswer
     zero-bits =
         ap (λ (r : Recovered). r .bits) still-is
-        ∙ sym (no-bits t n (Q₁ .lists) (Q₁ .good) (Q₁ .room) C none N (omega arith))
-        ∙ ap (λ (k : ℕ). bitsFrom 0 (listed k (endWith read n))) (g .tabled .count) ∙ ap (λ (m : Machine). bitsFrom 0 (m .ends)) (Q₁ .is)
+        ∙ sym (no-bits t n (Q₁ .lists) (Q₁ .good) (Q₁ .room) C stay N (omega arith))
+        ∙ ap (λ (k : ℕ). bitsFrom (underFor (underIn (n .book))) 0 (listed k (endWith read n))) (g .tabled .count) ∙ ap bits-of (Q₁ .is)
 
     words-still : tickAfter (bare n) .node ≡ passed (n .node) C (quietIn (n .node) - 1)
     unfolding tickAfter

@@ -1,17 +1,18 @@
--- A tick in which no timer can run out: of every entry the machine's timers fall by one, and nothing else alters. Assumes
--- nothing.
+-- A tick in which no timer can run out: of every entry the machine's timers fall by one, and nothing else alters.
+-- Assumes nothing.
 use Prim.Native.Nat.{ℕ, zero, suc, _+_, _-_, _≤_, _<_}
 use mathlib.Core.Path.{_≡_, refl, sym, ap, _∙_, subst}
 use mathlib.Core.Logic.{_≢_}
 use mathlib.Core.Bool.{Bool, true, false, _&&_, and-false}
 use mathlib.Core.Option.{some}
 use mathlib.Core.List.{List}
-use native.Mathlib.Decide.{decLt}
+use native.Mathlib.Decide.{decLt, ℕ-discrete}
 use native.Mathlib.Omega.{arith}
 use lib.ListN.{length, getElem?}
 use lib.Dec.{eqb}
-use borrow.Author.Tests.{lt-ltb, le-ltb, eq-eqb, ne-eqb, eqb-true, eqb-false}
+use borrow.Author.Tests.{eq-eqb, ne-eqb, eqb-true, eqb-false}
 use Rattle.units.specs.Refusals.{pick}
+use Rattle.waiting.specs.Port.{underIn, isReset, dataOut}
 use Rattle.window.specs.declared.Window.{Window}
 use Rattle.table.specs.Layout.{countOf}
 use Rattle.table.specs.Areas.{storeOf}
@@ -24,7 +25,7 @@ use Rattle.end_points.specs.declared.EndPoint.{EndPoint}
 use Rattle.slots.specs.Slots.{cell, past, timerIn}
 use Rattle.timing.specs.Timing.{clockIn, quietIn, later, leftOf}
 use Rattle.timing.proofs.Falling.{left-zero}
-use Rattle.good.specs.Good.{Lists, FailingSender, Outlasts, Outlast, Timely, Good}
+use Rattle.good.specs.Good.{Lists, Outlasts, Outlast, Timely, Good}
 use Rattle.good.specs.Calls.{Memory}
 use Rattle.good.proofs.Timely.{passes-none}
 use Rattle.machine.specs.Machine.{Number, End, Machine, listed, number, node, turned, stated, numbered, failing, running, fallen}
@@ -35,7 +36,7 @@ use Rattle.machine.proofs.Numbers.{none-spent}
 use Rattle.refinement.specs.Standing.{Reading, numberFor, stateFor, endFor}
 use Rattle.refinement.proofs.Readings.{Readings, endWith, standsWith, StandsWith, same-with}
 use Rattle.refinement.proofs.Following.{stated-at}
-use Rattle.refinement.proofs.Numbers.{running-is}
+use Rattle.refinement.proofs.Numbers.{timer-unhanded, timer-under, timer-else}
 use Rattle.refinement.proofs.TickNumbers.{flag, ticked-listed}
 use Rattle.refinement.proofs.TickStands.{again-snoc, none-listed}
 
@@ -72,6 +73,10 @@ module _ (t : List ℕ) (n : Memory) (l : Lists) (g : Good t (n .node) (n .book)
   abbrev R₀ : ℕ
   R₀ = e .entry .retries
 
+  -- its Reset is under way
+  abbrev out : Bool
+  out = isReset (underIn (n .book)) i
+
   E-old : endWith R n i ≡ E
   E-old = ap (λ (L : Reading). endFor L (n .store) (n .book) i e) old
 
@@ -100,30 +105,35 @@ module _ (t : List ℕ) (n : Memory) (l : Lists) (g : Good t (n .node) (n .book)
   -- ---- without numbers: Closed and Enabled
 
   module _ (empty : e .run .taken ≡ 0) where
-    reads : (s : State) → stateFor L₁ (e .state) ≡ s → endFor L₁ (n .store) (n .book) i e ≡ stated s E
+    reads : (s : State) → stateFor L₁ out (E .numbers) (e .state) ≡ s → endFor L₁ (n .store) (n .book) i e ≡ stated s E
     unfolding endFor
-    reads s z = rw (z, none-listed (numberFor L₁ (n .store) (n .book) i e) (numberFor L₀ (n .store) (n .book) i e) (e .run .taken) empty)
+    reads s z = rw (none-listed (numberFor L₁ (n .store) (n .book) i e) (numberFor L₀ (n .store) (n .book) i e) (e .run .taken) empty, z)
 
     closed-stands : e .state ≡ Closed → StandsWith R′ t n M
     unfolding endFor
-    closed-stands z = same-stands (reads (stateFor L₀ (e .state)) (rw z))
+    closed-stands z = same-stands (reads (stateFor L₀ out (E .numbers) (e .state)) (rw z))
 
-    enabled-stands : (d : ℕ) (sent : Bool) → e .state ≡ Enabled d sent → StandsWith R′ t n (ticked M i E (Enabled (L₀ d) sent))
+    -- while the Reset is under way its timer reads 0, whatever stands in its place
+    enabled-stands : (d : ℕ) (sent : Bool) → e .state ≡ Enabled d sent → StandsWith R′ t n (ticked M i E (Enabled (pick out 0 (L₀ d)) sent))
     unfolding ticked endFor
-    enabled-stands d sent z = sides (eqb (L₀ d) 0) refl
+    enabled-stands d sent z = sides (eqb v 0) refl
       where
-        p : (L₀ d ≢ 1) × (L₁ d ≡ L₀ d - 1)
-        p = passes d (timely (Enabled d sent) z)
+        v : ℕ
+        v = pick out 0 (L₀ d)
 
-        next : stateFor L₁ (e .state) ≡ Enabled (L₀ d - 1) sent
-        next = rw (z, p .1)
+        left : (o : Bool) → out ≡ o → (pick o 0 (L₀ d) ≢ 1) × (pick o 0 (L₁ d) ≡ pick o 0 (L₀ d) - 1)
+        left true h = ((λ o. omega arith), refl)
+        left false h = passes d (timely (Enabled d sent) z h)
 
-        none-left : L₀ d ≡ 0 → Enabled (L₀ d - 1) sent ≡ stateFor L₀ (e .state)
+        next : stateFor L₁ out (E .numbers) (e .state) ≡ Enabled (v - 1) sent
+        next = rw (z, left out refl .1)
+
+        none-left : v ≡ 0 → Enabled (v - 1) sent ≡ stateFor L₀ out (E .numbers) (e .state)
         none-left o = rw (z, o)
 
-        sides : (a : Bool) → eqb (L₀ d) 0 ≡ a → StandsWith R′ t n (ticked M i E (Enabled (L₀ d) sent))
-        sides true a = rw a (same-stands (reads (stateFor L₀ (e .state)) (next ∙ none-left (eqb-true (L₀ d) 0 a))))
-        sides false a = rw (a, ne-eqb (L₀ d) 1 (p .0)) (anew-stands (reads (Enabled (L₀ d - 1) sent) next))
+        sides : (a : Bool) → eqb v 0 ≡ a → StandsWith R′ t n (ticked M i E (Enabled v sent))
+        sides true a = rw a (same-stands (reads (stateFor L₀ out (E .numbers) (e .state)) (next ∙ none-left (eqb-true v 0 a))))
+        sides false a = rw (a, ne-eqb v 1 (left out refl .0)) (anew-stands (reads (Enabled (v - 1) sent) next))
 
   -- ---- numbers
 
@@ -133,23 +143,32 @@ module _ (t : List ℕ) (n : Memory) (l : Lists) (g : Good t (n .node) (n .book)
   abbrev N₁ : ℕ → Number
   N₁ = numberFor L₁ (n .store) (n .book) i e
 
-  module _ (out : Outlast c q (n .book) i (e .run)) where
+  module _ (outlast : Outlast c q (n .book) i (e .run)) where
     abbrev d : ℕ → ℕ
     d k = timerIn (n .book) (cell i w (past w k))
 
-    timer-not : (k : ℕ) → eqb (N k .timer) 1 ≡ false
-    timer-not k = sides (decLt k (e .run .handed))
+    -- of one that was not handed out, or is under way, none is left
+    timer-passes : (k : ℕ) → (N k .timer ≢ 1) × (N₁ k .timer ≡ N k .timer - 1)
+    timer-passes k = sides (decLt k (e .run .handed)) (ℕ-discrete (past w k) (dataOut (n .book) i))
       where
-        sides : Dec (k < e .run .handed) → eqb (N k .timer) 1 ≡ false
-        sides (yes h) = rw (lt-ltb k (e .run .handed) h) (ne-eqb (L₀ (d k)) 1 (passes (d k) (out k h) .0))
-        sides (no h) = rw (le-ltb k (e .run .handed) (omega arith))
+        reads : {v v₁ x x₁ : ℕ} → v ≡ x → v₁ ≡ x₁ → (x ≢ 1) × (x₁ ≡ x - 1) → (v ≢ 1) × (v₁ ≡ v - 1)
+        reads p q h = rw (p, q) h
 
-    timer-falls : (k : ℕ) → N k .timer - 1 ≡ N₁ k .timer
-    timer-falls k = sides (decLt k (e .run .handed))
-      where
-        sides : Dec (k < e .run .handed) → N k .timer - 1 ≡ N₁ k .timer
-        sides (yes h) = rw (lt-ltb k (e .run .handed) h) (sym (passes (d k) (out k h) .1))
-        sides (no h) = rw (le-ltb k (e .run .handed) (omega arith))
+        none : (_≢_ {A = ℕ} 0 1) × (_≡_ {A = ℕ} 0 (0 - 1))
+        none = ((λ z. omega arith), refl)
+
+        sides : Dec (k < e .run .handed) → Dec (past w k ≡ dataOut (n .book) i) → (N k .timer ≢ 1) × (N₁ k .timer ≡ N k .timer - 1)
+        sides (yes h) (yes u) =
+            reads (timer-under L₀ (left-zero c) (n .store) (n .book) i e k u) (timer-under L₁ (left-zero now) (n .store) (n .book) i e k u) none
+        sides (yes h) (no u) =
+            reads (timer-else L₀ (left-zero c) (n .store) (n .book) i e k h u) (timer-else L₁ (left-zero now) (n .store) (n .book) i e k h u)
+            (passes (d k) (outlast k h u))
+        sides (no h) u =
+            reads (timer-unhanded L₀ (left-zero c) (n .store) (n .book) i e k (omega arith))
+            (timer-unhanded L₁ (left-zero now) (n .store) (n .book) i e k (omega arith)) none
+
+    timer-not : (k : ℕ) → eqb (N k .timer) 1 ≡ false
+    timer-not k = ne-eqb (N k .timer) 1 (timer-passes k .0)
 
     not-retried : (k : ℕ) (a : Bool) → (a && eqb (N k .timer) 1) ≡ false
     not-retried k a = ap (λ (z : Bool). a && z) (timer-not k) ∙ and-false a
@@ -157,7 +176,7 @@ module _ (t : List ℕ) (n : Memory) (l : Lists) (g : Good t (n .node) (n .book)
     number-falls : (k : ℕ) (a : Bool) → fallen a (N k) ≡ N₁ k
     number-falls k a =
         ap (λ (z : Bool). number (N k .payload) (pick z (N k .retries + 1) (N k .retries)) (N k .handed) (N k .acked) (N k .timer - 1)) (not-retried k a)
-        ∙ ap (λ (v : ℕ). number (N k .payload) (N k .retries) (N k .handed) (N k .acked) v) (timer-falls k)
+        ∙ ap (λ (v : ℕ). number (N k .payload) (N k .retries) (N k .handed) (N k .acked) v) (sym (timer-passes k .1))
 
     numbers-fall : (a : Bool) (k : ℕ) → tickedAll R₀ a (listed k N) ≡ listed k N₁
     numbers-fall a k = ticked-listed R₀ a N k ∙ listed-ext k (λ j. fallen (flag R₀ a (listed (suc j) N)) (N j)) N₁ (λ j h. number-falls j (flag R₀ a (listed (suc j) N)))
@@ -179,37 +198,34 @@ module _ (t : List ℕ) (n : Memory) (l : Lists) (g : Good t (n .node) (n .book)
     open-end : e .state ≡ Open → endFor L₁ (n .store) (n .book) i e ≡ numbered (E .start) (tickedAll R₀ true (E .numbers)) E
     unfolding endFor
     open-end z =
-        let s : stateFor L₁ (e .state) ≡ stateFor L₀ (e .state) = rw z in
+        let s : stateFor L₁ out (listed (e .run .taken) N₁) (e .state) ≡ stateFor L₀ out (listed (e .run .taken) N) (e .state) = rw z in
         rw (s, numbers-fall true (e .run .taken))
 
     open-stands : e .state ≡ Open → StandsWith R′ t n (ticked M i E Open)
     unfolding ticked endFor
     open-stands z = rw (not-spent (e .run .taken), not-again (turned i (numbered (E .start) (tickedAll R₀ true (E .numbers)) E) M) (e .run .taken)) (anew-stands (open-end z))
 
-    module _ (m : ℕ) (z : e .state ≡ Failing m) (F : FailingSender (n .book) l i e m) where
-      runs-on : m ≡ running (listed (e .run .taken) N₁)
-      runs-on = F .timers ∙ sym (running-is L₁ (left-zero now) (n .store) (n .book) i e (e .run .taken) (F .sending .handed))
-
+    module _ (m : ℕ) (z : e .state ≡ Failing m) (urgent : e .run .urgent ≡ 0) where
       failing-end : endFor L₁ (n .store) (n .book) i e ≡ failing (tickedAll R₀ false (E .numbers)) E
       unfolding endFor
       failing-end =
-          let s : stateFor L₁ (e .state) ≡ Failing (running (listed (e .run .taken) N₁)) = rw z (ap Failing runs-on) in
-          rw (s, numbers-fall false (e .run .taken), eq-eqb (e .run .urgent) 0 (F .urgent))
+          let s : stateFor L₁ out (listed (e .run .taken) N₁) (e .state) ≡ Failing (running (listed (e .run .taken) N₁)) = rw z in
+          rw (s, numbers-fall false (e .run .taken), eq-eqb (e .run .urgent) 0 urgent)
 
-      failing-stands : StandsWith R′ t n (ticked M i E (Failing m))
-      unfolding ticked endFor
+      failing-stands : StandsWith R′ t n (turned i (failing (tickedAll R₀ false (E .numbers)) E) M)
       failing-stands = anew-stands failing-end
 
   -- ---- all states
 
-  passes-in : (s : State) → e .state ≡ s → (k : Bool) → isSends (e .entry .kind) ≡ k → StandsWith R′ t n (ticked M i E (stateFor L₀ s))
-  unfolding ticked
+  passes-in : (s : State) → e .state ≡ s → (k : Bool) → isSends (e .entry .kind) ≡ k
+      → StandsWith R′ t n (ticked M i E (stateFor L₀ out (E .numbers) s))
+  unfolding ticked endFor
   passes-in Closed z true k = closed-stands (stated-at g li true k Closed z .fresh .taken) z
   passes-in Closed z false k = closed-stands (stated-at g li false k Closed z .fresh .taken) z
   passes-in (Enabled d sent) z true k = enabled-stands (stated-at g li true k (Enabled d sent) z .fresh .taken) d sent z
   passes-in (Enabled d sent) z false k = enabled-stands (stated-at g li false k (Enabled d sent) z .0 .fresh .taken) d sent z
   passes-in Open z b k = open-stands (timely Open z) z
-  passes-in (Failing m) z true k = failing-stands (timely (Failing m) z .0) m z (stated-at g li true k (Failing m) z)
+  passes-in (Failing m) z true k = failing-stands (timely (Failing m) z .0) m z (stated-at g li true k (Failing m) z .urgent)
   passes-in (Failing m) z false k = absurd (stated-at g li false k (Failing m) z)
 
   passes-here : StandsWith R′ t n (ticked M i E (E .state))

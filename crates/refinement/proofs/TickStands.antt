@@ -3,17 +3,17 @@ use Prim.Native.Nat.{ℕ, zero, suc, _+_, _≤_, _<_, _-_}
 use mathlib.Core.Path.{_≡_, refl, sym, ap, _∙_, fun-ext, subst}
 use mathlib.Core.Logic.{_≢_}
 use mathlib.Core.Bool.{Bool, true, false, not, _&&_}
-use mathlib.Core.Option.{none}
 use mathlib.Core.List.{List, [], _∷_, _++_, append-nil, append-assoc, map, map-append}
 use native.Mathlib.Omega.{arith}
 use lib.ListN.{length}
 use lib.Dec.{eqb}
-use borrow.Author.Tests.{lt-ltb, le-ltb, eq-eqb, eqb-true, eqb-false}
+use borrow.Author.Tests.{le-ltb, eq-eqb, eqb-true, eqb-false}
 use Rattle.units.specs.Refusals.{pick}
 use Rattle.memory.specs.Layout as layout
 use Rattle.memory.specs.Layout.{resetId}
 use Rattle.waiting.specs.Queues.{appended}
 use Rattle.waiting.specs.Order.{acksIn}
+use Rattle.waiting.specs.Port.{underIn, isReset, dataOut}
 use Rattle.window.specs.Windows.{Good as GoodWindow}
 use Rattle.window.specs.declared.Window.{Window}
 use Rattle.table.specs.Areas.{storeOf}
@@ -43,8 +43,8 @@ use Rattle.good.proofs.TickSlots.{Lives, Slots, slots-all}
 use Rattle.good.proofs.TickEntry.{tick-entry-keeps}
 use Rattle.good.proofs.Payloads.{unaltered}
 use Rattle.machine.specs.Machine as machine
-use Rattle.machine.specs.Machine.{Number, End, Item, Sort, resends, Machine, listed, stated, numbered, urging, rank}
-use Rattle.machine.specs.Machine.{only, waitingAs, turned, waits, silent, running, tickedAll, anySpent, againFrom}
+use Rattle.machine.specs.Machine.{Number, End, Item, Sort, resends, Machine, listed, stated, numbered, rank}
+use Rattle.machine.specs.Machine.{only, waitingAs, turned, waits, silent, tickedAll, anySpent, againFrom}
 use Rattle.machine.specs.Machine.{failing, ticked, node, resets}
 use Rattle.refinement.specs.Standing.{Reading, numberFor, stateFor, endFor, slotItem}
 use Rattle.machine.proofs.Listed.{length-listed}
@@ -54,7 +54,6 @@ use Rattle.refinement.proofs.Readings.{Readings, endWith, standsWith, S
 use Rattle.refinement.proofs.Waiting.{window-steady, silent-steady, waits-same, waits-more, waits-still}
 use Rattle.refinement.proofs.Waiting.{waits-reset, sender-acks}
 use Rattle.refinement.proofs.Following.{low-at, stated-at, stated-then, item-at}
-use Rattle.refinement.proofs.Numbers.{running-is}
 use Rattle.refinement.proofs.TickNumbers.{Come, flag, flag-spent, on-beyond, numbers-fall, come, again}
 
 -- ---- those tried again, in the machine
@@ -120,6 +119,10 @@ module _ (t : List ℕ) (n : Memory) (l : Lists) (g : Good t (n .node) (n .book)
   abbrev R₀ : ℕ
   R₀ = e .entry .retries
 
+  -- its Reset is under way
+  abbrev out : Bool
+  out = isReset (underIn (n .book)) i
+
   abbrev x : Scanned
   x = record { lent = bare n; least = m₀ }
 
@@ -155,10 +158,11 @@ module _ (t : List ℕ) (n : Memory) (l : Lists) (g : Good t (n .node) (n .book)
   stays z h = subst (StandsWith R′ t (keptBare n y)) (sym (same-with R n g li E-old)) (stays-as z h)
 
   -- no numbers, and a state that reads the same
-  reads-same : stateFor L₁ (e .state) ≡ stateFor L₀ (e .state) → e .run .taken ≡ 0 → endFor L₁ (n .store) (n .book) i e ≡ E
+  reads-same : stateFor L₁ out (E .numbers) (e .state) ≡ stateFor L₀ out (E .numbers) (e .state) → e .run .taken ≡ 0
+      → endFor L₁ (n .store) (n .book) i e ≡ E
   unfolding endFor
   reads-same s z =
-      rw (s, none-listed (numberFor L₁ (n .store) (n .book) i e) (numberFor L₀ (n .store) (n .book) i e) (e .run .taken) z)
+      rw (none-listed (numberFor L₁ (n .store) (n .book) i e) (numberFor L₀ (n .store) (n .book) i e) (e .run .taken) z, s)
 
   -- ---- a sender
 
@@ -177,18 +181,18 @@ module _ (t : List ℕ) (n : Memory) (l : Lists) (g : Good t (n .node) (n .book)
 
     -- ---- Enabled, the timer running
 
-    module _ (d : ℕ) (sent : Bool) (q : e .state ≡ Enabled d sent) (runs : eqb d 0 ≡ false) where
+    module _ (d : ℕ) (sent : Bool) (q : e .state ≡ Enabled d sent) (runs : eqb d 0 ≡ false) (free : out ≡ false) where
       abbrev falls : State
       falls = Enabled (L₀ d - 1) sent
 
       number : d ≤ 65535
-      number = outlasts-number _ _ d (timely (Enabled d sent) q)
+      number = outlasts-number _ _ d (timely (Enabled d sent) q free)
 
       y-is : (a : Bool) → eqb d now ≡ a
           → y ≡ pick a (memory.both (bare n) (saved (n .node) i (Enabled 0 sent) (e .run)) (appended (n .book) layout.resets (resetId i))) (bare n)
       unfolding tickState
-      y-is true z = y-at (Enabled d sent) q ∙ rw (runs, z)
-      y-is false z = y-at (Enabled d sent) q ∙ rw (runs, z)
+      y-is true z = y-at (Enabled d sent) q ∙ rw (runs, free, z)
+      y-is false z = y-at (Enabled d sent) q ∙ rw (runs, free, z)
 
       quiet : Silent l i []
       quiet = rw runs at (stated-at g li true kind (Enabled d sent) q .silent)
@@ -196,11 +200,13 @@ module _ (t : List ℕ) (n : Memory) (l : Lists) (g : Good t (n .node) (n .book)
       no-numbers : e .run .taken ≡ 0
       no-numbers = stated-at g li true kind (Enabled d sent) q .fresh .taken
 
-      falls-end : (b′ : List ℕ) (v : ℕ) → L₁ v ≡ L₀ d - 1
+      falls-end : (b′ : List ℕ) → underIn b′ ≡ underIn (n .book) → (v : ℕ) → L₁ v ≡ L₀ d - 1
           → endFor L₁ (n .store) b′ i (turnedTo e (Enabled v sent) (e .run)) ≡ stated falls E
       unfolding endFor
-      falls-end b′ v z =
+      falls-end b′ under v z =
           rw (
+            under,
+            free,
             z,
             none-listed (numberFor L₁ (n .store) b′ i (turnedTo e (Enabled v sent) (e .run))) (numberFor L₀ (n .store) (n .book) i e) (e .run .taken) no-numbers,
             no-places (n .store) b′ i (turnedTo e (Enabled v sent) (e .run)) kind,
@@ -217,17 +223,17 @@ module _ (t : List ℕ) (n : Memory) (l : Lists) (g : Good t (n .node) (n .book)
           ∙ end-saved (n .node) i (Enabled 0 sent) (e .run) (g .long) low (omega arith) (run-fits (n .node) i) refl in
           let due : L₁ 0 ≡ L₀ d - 1 = ap (λ (a : Bool). L₁ (pick a 0 d)) (sym z) ∙ left-ticks c d clock number in
           turned-with g room li read left
-          (anew-is (ap (endFor L₁ (n .store) (y .book) i) end ∙ falls-end (y .book) 0 due))
+          (anew-is (ap (endFor L₁ (n .store) (y .book) i) end ∙ falls-end (y .book) (left .under) 0 due))
           (waits-reset left (g .lines) low quiet
           (ap (λ (z : Lent). acksIn (z .node)) p ∙ saved-acks (n .node) i (Enabled 0 sent) (e .run) .1) (ap (λ (z : Lent). z .book) p))
       falls-stands false z =
           let on : L₁ d ≡ L₀ d - 1 = ap (λ (a : Bool). L₁ (pick a 0 d)) (sym z) ∙ left-ticks c d clock number in
           let same : e ≡ turnedTo e (Enabled d sent) (e .run) = ap (λ (s : State). turnedTo e s (e .run)) q in
-          stays-as (y-is false z) (ap (endFor L₁ (n .store) (n .book) i) same ∙ falls-end (n .book) d on)
+          stays-as (y-is false z) (ap (endFor L₁ (n .store) (n .book) i) same ∙ falls-end (n .book) refl d on)
 
     -- words of the round
     abbrev Round : Type 0
-    Round = (k : ℕ) → k < e .run .handed → timerIn (n .book) (cell i w (past w k)) ≤ 65535
+    Round = (k : ℕ) → k < e .run .handed → past w k ≢ dataOut (n .book) i → timerIn (n .book) (cell i w (past w k)) ≤ 65535
 
     abbrev failed : ℕ → EndPoint
     failed m = turnedTo e (Failing m) (urgentGone (e .run))
@@ -261,11 +267,6 @@ module _ (t : List ℕ) (n : Memory) (l : Lists) (g : Good t (n .node) (n .book)
       unfolding endFor
       numbers-at s r p q = numbers-fall (n .store) (n .book) l (g .lines) i low e window f lives wide c clock m₀ round s r p q (S .taken)
 
-      run-at : T .running ≡ running ns
-      run-at =
-          slots .count ∙ sym (running-is L₁ (left-zero now) (n .store) (T .book) i e (e .run .taken) (S .handed))
-          ∙ ap running (numbers-at (e .state) (e .run) refl refl)
-
       running-fits : T .running < 65536
       running-fits =
           let z = running-le (T .book) i w (e .run .handed) in let c = slots .count in let r = run-fits (n .node) i .handed in omega arith
@@ -284,8 +285,7 @@ module _ (t : List ℕ) (n : Memory) (l : Lists) (g : Good t (n .node) (n .book)
               numbers-at (Failing (T .running)) (urgentGone (e .run)) refl refl,
               no-places (n .store) (T .book) i (failed (T .running)) kind,
               ← no-places (n .store) (n .book) i e kind,
-            )
-            (ap (λ (k : ℕ). urging none (stated (Failing k) (numbered (E .start) ns E))) run-at))
+            ))
 
     -- ---- Failing before
 
@@ -297,7 +297,7 @@ module _ (t : List ℕ) (n : Memory) (l : Lists) (g : Good t (n .node) (n .book)
       T-f = memory.ticked now i e true (n .book) m₀
 
       round-f : Round
-      round-f k h = outlasts-number _ _ _ (timely (Failing m) q .0 k h)
+      round-f k h u = outlasts-number _ _ _ (timely (Failing m) q .0 k h u)
 
       y-f : y ≡ memory.tickFailing x i e T-f .lent
       unfolding tickState
@@ -308,7 +308,7 @@ module _ (t : List ℕ) (n : Memory) (l : Lists) (g : Good t (n .node) (n .book)
       end-f =
           ap (λ (y : Lent). endOf (y .node) i) y-f
           ∙ end-saved (n .node) i (Failing (T-f .running)) (e .run) (g .long) low
-          (running-fits true (F .sending, F .silent) (F .sending) round-f) (run-fits (n .node) i) refl
+          (running-fits true (F .sending, F .silent, F .standing) (F .sending) round-f) (run-fits (n .node) i) refl
           ∙ ap (λ (u : ℕ). turnedTo e (Failing (T-f .running)) (urged u)) (F .urgent)
         where
           urged : ℕ → Run
@@ -322,14 +322,13 @@ module _ (t : List ℕ) (n : Memory) (l : Lists) (g : Good t (n .node) (n .book)
       -- nothing of it waited, and nothing does
       lists-f : (r : ℕ) → r < 4 → left .lists r ≡ l r
       lists-f r h =
-          sym (rest-all i (left .lists r) (gone true (F .sending, F .silent) (F .sending) round-f book-f end-f r h))
+          sym (rest-all i (left .lists r) (gone true (F .sending, F .silent, F .standing) (F .sending) round-f book-f end-f r h))
           ∙ left .within .order r h ∙ rest-all i (l r) (silent-nil l i (F .silent) r h)
 
-      failing-stands : StandsWith R′ t (keptBare n y) (ticked M i E (Failing m))
-      unfolding ticked endFor
+      failing-stands : StandsWith R′ t (keptBare n y) (turned i (failing (tickedAll R₀ false (E .numbers)) E) M)
       failing-stands =
           turned-with g room li read left
-          (E-failed true (F .sending, F .silent) (F .sending) round-f book-f end-f)
+          (E-failed true (F .sending, F .silent, F .standing) (F .sending) round-f book-f end-f)
           (waits-same (left .apart) (silent-steady (F .silent))
           (ap (λ (y : Lent). acksIn (y .node)) y-f ∙ saved-acks (n .node) i (Failing (T-f .running)) (e .run) .1) lists-f)
 
@@ -343,7 +342,7 @@ module _ (t : List ℕ) (n : Memory) (l : Lists) (g : Good t (n .node) (n .book)
       T-o = memory.ticked now i e false (n .book) m₀
 
       round-o : Round
-      round-o k h = outlasts-number _ _ _ (timely Open q k h)
+      round-o k h u = outlasts-number _ _ _ (timely Open q k h u)
 
       abbrev ns-o : List Number
       ns-o = tickedAll R₀ true (E .numbers)
@@ -394,8 +393,7 @@ module _ (t : List ℕ) (n : Memory) (l : Lists) (g : Good t (n .node) (n .book)
         tried-is m zero h = again-none m
         tried-is m (suc k) h =
             again-snoc i E 0 (listed k N) (N k) m
-            ∙ rw (length-listed k N, lt-ltb k (e .run .handed) (omega arith), tried-is m k (omega arith))
-            (sides (eqb (L₀ (timerIn (n .book) (cell i w (past w k)))) 1))
+            ∙ rw (length-listed k N, tried-is m k (omega arith)) (sides (eqb (N k .timer) 1))
           where
             item : slotItem (n .node) (idAt i w k) ≡ record { entry = i; number = machine.past E (0 + k) }
             item = let z : 0 + k ≡ k = omega arith in item-at (n .node) i low window k (omega (arith, wide false O (O .sending) round-o)) ∙ rw z
@@ -417,7 +415,7 @@ module _ (t : List ℕ) (n : Memory) (l : Lists) (g : Good t (n .node) (n .book)
             (λ k h. again-snoc i E 0 (listed k N) (N k) m ∙ rw (le-ltb k (e .run .handed) h)) (e .run .taken) (O .sending .handed)
             ∙ rw node-n (tried-is m (e .run .handed) (omega arith))
 
-        state-n : stateFor L₁ (e .state) ≡ stateFor L₀ (e .state)
+        state-n : stateFor L₁ (isReset (underIn (T-o .book)) i) ns-o (e .state) ≡ stateFor L₀ out (E .numbers) (e .state)
         state-n = rw q
 
         E-n : endWith R′ (keptBare n y) i ≡ numbered (E .start) ns-o E
@@ -425,8 +423,8 @@ module _ (t : List ℕ) (n : Memory) (l : Lists) (g : Good t (n .node) (n .book)
         E-n =
             anew-is (ap (λ (ws : List ℕ). endFor L₁ (n .store) (y .book) i (endOf ws i)) node-n ∙ ap (λ (b : List ℕ). endFor L₁ (n .store) b i e) book-o
             ∙ rw (
-              state-n,
               numbers-at false O (O .sending) round-o (e .state) (e .run) refl refl,
+              state-n,
               no-places (n .store) (T-o .book) i e kind,
               ← no-places (n .store) (n .book) i e kind,
             ))
@@ -448,7 +446,7 @@ module _ (t : List ℕ) (n : Memory) (l : Lists) (g : Good t (n .node) (n .book)
   unfolding tickState tickSlots
   receiver-same s q =
       y-at Open q
-      ∙ ap (λ (k : ℕ). memory.tickOpen x i e (tickSlots now i e k (record { book = n .book; failing = false; running = 0; least = m₀ })) .lent)
+      ∙ ap (λ (k : ℕ). memory.tickOpen x i e (tickSlots now i e (dataOut (n .book) i) k (record { book = n .book; failing = false; running = 0; least = m₀ })) .lent)
       (stated-at g li false s Open q .receiving .handed)
 
   abbrev openly : List Number → Machine
@@ -472,32 +470,57 @@ module _ (t : List ℕ) (n : Memory) (l : Lists) (g : Good t (n .node) (n .book)
 
   -- ---- all states
 
-  -- Enabled, and the timer does not run
-  rests-stands : (d : ℕ) (sent : Bool) → e .state ≡ Enabled d sent → eqb d 0 ≡ true → e .run .taken ≡ 0 → StandsWith R′ t (keptBare n y) M
+  abbrev enabledly : ℕ → Bool → Machine
+  enabledly v sent =
+      pick (eqb v 0) M
+      (pick (eqb v 1) (waits resets i 0 (turned i (stated (Enabled (v - 1) sent) E) M)) (turned i (stated (Enabled (v - 1) sent) E) M))
+
+  -- Enabled, and the timer does not run: it is at zero, or it stands while the Reset is under way
+  rests-stands : (d : ℕ) (sent : Bool) → e .state ≡ Enabled d sent → y ≡ bare n → ((c : ℕ) → pick out 0 (leftOf c d) ≡ 0) → e .run .taken ≡ 0
+      → StandsWith R′ t (keptBare n y) (enabledly (pick out 0 (L₀ d)) sent)
+  rests-stands d sent q same rests empty = rw (rests c) (stays same (reads-same (rw (q, rests now, rests c)) empty))
+
+  zero-stands : (d : ℕ) (sent : Bool) → e .state ≡ Enabled d sent → d ≡ 0 → e .run .taken ≡ 0
+      → StandsWith R′ t (keptBare n y) (enabledly (pick out 0 (L₀ d)) sent)
   unfolding tickState
-  rests-stands d sent q z empty =
-      let o : d ≡ 0 = eqb-true d 0 z in
-      stays (y-at (Enabled d sent) q ∙ rw z) (reads-same (rw (q, o)) empty)
+  zero-stands d sent q z = rests-stands d sent q (y-at (Enabled d sent) q ∙ rw (eq-eqb d 0 z)) (λ c. rw z (zeros out))
+    where
+      zeros : (a : Bool) → _≡_ {A = ℕ} (pick a 0 0) 0
+      zeros true = refl
+      zeros false = refl
 
-  abbrev enabledly : ℕ → Bool → Bool → Bool → Machine
-  enabledly d sent a b =
-      pick a M (pick b (waits resets i 0 (turned i (stated (Enabled (L₀ d - 1) sent) E) M)) (turned i (stated (Enabled (L₀ d - 1) sent) E) M))
+  under-stands : (d : ℕ) (sent : Bool) → e .state ≡ Enabled d sent → out ≡ true → e .run .taken ≡ 0
+      → StandsWith R′ t (keptBare n y) (enabledly (pick out 0 (L₀ d)) sent)
+  unfolding tickState
+  under-stands d sent q o = rests-stands d sent q (y-at (Enabled d sent) q ∙ rw o (both (eqb d 0))) (λ c. rw o)
+    where
+      both : (a : Bool) → pick a x x .lent ≡ bare n
+      both true = refl
+      both false = refl
 
-  ticks-in : (st : State) → e .state ≡ st → (k : Bool) → isSends (e .entry .kind) ≡ k → StandsWith R′ t (keptBare n y) (ticked M i E (stateFor L₀ st))
+  enabled-sender : isSends (e .entry .kind) ≡ true → (d : ℕ) (sent : Bool) → e .state ≡ Enabled d sent
+      → StandsWith R′ t (keptBare n y) (enabledly (pick out 0 (L₀ d)) sent)
+  enabled-sender s d sent q = sides (eqb d 0) refl out refl
+    where
+      empty : e .run .taken ≡ 0
+      empty = stated-at g li true s (Enabled d sent) q .fresh .taken
+
+      sides : (a : Bool) → eqb d 0 ≡ a → (o : Bool) → out ≡ o → StandsWith R′ t (keptBare n y) (enabledly (pick out 0 (L₀ d)) sent)
+      sides true z o h = zero-stands d sent q (eqb-true d 0 z) empty
+      sides false z true h = under-stands d sent q h empty
+      sides false z false h =
+          let number = outlasts-number _ _ d (timely (Enabled d sent) q h) in
+          rw (h, left-zero c d ∙ z, left-one c d clock number (eqb-false d 0 z)) (falls-stands s d sent q z h (eqb d now) refl)
+
+  ticks-in : (st : State) → e .state ≡ st → (k : Bool) → isSends (e .entry .kind) ≡ k
+      → StandsWith R′ t (keptBare n y) (ticked M i E (stateFor L₀ out (E .numbers) st))
   unfolding ticked tickState endFor
   ticks-in Closed q true s = stays (y-at Closed q) (reads-same (rw q) (stated-at g li true s Closed q .fresh .taken))
   ticks-in Closed q false s = stays (y-at Closed q) (reads-same (rw q) (stated-at g li false s Closed q .fresh .taken))
-  ticks-in (Enabled d sent) q true s = sides (eqb d 0) refl
-    where
-      sides : (a : Bool) → eqb d 0 ≡ a → StandsWith R′ t (keptBare n y) (enabledly d sent (eqb (L₀ d) 0) (eqb (L₀ d) 1))
-      sides true z =
-          rw (left-zero c d ∙ z) (rests-stands d sent q z (stated-at g li true s (Enabled d sent) q .fresh .taken))
-      sides false z =
-          let o = outlasts-number _ _ d (timely (Enabled d sent) q) in
-          rw (left-zero c d ∙ z, left-one c d clock o (eqb-false d 0 z)) (falls-stands s d sent q z (eqb d now) refl)
+  ticks-in (Enabled d sent) q true s = enabled-sender s d sent q
   ticks-in (Enabled d sent) q false s =
-      let z : eqb d 0 ≡ true = eq-eqb d 0 (stated-at g li false s (Enabled d sent) q .1) in
-      rw (left-zero c d ∙ z) (rests-stands d sent q z (stated-at g li false s (Enabled d sent) q .0 .fresh .taken))
+      let a = stated-at g li false s (Enabled d sent) q in
+      zero-stands d sent q (a .1) (a .0 .fresh .taken)
   ticks-in Open q true s = open-sender s q
   ticks-in Open q false s = open-receiver s q
   ticks-in (Failing m) q true s = failing-stands s m q

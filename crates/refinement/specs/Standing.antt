@@ -1,9 +1,9 @@
 -- Which machine a node's memory stands for, and the whole theorem: setup stands for the machine begun, and each call
 -- on what stands for a machine answers as the machine and leaves what stands for the machine afterwards. Assumes
 -- nothing.
-use Prim.Native.Nat.{ℕ, _≤_}
+use Prim.Native.Nat.{ℕ, _/_, _≤_}
 use mathlib.Core.Path.{_≡_}
-use mathlib.Core.Bool.{not, _&&_}
+use mathlib.Core.Bool.{Bool, not, _&&_}
 use mathlib.Core.Option.{Option, none, some}
 use mathlib.Core.List.{List, [], map, List·Memᴰ}
 use lib.ListN.{length, take, getElem?}
@@ -11,9 +11,12 @@ use lib.Dec.{eqb, ltb}
 use Rattle.units.specs.Refusals.{pick, verdict}
 use Rattle.memory.specs.Layout as layout
 use Rattle.waiting.specs.Order.{acksIn}
+use Rattle.waiting.specs.Port.{underIn, outEntry, outNumber, isReset, dataOut}
 use Rattle.window.specs.Windows.{held}
 use Rattle.table.specs.Layout.{countOf, ownOf, protocolOf}
 use Rattle.table.specs.Areas.{storeOf}
+use Rattle.frame.specs.declared.FrameType.{FrameType}
+use Rattle.frame.specs.declared.FrameType.the-variants as type
 use Rattle.end_points.specs.Ends.{endOf}
 use Rattle.end_points.specs.Lent.{Lent}
 use Rattle.end_points.specs.States.{isSends}
@@ -33,9 +36,9 @@ use Rattle.good.specs.Good.{Lists, Good}
 use Rattle.good.specs.Calls.{Memory, answer, after, SetUp, relent, Reach}
 use Rattle.good.specs.NewNode.{newAt}
 use Rattle.machine.specs.Calls.{Call, Fed}
-use Rattle.machine.specs.Sound.{Sound}
-use Rattle.machine.specs.Machine.{Number, End, Item, Sort, acks, resets, urgents, resends, datas}
-use Rattle.machine.specs.Machine.{Machine, lending, listed, begun, blank, setupTests, stating, step}
+use Rattle.machine.specs.Sound.{Sound, EachInOnePlace}
+use Rattle.machine.specs.Machine.{Number, End, Item, Sort, acks, resets, urgents, resends, datas, Out}
+use Rattle.machine.specs.Machine.{Machine, lending, running, listed, begun, blank, setupTests, stating, step}
 
 -- ---- an end point, of a store and a book, as entry i
 
@@ -47,7 +50,7 @@ payloadFor st b i e k = payloadAt st b i (e .place) (e .entry .largest) (e .run 
 abbrev pub Reading : Type 0
 Reading = ℕ → ℕ
 
--- the number k past the start
+-- the number k past the start; while it is under way its timer does not run [D2]
 abbrev pub numberFor : Reading → List ℕ → List ℕ → ℕ → EndPoint → ℕ → Number
 numberFor L st b i e k =
     record {
@@ -55,25 +58,28 @@ numberFor L st b i e k =
       retries = retriesIn b (cell i (e .run .window) (past (e .run .window) k));
       handed = ltb k (e .run .handed);
       acked = held (e .run .window) k;
-      timer = pick (ltb k (e .run .handed)) (L (timerIn b (cell i (e .run .window) (past (e .run .window) k)))) 0;
+      timer =
+          pick (ltb k (e .run .handed) && not (eqb (past (e .run .window) k) (dataOut b i)))
+          (L (timerIn b (cell i (e .run .window) (past (e .run .window) k)))) 0;
     }
 
 abbrev pub placeFor : List ℕ → List ℕ → ℕ → EndPoint → ℕ → Option (List ℕ)
 placeFor st b i e k =
     pick (not (isSends (e .entry .kind)) && held (e .run .window) k) (some (payloadFor st b i e k)) none
 
--- a Reset's timer reads as a number's does
-abbrev pub stateFor : Reading → State → State
-stateFor L Closed = Closed
-stateFor L (Enabled d sent) = Enabled (L d) sent
-stateFor L Open = Open
-stateFor L (Failing n) = Failing n
+-- a Reset's timer reads as a number's does, and does not run while the Reset is under way; Failing says how many of the
+-- numbers' timers run [E2, D2]
+abbrev pub stateFor : Reading → Bool → List Number → State → State
+stateFor L under ns Closed = Closed
+stateFor L under ns (Enabled d sent) = Enabled (pick under 0 (L d)) sent
+stateFor L under ns Open = Open
+stateFor L under ns (Failing n) = Failing (running ns)
 
 unfoldable pub endFor : Reading → List ℕ → List ℕ → ℕ → EndPoint → End
 endFor L st b i e =
     record {
       entry = e .entry;
-      state = stateFor L (e .state);
+      state = stateFor L (isReset (underIn b) i) (listed (e .run .taken) (numberFor L st b i e)) (e .state);
       accepted = e .run .accepted .0;
       confirmed = e .run .confirmed .0;
       start = e .run .window .start .0;
@@ -107,6 +113,18 @@ waitingFor ws l urgents = map plainItem (l layout.urgents)
 waitingFor ws l resends = map (slotItem ws) (l layout.resends)
 waitingFor ws l datas = map (slotItem ws) (l layout.datas)
 
+-- ---- the frame under way
+
+-- its type, which stands before its entry and its number
+abbrev pub typeFor : ℕ → FrameType
+typeFor u =
+    pick (eqb (u / 4096) 1) type.Data
+    (pick (eqb (u / 4096) 2) type.Acknowledge (pick (eqb (u / 4096) 3) type.Reset type.Urgent))
+
+-- what the book says of it [H8]
+abbrev pub underFor : ℕ → Option Out
+underFor u = pick (eqb u 0) none (some (typeFor u, record { entry = outEntry u; number = outNumber u }))
+
 -- ---- the node
 
 abbrev pub standsFor : List ℕ → Memory → Lists → Machine
@@ -118,6 +136,7 @@ standsFor t n l =
       room = length (n .store);
       ends = listed (countOf t) (endAt n);
       waiting = waitingFor (n .node) l;
+      under = underFor (underIn (n .book));
     }
 
 -- a good memory, and the machine that it stands for [O2]
@@ -197,6 +216,11 @@ OneMachine = (t u : List ℕ) (n : Memory) (m k : Machine) → Stands t n m → 
 -- and that machine is sound [E14, W3, H7, I2]
 unfoldable pub StandsSound : Type 0
 StandsSound = (t : List ℕ) (n : Memory) (m : Machine) → Stands t n m → Sound t m
+
+-- in it, at Open, a number handed out and not acknowledged runs a timer, waits as a retransmission or is under way, and
+-- only one of the three [D13]
+unfoldable pub StandsInOnePlace : Type 0
+StandsInOnePlace = (t : List ℕ) (n : Memory) (m : Machine) → Stands t n m → EachInOnePlace m
 
 -- a call on a new node, before its first setup, whatever ticks have passed
 pub record Blank (store : List ℕ) (c q : ℕ) (k : Call) : Type 0 where

@@ -12,7 +12,7 @@ use lib.ListN.{length, getD, take, drop, List·getD-eq-default, length-take}
 use lib.Seq.{getD-take, getD-drop}
 use Rattle.table.proofs.Every.{both}
 use Rattle.end_points.specs.Lent.{Lent}
-use Rattle.trace.specs.Kinds.{tableKind, handOutKind, isKind}
+use Rattle.trace.specs.Kinds.{tableKind, reportKind, isKind}
 use Rattle.trace.specs.Layout.{headSize, headFrom, bytesFrom}
 use Rattle.trace_step.specs.Told.{toldOf}
 use Rattle.trace_step.specs.Steps.{callOf}
@@ -38,7 +38,7 @@ record-bytes f b at = part-bytes f b (headFrom f at .length) (at + headSize)
 above : (n k : ℕ) → n ≤ k → k ≢ n → n + 1 ≤ k
 above n k l d = omega arith
 
-last-kind : (k : ℕ) → 8 ≤ k → k ≤ 8 → k ≡ 8
+last-kind : (k : ℕ) → 9 ≤ k → k ≤ 9 → k ≡ 9
 last-kind k l m = omega arith
 
 module _ (x : Lent) (i : ℕ) (b : List ℕ) where
@@ -74,24 +74,30 @@ module _ (x : Lent) (i : ℕ) (b : List ℕ) where
   unfolding callOf answer after
   hand-out-made = record { fed = tt; left = refl; buffer = refl; told = refl }
 
+  report-made : Made 9
+  unfolding callOf answer after
+  report-made = record { fed = tt; left = refl; buffer = refl; told = refl }
+
   pub made : Bytes b → (kind : ℕ) → isKind kind ≡ true → kind ≢ tableKind → Made kind
-  made f kind known other = sides (is 2) (is 3) (is 4) (is 5) (is 6) (is 7)
+  made f kind known other = sides (is 2) (is 3) (is 4) (is 5) (is 6) (is 7) (is 8)
     where
       is : (n : ℕ) → Dec (kind ≡ n)
       is n = ℕ-discrete kind n
 
-      bounds : (1 ≤ kind) × (kind ≤ 8)
-      bounds = let p = both (leb tableKind kind) (leb kind handOutKind) known in (leb-true 1 kind (p .0), leb-true kind 8 (p .1))
+      bounds : (1 ≤ kind) × (kind ≤ 9)
+      bounds = let p = both (leb tableKind kind) (leb kind reportKind) known in (leb-true 1 kind (p .0), leb-true kind 9 (p .1))
 
-      sides : Dec (kind ≡ 2) → Dec (kind ≡ 3) → Dec (kind ≡ 4) → Dec (kind ≡ 5) → Dec (kind ≡ 6) → Dec (kind ≡ 7) → Made kind
-      sides (yes e) _ _ _ _ _ = subst Made (sym e) open-made
-      sides (no _) (yes e) _ _ _ _ = subst Made (sym e) close-made
-      sides (no _) (no _) (yes e) _ _ _ = subst Made (sym e) send-made
-      sides (no _) (no _) (no _) (yes e) _ _ = subst Made (sym e) urgent-made
-      sides (no _) (no _) (no _) (no _) (yes e) _ = subst Made (sym e) (arrival-made f)
-      sides (no _) (no _) (no _) (no _) (no _) (yes e) = subst Made (sym e) tick-made
-      sides (no a) (no c) (no d) (no g) (no h) (no l) =
+      sides : Dec (kind ≡ 2) → Dec (kind ≡ 3) → Dec (kind ≡ 4) → Dec (kind ≡ 5) → Dec (kind ≡ 6) → Dec (kind ≡ 7) → Dec (kind ≡ 8) → Made kind
+      sides (yes e) _ _ _ _ _ _ = subst Made (sym e) open-made
+      sides (no _) (yes e) _ _ _ _ _ = subst Made (sym e) close-made
+      sides (no _) (no _) (yes e) _ _ _ _ = subst Made (sym e) send-made
+      sides (no _) (no _) (no _) (yes e) _ _ _ = subst Made (sym e) urgent-made
+      sides (no _) (no _) (no _) (no _) (yes e) _ _ = subst Made (sym e) (arrival-made f)
+      sides (no _) (no _) (no _) (no _) (no _) (yes e) _ = subst Made (sym e) tick-made
+      sides (no _) (no _) (no _) (no _) (no _) (no _) (yes e) = subst Made (sym e) hand-out-made
+      sides (no a) (no c) (no d) (no g) (no h) (no l) (no m) =
           let three = above 2 kind (above 1 kind (bounds .0) other) a in
           let five = above 4 kind (above 3 kind three c) d in
           let seven = above 6 kind (above 5 kind five g) h in
-          subst Made (sym (last-kind kind (above 7 kind seven l) (bounds .1))) hand-out-made
+          let nine = above 8 kind (above 7 kind seven l) m in
+          subst Made (sym (last-kind kind nine (bounds .1))) report-made

@@ -18,12 +18,12 @@ use Rattle.table.proofs.Good.{store-fits}
 use Rattle.end_points.specs.Answers.{answerOf}
 use Rattle.end_points.specs.Lent.{Lent}
 use Rattle.call_open.specs.Setup.{setupAnswer}
-use Rattle.trace.specs.Kinds.{openKind, closeKind, sendKind, urgentKind, arrivalKind, tickKind}
+use Rattle.trace.specs.Kinds.{openKind, closeKind, sendKind, urgentKind, arrivalKind, tickKind, handOutKind}
 use Rattle.trace.specs.Layout.{countOf, beginOf, headFrom, bytesFrom}
 use Rattle.trace_step.specs.Told.{toldOf}
 use Rattle.trace_step.specs.Steps.{Outcome, storedOf, stepOf}
 use Rattle.trace_step.specs.Replay.{stateAfter, toldAt, isRefused, madeOf}
-use Rattle.machine.specs.Calls.{Call, opens, closes, counts, sends, urges, arrives, hands-out, ticks, Answer, Fed}
+use Rattle.machine.specs.Calls.{Call, opens, closes, counts, sends, urges, arrives, hands-out, reports, ticks, Answer, Fed}
 use Rattle.machine.specs.Machine.{Machine, step}
 use Rattle.machine.specs.Sound.{Sound}
 use Rattle.machine.specs.LawsRoom.{mostOut, Roomy, NeverShort, BuffersStay}
@@ -44,6 +44,7 @@ Uses out (sends i p) = Unit {0}
 Uses out (urges i p) = Unit {0}
 Uses out (arrives block f) = block ≡ out
 Uses out (hands-out buffer) = buffer ≡ out
+Uses out reports = Unit {0}
 Uses out ticks = Unit {0}
 
 either : (P : Call → Type 0) (b : Bool) {c d : Call} → P c → P d → P (pick b c d)
@@ -59,7 +60,8 @@ named-uses kind i b out =
     (either P (eqb kind urgentKind) tt
     (either P (eqb kind arrivalKind) refl
     (either P (eqb kind tickKind) tt
-    refl)))))
+    (either P (eqb kind handOutKind) refl
+    tt))))))
 
 at-uses : (f : List ℕ) (k : ℕ) (out : List ℕ) → Uses out (callAt f k out)
 at-uses f k out = let at = beginOf f k in named-uses (headFrom f at .kind) (headFrom f at .index) (bytesFrom f at) out
@@ -73,6 +75,7 @@ roomy out l (sends i p) u = tt
 roomy out l (urges i p) u = tt
 roomy out l (arrives block f) u = rw u l
 roomy out l (hands-out buffer) u = rw u l
+roomy out l reports u = tt
 roomy out l ticks u = tt
 
 -- and keeps its length
@@ -86,6 +89,7 @@ kept-long y m (sends i p) e u = refl
 kept-long y m (urges i p) e u = refl
 kept-long y m (arrives block f) e u = ap (λ (a : Answer). length (a .out)) e ∙ buffers-stay m (arrives block f) ∙ ap length u
 kept-long y m (hands-out buffer) e u = ap (λ (a : Answer). length (a .out)) e ∙ buffers-stay m (hands-out buffer) ∙ ap length u
+kept-long y m reports e u = refl
 kept-long y m ticks e u = refl
 
 -- what is told is not 6, whatever a tick's bits are
@@ -97,6 +101,7 @@ told-roomed (sends i p) ns h = h (λ e. let z : _≡_ {A = ℕ} 0 1 = cc in omeg
 told-roomed (urges i p) ns h = h (λ e. let z : _≡_ {A = ℕ} 0 1 = cc in omega arith)
 told-roomed (arrives block f) ns h = h (λ e. let z : _≡_ {A = ℕ} 0 1 = cc in omega arith)
 told-roomed (hands-out buffer) ns h = h (λ e. let z : _≡_ {A = ℕ} 0 1 = cc in omega arith)
+told-roomed reports ns h = h (λ e. let z : _≡_ {A = ℕ} 0 1 = cc in omega arith)
 told-roomed ticks ns h = λ z. omega arith
 
 -- a store as long as any table takes

@@ -15,13 +15,14 @@ use Rattle.units.specs.declared.refusals.Verdict.the-variants.{Passed, Refused}
 use Rattle.memory.specs.Layout.{nodeWords, bookHalves}
 use Rattle.end_points.specs.Lent.{Lent}
 use Rattle.call_open.specs.Setup.{setupAnswer}
-use Rattle.trace.specs.Kinds.{openKind, closeKind, sendKind, urgentKind, arrivalKind, tickKind}
+use Rattle.trace.specs.Kinds.{openKind, closeKind, sendKind, urgentKind, arrivalKind, tickKind, handOutKind}
 use Rattle.trace.specs.Layout.{countOf, beginOf, headFrom, bytesFrom}
 use Rattle.trace.specs.Rules.{goodTrace}
 use Rattle.trace_step.specs.Told.{toldOf}
 use Rattle.trace_step.specs.Steps.{storedOf}
 use Rattle.trace_step.specs.Replay.{stateAfter, toldAt, madeOf}
-use Rattle.machine.specs.Calls.{Call, opens, closes, counts, sends, urges, arrives, hands-out, ticks, Bytes, Fed}
+use Rattle.machine.specs.Calls.{Call, opens, closes, counts, sends, urges, arrives, hands-out, reports, ticks}
+use Rattle.machine.specs.Calls.{Bytes, Fed}
 use Rattle.machine.specs.LawsRoom.{mostOut}
 use Rattle.good.specs.Calls.{kept, answer, after, SetUp, Reach}
 
@@ -41,7 +42,8 @@ callNamed kind i b out =
     (pick (eqb kind urgentKind) (urges i b)
     (pick (eqb kind arrivalKind) (arrives out b)
     (pick (eqb kind tickKind) ticks
-    (hands-out out))))))
+    (pick (eqb kind handOutKind) (hands-out out)
+    reports))))))
 
 -- the call of record k [L6]
 abbrev pub callAt : List ℕ → ℕ → List ℕ → Call
@@ -60,6 +62,7 @@ bufferAfter (sends i p) out new = out
 bufferAfter (urges i p) out new = out
 bufferAfter (arrives block f) out new = new
 bufferAfter (hands-out buffer) out new = new
+bufferAfter reports out new = out
 bufferAfter ticks out new = out
 
 -- what a replay tells of the call's numbers: those, and before a tick's bits that it was not refused [L12]
@@ -71,6 +74,7 @@ numbersTold (sends i p) ns = ns
 numbersTold (urges i p) ns = ns
 numbersTold (arrives block f) ns = ns
 numbersTold (hands-out buffer) ns = ns
+numbersTold reports ns = ns
 numbersTold ticks ns = 0 ∷ ns
 
 -- a public call of the node that x has, as its contract says (`answer` and `after`, crates/good): what it leaves is y,

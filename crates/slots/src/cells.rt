@@ -21,7 +21,7 @@ pub fn put_length(book: &mut [u16], g: u16, n: u16)
     put_half(book, layout::LENGTH_AT + g as usize, n)
 }
 
-// The tick at which the timer of cell g runs out, 0 where it does not run.
+// The tick at which the timer of cell g runs out, 0 where it does not run; a mark while its frame is under way.
 pub fn timer(book: &[u16], g: u16) -> u16
     ensures { λ r. ⌜ r ≡ timerIn (now (book .entry)) g ⌝ }
 {

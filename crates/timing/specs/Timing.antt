@@ -33,6 +33,11 @@ leftOf c d = pick (eqb d 0) 0 (pick (ltb c d) (d - c) (d + (round - c)))
 abbrev pub soonest : ℕ → ℕ → ℕ → ℕ
 soonest least c d = min least (leftOf c d)
 
+-- a timer's place while its frame is under way: it does not run yet, and is not 0, since nothing of it waits. A tick
+-- leaves it. [D2]
+abbrev pub standing : ℕ
+standing = 1
+
 -- tick c has passed, and so many more may
 abbrev pub passed : List ℕ → ℕ → ℕ → List ℕ
 passed ws c quiet = set (set ws clockAt c) quietAt quiet

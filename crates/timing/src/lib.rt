@@ -12,6 +12,9 @@ ghost use Rattle.timing.specs.Timing.{passed, heeded, roused};
 // How many ticks a round of the clock has: it shows 1 to this, so that 0 can mean that a timer does not run.
 pub const ROUND: u16 = 65535;
 
+// A timer's place while its frame is under way: it does not run yet, and is not 0, since nothing of it waits.
+pub const STANDING: u16 = 1;
+
 // The number of the last tick, 0 before the first.
 pub fn clock(node: &[u64]) -> u16
     ensures { λ r. ⌜ r ≡ clockIn (now (node .entry)) ⌝ }

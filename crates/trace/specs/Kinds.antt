@@ -30,11 +30,14 @@ tickKind = 7
 abbrev pub handOutKind : ℕ
 handOutKind = 8
 
+abbrev pub reportKind : ℕ
+reportKind = 9
+
 -- ---- what they are
 
 -- there is such a kind [L6]
 abbrev pub isKind : ℕ → Bool
-isKind k = leb tableKind k && leb k handOutKind
+isKind k = leb tableKind k && leb k reportKind
 
 -- its call takes an index: open, close, send, urgent [L7]
 abbrev pub takesIndex : ℕ → Bool

@@ -18,11 +18,14 @@ pub const TICK: u8 = 7;
 
 pub const HAND_OUT: u8 = 8;
 
+// The end of the frame under way.
+pub const REPORT: u8 = 9;
+
 // Whether there is such a kind.
 pub fn is_kind(kind: u8) -> bool
     ensures { λ r. ⌜ r ≡ isKind kind ⌝ }
 {
-    TABLE <= kind && kind <= HAND_OUT
+    TABLE <= kind && kind <= REPORT
 }
 
 // Whether its call takes an index: open, close, send, urgent.

@@ -13,8 +13,10 @@ use Rattle.call_open.specs.Opening.{openAnswer, openAfter, closeAnswer, closeAf
 use Rattle.call_send.specs.Sending.{sendAnswer, sendAfter, urgentAnswer, urgentAfter}
 use Rattle.call_arrive.specs.Arriving.{arrivalAnswer, arrivalAfter}
 use Rattle.call_hand_out.specs.Handing.{handOutAnswer, handOutAfter}
+use Rattle.call_report.specs.Reporting.{reportAnswer, reportAfter}
 use Rattle.call_tick.specs.Ticking.{tickAnswer, tickAfter}
-use Rattle.trace.specs.Kinds.{tableKind, openKind, closeKind, sendKind, urgentKind, arrivalKind, tickKind, handOutKind}
+use Rattle.trace.specs.Kinds.{tableKind, openKind, closeKind, sendKind, urgentKind, arrivalKind}
+use Rattle.trace.specs.Kinds.{tickKind, handOutKind, reportKind}
 use Rattle.trace.specs.Layout.{countOf, beginOf, headFrom, bytesFrom}
 use Rattle.trace_step.specs.declared.Told.{Told}
 use Rattle.trace_step.specs.declared.Told.the-variants as told
@@ -73,6 +75,9 @@ ticked x = outcome (told.Tick (tickAnswer (bareOf x))) (besideBare x (tickAfter 
 abbrev pub handedOut : Lent → Outcome
 handedOut x = outcome (told.HandOut (handOutAnswer x)) (handOutAfter x (handOutAnswer x))
 
+abbrev pub reported : Lent → Outcome
+reported x = let r = reportAnswer (bareOf x) in outcome (told.Plain r) (besideBare x (reportAfter (bareOf x) r))
+
 -- what is no call: 21, and nothing alters [R21, R44]
 abbrev pub noCall : Lent → Outcome
 noCall x = outcome (told.Plain (Refused refusal.BadTrace)) x
@@ -90,7 +95,8 @@ callOf x kind i b =
     (pick (eqb kind arrivalKind) (arrived x b)
     (pick (eqb kind tickKind) (ticked x)
     (pick (eqb kind handOutKind) (handedOut x)
-    (noCall x))))))))
+    (pick (eqb kind reportKind) (reported x)
+    (noCall x)))))))))
 
 -- the call of the record that begins at a byte [L5, L9]
 abbrev pub callFrom : Lent → List ℕ → ℕ → Outcome

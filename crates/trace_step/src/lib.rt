@@ -26,7 +26,7 @@ pub const BUFFER: usize = blocks::layout::EMPTY
 
 // What a call answered.
 pub enum Told {
-    // Setup, open, close, send and Urgent; and what is no call.
+    // Setup, open, close, send, Urgent and a report; and what is no call.
     Plain(Verdict),
     Arrival(Arrived),
     // The entries that became Enabled.
@@ -62,6 +62,7 @@ pub fn call(
         kinds::ARRIVAL => Told::Arrival(node::arrival(node, book, store, out, bytes)),
         kinds::TICK => Told::Tick(node::tick(node, book)),
         kinds::HAND_OUT => Told::HandOut(node::hand_out(node, book, store, out)),
+        kinds::REPORT => Told::Plain(node::report(node, book)),
         _ => Told::Plain(Verdict::Refused(Refusal::BadTrace)),
     }
 }

@@ -50,6 +50,8 @@ refused-some refusal.UnknownType = omega arith
 refused-some refusal.UserBits = omega arith
 refused-some refusal.LengthAgainstType = omega arith
 refused-some refusal.WrongSequence = omega arith
+refused-some refusal.UnderWay = omega arith
+refused-some refusal.NoneUnderWay = omega arith
 refused-some refusal.BadTrace = omega arith
 
 pub refused-not-zero : (w : Refusal) → eqb (numberOf w) 0 ≡ false

@@ -3,7 +3,7 @@ ghost use mathlib.Core.Path.{_≡_};
 ghost use Rattle.units.specs.Refusals.{numberOf};
 
 // The refusals, in the order of their numbers.
-// [R1, R2, R3, R4, R5, R6, R7, R8, R9, R10, R11, R13, R14, R15, R16, R17, R18, R21]
+// [R1, R2, R3, R4, R5, R6, R7, R8, R9, R10, R11, R13, R14, R15, R16, R17, R18, R19, R20, R21]
 pub enum Refusal {
     BadTable,
     NoEntry,
@@ -22,6 +22,8 @@ pub enum Refusal {
     UserBits,
     LengthAgainstType,
     WrongSequence,
+    UnderWay,
+    NoneUnderWay,
     BadTrace,
 }
 
@@ -62,6 +64,8 @@ pub fn number(r: Refusal) -> u8
         Refusal::UserBits => USER_BITS,
         Refusal::LengthAgainstType => LENGTH_AGAINST_TYPE,
         Refusal::WrongSequence => WRONG_SEQUENCE,
+        Refusal::UnderWay => 19,
+        Refusal::NoneUnderWay => 20,
         Refusal::BadTrace => 21,
     }
 }

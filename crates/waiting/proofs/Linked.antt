@@ -41,6 +41,11 @@ module _ (b : List ℕ) (long : length b ≡ bookHalves) (x y : ℕ) (hx : x < i
   joined-beyond k h =
       getD-set-other (set b (nextAt x) y) (prevAt y) k x 0 (λ e. omega arith) ∙ getD-set-other b (nextAt x) k y 0 (λ e. omega arith)
 
+  -- and so does the link of a number that is none of the queue's
+  pub joined-aside : (k : ℕ) → k < idsEnd → k ≢ x → getD (joined b x y) k 0 ≡ getD b k 0
+  joined-aside k h n =
+      getD-set-other (set b (nextAt x) y) (prevAt y) k x 0 (λ e. omega arith) ∙ getD-set-other b (nextAt x) k y 0 n
+
   pub joined-long : length (joined b x y) ≡ bookHalves
   joined-long = length-set (set b (nextAt x) y) (prevAt y) x ∙ length-set b (nextAt x) y ∙ long
 
@@ -180,6 +185,14 @@ module _ (b : List ℕ) (long : length b ≡ bookHalves) (q x : ℕ) (items : Li
       let hl = last-below idsEnd q items (w .below) in
       rw e (joined-beyond (joined b (last q items) x) (joined-long b long (last q items) x hl hx) x q hx (w .below .0) k h ∙ joined-beyond b long (last q items) x hl hx k h)
 
+  pub append-aside : (k : ℕ) → k < idsEnd → k ≢ x → Out k (q ∷ items) → getD (appended b q x) k 0 ≡ getD b k 0
+  unfolding appended
+  append-aside k h n o =
+      let e : prevOf b q ≡ last q items = chain-last b q items q (w .chain) in
+      let hl = last-below idsEnd q items (w .below) in
+      rw e (joined-aside (joined b (last q items) x) (joined-long b long (last q items) x hl hx) x q hx (w .below .0) k h n
+      ∙ joined-aside b long (last q items) x hl hx k h (last-out k q items o))
+
 -- ---- unlinking
 
 chain-split : (b : List ℕ) (u : ℕ) (ys : List ℕ) (x : ℕ) (zs : List ℕ) (z : ℕ) → Chain b u (ys ++ (x ∷ zs)) z → Chain b u ys x × Chain b x zs z
@@ -248,6 +261,10 @@ module _ (b : List ℕ) (long : length b ≡ bookHalves) (q x : ℕ) (ys zs : Li
   unlink-beyond k h =
       rw around (joined-beyond b long (last q ys) (first zs q) (last-below idsEnd q ys before-below) (first-below idsEnd zs q after-below (w .below .0)) k h)
 
+  pub unlink-aside : (k : ℕ) → k < idsEnd → Out k (q ∷ ys) → getD (unlinked b x) k 0 ≡ getD b k 0
+  unlink-aside k h o =
+      rw around (joined-aside b long (last q ys) (first zs q) (last-below idsEnd q ys before-below) (first-below idsEnd zs q after-below (w .below .0)) k h (last-out k q ys o))
+
 -- ---- what else is known of a queue
 
 -- what has waited longest: the first, or the queue itself where nothing waits
@@ -269,3 +286,19 @@ beyond-chain b k v u (w ∷ us) z h l hz c = (
 pub beyond-queue : (b : List ℕ) (k v q : ℕ) (items : List ℕ) → cellsAt ≤ k → Queue b q items → Queue (set b k v) q items
 beyond-queue b k v q items h w =
     record { chain = beyond-chain b k v q items q h (w .below) (w .below .0) (w .chain); distinct = w .distinct; below = w .below }
+
+-- so does a store in the link of a number that is none of the queue's
+aside-chain : (b : List ℕ) (k v u : ℕ) (us : List ℕ) (z : ℕ) → k < idsEnd → Out k (u ∷ us) → Chain b u us z → Chain (set b k v) u us z
+aside-chain b k v u [] z h o c =
+    record { ahead = getD-set-other b k (nextAt u) v 0 (λ e. o .0 (sym e)) ∙ c .ahead; back = getD-set-other b k (prevAt z) v 0 (λ e. omega arith) ∙ c .back }
+aside-chain b k v u (w ∷ us) z h o c = (
+  record {
+    ahead = getD-set-other b k (nextAt u) v 0 (λ e. o .0 (sym e)) ∙ c .0 .ahead;
+    back = getD-set-other b k (prevAt w) v 0 (λ e. omega arith) ∙ c .0 .back;
+  },
+  aside-chain b k v w us z h (o .1) (c .1),
+)
+
+pub aside-queue : (b : List ℕ) (k v q : ℕ) (items : List ℕ) → k < idsEnd → Out k (q ∷ items) → Queue b q items → Queue (set b k v) q items
+aside-queue b k v q items h o w =
+    record { chain = aside-chain b k v q items q h o (w .chain); distinct = w .distinct; below = w .below }

@@ -1,3 +1,4 @@
 pub mod Queues
 pub mod Acks
+pub mod Port
 pub mod Order

@@ -1,22 +1,35 @@
 -- `call_hand_out::hand_out` meets its contract. Assumes nothing.
 use Rattle.call_hand_out.proofs.Outcomes.{nothing, once-same, outcome}
 use Rattle.call_hand_out.specs.Handing.{frameOut, outNode, outBook, handOutAnswer, handOutAfter}
-use borrow.Author.Tests.{lt-ltb, le-ltb}
+use borrow.Author.Tests.{eq-eqb, ne-eqb, lt-ltb, le-ltb}
 use denote.Ref.{now}
 use mathlib.Core.Path.{refl, sym, _∙_}
 use borrow.Author.Needs.{needs}
 use Rattle.call_hand_out.proofs.hand_out.Statement.{statement}
 use Rattle.call_hand_out.proofs.hand_out.Tie as tie
 
-need-requires : tie.Need-need-requires
-need-requires c κs = search needs
+under-requires : tie.Need-under-requires
+under-requires c κs = search needs
 
 same-length : tie.Need-same-length
 same-length c = search needs
 
 returns : tie.Need-returns
 unfolding handOutAnswer handOutAfter
-returns c = (rw (rw (c .before .need .ensures) at (lt-ltb _ _ (c .if1 .taken))), refl)
+returns c = (rw (rw (c .before .under .ensures) at (ne-eqb _ 0 (c .if1 .taken))), refl)
+
+need-requires : tie.Need-need-requires
+need-requires c κs = search needs
+
+same-length-2 : tie.Need-same-length-2
+same-length-2 c = search needs
+
+same-length-3 : tie.Need-same-length-3
+same-length-3 c = search needs
+
+returns-2 : tie.Need-returns-2
+unfolding handOutAnswer handOutAfter
+returns-2 c = (rw (sym (c .before .before .before .before .under .ensures) ∙ c .before .before .before .if1 .left, rw (c .before .need .ensures) at (lt-ltb _ _ (c .if2 .taken))), refl)
 
 next-out-requires : tie.Need-next-out-requires
 next-out-requires c κs = search needs
@@ -54,31 +67,18 @@ enum-known-x-4 c = search needs
 put-data-requires : tie.Need-put-data-requires
 put-data-requires c κs = search needs
 
-same-length-2 : tie.Need-same-length-2
-same-length-2 c = search needs
-
-same-length-3 : tie.Need-same-length-3
-same-length-3 c = search needs
-
-returns-2 : tie.Need-returns-2
-unfolding frameOut outNode outBook
-returns-2 c = outcome _ _ _ _ _ _ (rw (c .before .before .before .before .before .before .need .ensures) at (le-ltb _ _ (c .before .before .before .before .before .if1 .left))) (sym (c .before .before .next-out .ensures) ∙ c .enum-told .given .1) (nothing (now (c .before .before .before .before .before .before .before .before .before .before .before .before .args .frame))) refl refl refl
-
 same-length-4 : tie.Need-same-length-4
 same-length-4 c = search needs
 
 same-length-5 : tie.Need-same-length-5
 same-length-5 c = search needs
 
-same-length-6 : tie.Need-same-length-6
-same-length-6 c = search needs
-
 returns-3 : tie.Need-returns-3
 unfolding frameOut outNode outBook
-returns-3 c =
-    let p = c .before .before .before .before .put-ack .ensures in
-    let book = once-same (c .before .before .before .before .put-ack .result) (now (c .before .before .before .before .before .before .before .before .before .before .before .before .before .before .before .before .before .before .before .before .args .book)) in
-    outcome _ _ _ _ _ _ (rw (c .before .before .before .before .before .before .before .before .before .before .before .before .before .before .need .ensures) at (le-ltb _ _ (c .before .before .before .before .before .before .before .before .before .before .before .before .before .if1 .left))) (sym (c .before .before .before .before .before .before .before .before .before .before .next-out .ensures) ∙ c .before .before .before .before .before .before .before .before .a .given .1) (p .0) (p .1 .0) book (p .1 .1)
+returns-3 c = outcome _ _ _ _ _ _ (sym (c .before .before .before .before .before .before .before .before .before .under .ensures) ∙ c .before .before .before .before .before .before .before .before .if1 .left) (rw (c .before .before .before .before .before .before .need .ensures) at (le-ltb _ _ (c .before .before .before .before .before .if2 .left))) (sym (c .before .before .next-out .ensures) ∙ c .enum-told .given .1) (nothing (now (c .before .before .before .before .before .before .before .before .before .before .before .before .before .before .before .args .frame))) refl refl refl
+
+same-length-6 : tie.Need-same-length-6
+same-length-6 c = search needs
 
 same-length-7 : tie.Need-same-length-7
 same-length-7 c = search needs
@@ -86,14 +86,14 @@ same-length-7 c = search needs
 same-length-8 : tie.Need-same-length-8
 same-length-8 c = search needs
 
-same-length-9 : tie.Need-same-length-9
-same-length-9 c = search needs
-
 returns-4 : tie.Need-returns-4
 unfolding frameOut outNode outBook
 returns-4 c =
-    let p = c .before .before .before .before .before .before .put-reset .ensures in
-    outcome _ _ _ _ _ _ (rw (c .before .before .before .before .before .before .before .before .before .before .before .before .before .before .before .before .before .need .ensures) at (le-ltb _ _ (c .before .before .before .before .before .before .before .before .before .before .before .before .before .before .before .before .if1 .left))) (sym (c .before .before .before .before .before .before .before .before .before .before .before .before .before .next-out .ensures) ∙ c .before .before .before .before .before .before .before .before .before .before .before .x .given .1) (p .0) (p .1 .0) (p .1 .1 .0) (p .1 .1 .1)
+    let p = c .before .before .before .before .before .before .put-ack .ensures in
+    outcome _ _ _ _ _ _ (sym (c .before .before .before .before .before .before .before .before .before .before .before .before .before .before .before .before .before .before .before .before .under .ensures) ∙ c .before .before .before .before .before .before .before .before .before .before .before .before .before .before .before .before .before .before .before .if1 .left) (rw (c .before .before .before .before .before .before .before .before .before .before .before .before .before .before .before .before .before .need .ensures) at (le-ltb _ _ (c .before .before .before .before .before .before .before .before .before .before .before .before .before .before .before .before .if2 .left))) (sym (c .before .before .before .before .before .before .before .before .before .before .before .before .before .next-out .ensures) ∙ c .before .before .before .before .before .before .before .before .before .before .before .a .given .1) (p .0) (p .1 .0) (p .1 .1 .0) (p .1 .1 .1)
+
+same-length-9 : tie.Need-same-length-9
+same-length-9 c = search needs
 
 same-length-10 : tie.Need-same-length-10
 same-length-10 c = search needs
@@ -101,14 +101,14 @@ same-length-10 c = search needs
 same-length-11 : tie.Need-same-length-11
 same-length-11 c = search needs
 
-same-length-12 : tie.Need-same-length-12
-same-length-12 c = search needs
-
 returns-5 : tie.Need-returns-5
 unfolding frameOut outNode outBook
 returns-5 c =
-    let p = c .before .before .before .before .before .before .put-urgent .ensures in
-    outcome _ _ _ _ _ _ (rw (c .before .before .before .before .before .before .before .before .before .before .before .before .before .before .before .before .before .need .ensures) at (le-ltb _ _ (c .before .before .before .before .before .before .before .before .before .before .before .before .before .before .before .before .if1 .left))) (sym (c .before .before .before .before .before .before .before .before .before .before .before .before .before .next-out .ensures) ∙ c .before .before .before .before .before .before .before .before .before .before .before .x2 .given .1) (p .0) (p .1 .0) (p .1 .1 .0) (p .1 .1 .1)
+    let p = c .before .before .before .before .before .before .put-reset .ensures in
+    outcome _ _ _ _ _ _ (sym (c .before .before .before .before .before .before .before .before .before .before .before .before .before .before .before .before .before .before .before .before .under .ensures) ∙ c .before .before .before .before .before .before .before .before .before .before .before .before .before .before .before .before .before .before .before .if1 .left) (rw (c .before .before .before .before .before .before .before .before .before .before .before .before .before .before .before .before .before .need .ensures) at (le-ltb _ _ (c .before .before .before .before .before .before .before .before .before .before .before .before .before .before .before .before .if2 .left))) (sym (c .before .before .before .before .before .before .before .before .before .before .before .before .before .next-out .ensures) ∙ c .before .before .before .before .before .before .before .before .before .before .before .x .given .1) (p .0) (p .1 .0) (p .1 .1 .0) (p .1 .1 .1)
+
+same-length-12 : tie.Need-same-length-12
+same-length-12 c = search needs
 
 same-length-13 : tie.Need-same-length-13
 same-length-13 c = search needs
@@ -116,14 +116,14 @@ same-length-13 c = search needs
 same-length-14 : tie.Need-same-length-14
 same-length-14 c = search needs
 
-same-length-15 : tie.Need-same-length-15
-same-length-15 c = search needs
-
 returns-6 : tie.Need-returns-6
 unfolding frameOut outNode outBook
 returns-6 c =
-    let p = c .before .before .before .before .before .before .put-again .ensures in
-    outcome _ _ _ _ _ _ (rw (c .before .before .before .before .before .before .before .before .before .before .before .before .before .before .before .before .before .need .ensures) at (le-ltb _ _ (c .before .before .before .before .before .before .before .before .before .before .before .before .before .before .before .before .if1 .left))) (sym (c .before .before .before .before .before .before .before .before .before .before .before .before .before .next-out .ensures) ∙ c .before .before .before .before .before .before .before .before .before .before .before .x3 .given .1) (p .0) (p .1 .0) (p .1 .1 .0) (p .1 .1 .1)
+    let p = c .before .before .before .before .before .before .put-urgent .ensures in
+    outcome _ _ _ _ _ _ (sym (c .before .before .before .before .before .before .before .before .before .before .before .before .before .before .before .before .before .before .before .before .under .ensures) ∙ c .before .before .before .before .before .before .before .before .before .before .before .before .before .before .before .before .before .before .before .if1 .left) (rw (c .before .before .before .before .before .before .before .before .before .before .before .before .before .before .before .before .before .need .ensures) at (le-ltb _ _ (c .before .before .before .before .before .before .before .before .before .before .before .before .before .before .before .before .if2 .left))) (sym (c .before .before .before .before .before .before .before .before .before .before .before .before .before .next-out .ensures) ∙ c .before .before .before .before .before .before .before .before .before .before .before .x2 .given .1) (p .0) (p .1 .0) (p .1 .1 .0) (p .1 .1 .1)
+
+same-length-15 : tie.Need-same-length-15
+same-length-15 c = search needs
 
 same-length-16 : tie.Need-same-length-16
 same-length-16 c = search needs
@@ -131,22 +131,39 @@ same-length-16 c = search needs
 same-length-17 : tie.Need-same-length-17
 same-length-17 c = search needs
 
-same-length-18 : tie.Need-same-length-18
-same-length-18 c = search needs
-
 returns-7 : tie.Need-returns-7
 unfolding frameOut outNode outBook
 returns-7 c =
+    let p = c .before .before .before .before .put-again .ensures in
+    let node = once-same (c .before .before .before .before .put-again .result) (now (c .before .before .before .before .before .before .before .before .before .before .before .before .before .before .before .before .before .before .before .before .before .before .before .before .args .node)) in
+    outcome _ _ _ _ _ _ (sym (c .before .before .before .before .before .before .before .before .before .before .before .before .before .before .before .before .before .before .under .ensures) ∙ c .before .before .before .before .before .before .before .before .before .before .before .before .before .before .before .before .before .if1 .left) (rw (c .before .before .before .before .before .before .before .before .before .before .before .before .before .before .before .need .ensures) at (le-ltb _ _ (c .before .before .before .before .before .before .before .before .before .before .before .before .before .before .if2 .left))) (sym (c .before .before .before .before .before .before .before .before .before .before .before .next-out .ensures) ∙ c .before .before .before .before .before .before .before .before .before .x3 .given .1) (p .0) node (p .1 .0) (p .1 .1)
+
+same-length-18 : tie.Need-same-length-18
+same-length-18 c = search needs
+
+same-length-19 : tie.Need-same-length-19
+same-length-19 c = search needs
+
+same-length-20 : tie.Need-same-length-20
+same-length-20 c = search needs
+
+returns-8 : tie.Need-returns-8
+unfolding frameOut outNode outBook
+returns-8 c =
     let p = c .before .before .before .before .before .before .put-data .ensures in
-    outcome _ _ _ _ _ _ (rw (c .before .before .before .before .before .before .before .before .before .before .before .before .before .before .before .before .before .need .ensures) at (le-ltb _ _ (c .before .before .before .before .before .before .before .before .before .before .before .before .before .before .before .before .if1 .left))) (sym (c .before .before .before .before .before .before .before .before .before .before .before .before .before .next-out .ensures) ∙ c .before .before .before .before .before .before .before .before .before .before .before .x4 .given .1) (p .0) (p .1 .0) (p .1 .1 .0) (p .1 .1 .1)
+    outcome _ _ _ _ _ _ (sym (c .before .before .before .before .before .before .before .before .before .before .before .before .before .before .before .before .before .before .before .before .under .ensures) ∙ c .before .before .before .before .before .before .before .before .before .before .before .before .before .before .before .before .before .before .before .if1 .left) (rw (c .before .before .before .before .before .before .before .before .before .before .before .before .before .before .before .before .before .need .ensures) at (le-ltb _ _ (c .before .before .before .before .before .before .before .before .before .before .before .before .before .before .before .before .if2 .left))) (sym (c .before .before .before .before .before .before .before .before .before .before .before .before .before .next-out .ensures) ∙ c .before .before .before .before .before .before .before .before .before .before .before .x4 .given .1) (p .0) (p .1 .0) (p .1 .1 .0) (p .1 .1 .1)
 
 pub hand-out-spec : {M : Type 1} → statement M
 hand-out-spec =
     tie.close
     (tie.spec
-    need-requires
+    under-requires
     same-length
     returns
+    need-requires
+    same-length-2
+    same-length-3
+    returns-2
     next-out-requires
     enum-told
     enum-known-a
@@ -159,26 +176,26 @@ hand-out-spec =
     put-again-requires
     enum-known-x-4
     put-data-requires
-    same-length-2
-    same-length-3
-    returns-2
     same-length-4
     same-length-5
-    same-length-6
     returns-3
+    same-length-6
     same-length-7
     same-length-8
-    same-length-9
     returns-4
+    same-length-9
     same-length-10
     same-length-11
-    same-length-12
     returns-5
+    same-length-12
     same-length-13
     same-length-14
-    same-length-15
     returns-6
+    same-length-15
     same-length-16
     same-length-17
+    returns-7
     same-length-18
-    returns-7)
+    same-length-19
+    same-length-20
+    returns-8)

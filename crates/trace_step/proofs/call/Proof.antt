@@ -8,6 +8,7 @@ use Rattle.call_open.specs.Setup.{setupAfter}
 use Rattle.call_open.specs.Opening.{openAfter, closeAfter}
 use Rattle.call_send.specs.Sending.{sendAfter, urgentAfter}
 use Rattle.call_hand_out.specs.Handing.{handOutAfter}
+use Rattle.call_report.specs.Reporting.{reportAfter}
 use Rattle.trace_step.specs.Steps.{bareOf, storedOf, besideBare, besideStored, callOf}
 use Rattle.trace_step.specs.declared.Told.the-variants as told
 use Rattle.trace_step.proofs.call.Statement.{statement}
@@ -36,6 +37,9 @@ tick-requires c κs = search needs
 
 hand-out-requires : tie.Need-hand-out-requires
 hand-out-requires c κs = search needs
+
+report-requires : tie.Need-report-requires
+report-requires c κs = search needs
 
 same-length : tie.Need-same-length
 same-length c = search needs
@@ -131,8 +135,17 @@ returns-8 c =
 returns-9 : tie.Need-returns-9
 unfolding callOf
 returns-9 c =
+    let a = c .before .before .before .before .before .before .before .args in
+    let x = whole (now (a .node)) (now (a .book)) (now (a .store)) (now (a .out)) in
+    let e = c .report .ensures in
+    let key = c .before .before .before .match .keys9 in
+    (rw key (ap told.Plain (e .0)), rw key (ap (besideBare x) (e .1 ∙ ap (reportAfter (bareOf x)) (e .0))))
+
+returns-10 : tie.Need-returns-10
+unfolding callOf
+returns-10 c =
     let none = c .match .rest in
-    (rw (ne-eqb _ _ (none .0 .0 .0 .0 .0 .0 .0 .1), ne-eqb _ _ (none .0 .0 .0 .0 .0 .0 .1), ne-eqb _ _ (none .0 .0 .0 .0 .0 .1), ne-eqb _ _ (none .0 .0 .0 .0 .1), ne-eqb _ _ (none .0 .0 .0 .1), ne-eqb _ _ (none .0 .0 .1), ne-eqb _ _ (none .0 .1), ne-eqb _ _ (none .1)), rw (ne-eqb _ _ (none .0 .0 .0 .0 .0 .0 .0 .1), ne-eqb _ _ (none .0 .0 .0 .0 .0 .0 .1), ne-eqb _ _ (none .0 .0 .0 .0 .0 .1), ne-eqb _ _ (none .0 .0 .0 .0 .1), ne-eqb _ _ (none .0 .0 .0 .1), ne-eqb _ _ (none .0 .0 .1), ne-eqb _ _ (none .0 .1), ne-eqb _ _ (none .1)))
+    (rw (ne-eqb _ _ (none .0 .0 .0 .0 .0 .0 .0 .0 .1), ne-eqb _ _ (none .0 .0 .0 .0 .0 .0 .0 .1), ne-eqb _ _ (none .0 .0 .0 .0 .0 .0 .1), ne-eqb _ _ (none .0 .0 .0 .0 .0 .1), ne-eqb _ _ (none .0 .0 .0 .0 .1), ne-eqb _ _ (none .0 .0 .0 .1), ne-eqb _ _ (none .0 .0 .1), ne-eqb _ _ (none .0 .1), ne-eqb _ _ (none .1)), rw (ne-eqb _ _ (none .0 .0 .0 .0 .0 .0 .0 .0 .1), ne-eqb _ _ (none .0 .0 .0 .0 .0 .0 .0 .1), ne-eqb _ _ (none .0 .0 .0 .0 .0 .0 .1), ne-eqb _ _ (none .0 .0 .0 .0 .0 .1), ne-eqb _ _ (none .0 .0 .0 .0 .1), ne-eqb _ _ (none .0 .0 .0 .1), ne-eqb _ _ (none .0 .0 .1), ne-eqb _ _ (none .0 .1), ne-eqb _ _ (none .1)))
 
 pub call-spec : {M : Type 1} → statement M
 call-spec =
@@ -146,6 +159,7 @@ call-spec =
     arrival-requires
     tick-requires
     hand-out-requires
+    report-requires
     same-length
     returns
     returns-2
@@ -161,4 +175,5 @@ call-spec =
     same-length-6
     same-length-7
     returns-8
-    returns-9)
+    returns-9
+    returns-10)

@@ -30,6 +30,12 @@ enum-known-n c = search needs
 pop-requires : tie.Need-pop-requires
 pop-requires c κs = search needs
 
+type-number-requires : tie.Need-type-number-requires
+type-number-requires c κs = search needs
+
+begin-requires : tie.Need-begin-requires
+begin-requires c κs = search needs
+
 same-length : tie.Need-same-length
 same-length c = search needs
 
@@ -40,7 +46,7 @@ returns : tie.Need-returns
 unfolding ackFrame endOf
 returns c =
     let p = rw (c .before .w .given .1, c .before .before .before .before .before .before .before .before .fields-to .ensures, c .before .before .before .before .before .before .before .before .before .before .load-entry .ensures) at (c .before .before .before .before .before .put-frame .ensures) in
-    (p .0, (refl, p .1))
+    (p .0, (refl, (refl, p .1)))
 
 same-length-3 : tie.Need-same-length-3
 same-length-3 c = search needs
@@ -48,11 +54,14 @@ same-length-3 c = search needs
 same-length-4 : tie.Need-same-length-4
 same-length-4 c = search needs
 
+same-length-5 : tie.Need-same-length-5
+same-length-5 c = search needs
+
 returns-2 : tie.Need-returns-2
 unfolding ackFrame endOf
 returns-2 c =
-    let p = rw (c .before .before .before .before .before .n .given .1, c .before .before .before .before .before .before .before .before .before .before .before .before .fields-to .ensures, c .before .before .before .before .before .before .before .before .before .before .before .before .before .before .load-entry .ensures) at (c .before .before .before .before .before .before .before .before .before .put-frame .ensures) in
-    (p .0, (c .before .before .pop .ensures, p .1))
+    let p = rw (c .before .before .before .before .before .before .before .before .before .before .n .given .1, c .before .before .before .before .before .before .before .before .before .before .before .before .before .before .before .before .before .fields-to .ensures, c .before .before .before .before .before .before .before .before .before .before .before .before .before .before .before .before .before .before .before .load-entry .ensures) at (c .before .before .before .before .before .before .before .before .before .before .before .before .before .before .put-frame .ensures) in
+    (p .0, (c .before .before .before .before .before .before .before .pop .ensures, (rw (c .before .before .begin .ensures, c .before .before .before .type-number .ensures), p .1)))
 
 pub put-ack-spec : {M : Type 1} → statement M
 put-ack-spec =
@@ -66,9 +75,12 @@ put-ack-spec =
     enum-known-w
     enum-known-n
     pop-requires
+    type-number-requires
+    begin-requires
     same-length
     same-length-2
     returns
     same-length-3
     same-length-4
+    same-length-5
     returns-2)

@@ -1,5 +1,5 @@
 -- `call_hand_out::sorts::put_data` meets its contract. Assumes nothing.
-use Rattle.call_hand_out.specs.Handing.{fitted, once, dataFrame}
+use Rattle.call_hand_out.specs.Handing.{fitted, once, dataFrame, dataSent}
 use lib.Seq.{sets}
 use denote.Ref.{now}
 use mathlib.Core.Path.{_≡_, refl}
@@ -80,26 +80,11 @@ enum-known-w c = search needs
 enum-known-n : tie.Need-enum-known-n
 enum-known-n c = search needs
 
-unlink-requires : tie.Need-unlink-requires
-unlink-requires c κs = search needs
-
-clock-requires : tie.Need-clock-requires
-clock-requires c κs = search needs
-
-later-requires : tie.Need-later-requires
-later-requires c κs = search needs
-
-put-timer-requires : tie.Need-put-timer-requires
-put-timer-requires c κs = search needs
+put-sent-requires : tie.Need-put-sent-requires
+put-sent-requires c κs = search needs
 
 put-handed-requires : tie.Need-put-handed-requires
-put-handed-requires c κs =
-    let f = c .before .before .before .before .before .before .before .before .before .before .before .before in
-    let r = f .before .before .before .before .before .before .before .before .before .before .before .before in
-    omega (arith, r .before .before .before .before .before .before .before .before .before .entry-of .ensures)
-
-heed-requires : tie.Need-heed-requires
-heed-requires c κs = search needs
+put-handed-requires c κs = omega (arith, c .before .before .before .before .before .before .before .before .before .before .before .before .before .before .before .before .before .before .before .before .before .before .before .before .before .before .entry-of .ensures)
 
 same-length : tie.Need-same-length
 same-length c = search needs
@@ -125,37 +110,10 @@ same-length-6 : tie.Need-same-length-6
 same-length-6 c = search needs
 
 returns-2 : tie.Need-returns-2
-unfolding endOf
+unfolding dataSent
 returns-2 c =
-    let h = c .before .before .before .before .before .before .before .before .before .before in
-    let u = h .before .before .before .before .before .before .before in
-    let f = u .before .before .before .before .before .before .before in
-    let l = f .before .before .before .before .before .before .before .before .before .before .before .before .before in
-    let e = l .before .before .before .entry-of .ensures in
-    let p = rw (u .before .before .before .n .given .1) at (data-put f) in (
-      p .0,
-      (
-        rw (
-          c .before .before .heed .ensures,
-          c .before .before .before .before .before .before .put-handed .ensures,
-          f .before .before .before .before .before .before .before .before .before .before .before .run-of .ensures,
-          l .load-entry .ensures,
-          e,
-        ),
-        (
-          rw (
-            h .put-timer .ensures,
-            h .before .later .ensures,
-            h .before .before .clock .ensures,
-            u .unlink .ensures,
-            l .load-entry .ensures,
-            l .before .before .less .ensures,
-            e,
-          ),
-          p .1,
-        ),
-      ),
-    )
+    let p = rw (c .before .before .before .before .before .before .before .before .before .n .given .1) at (data-put (c .before .before .before .before .before .before .before .before .before .before .before .before .before)) in
+    (p .0, (rw (c .before .before .put-handed .ensures, c .before .before .before .before .before .before .before .before .before .before .before .before .before .before .before .before .before .before .before .before .before .before .before .before .run-of .ensures, c .before .before .before .before .before .before .before .before .before .before .before .before .before .before .before .before .before .before .before .before .before .before .before .before .before .before .before .before .before .entry-of .ensures), (rw (c .before .before .before .before .before .before .put-sent .ensures, c .before .before .before .before .before .before .before .before .before .before .before .before .before .before .before .before .before .before .before .before .before .before .before .number-in .ensures, c .before .before .before .before .before .before .before .before .before .before .before .before .before .before .before .before .before .before .before .before .before .before .before .before .run-of .ensures, c .before .before .before .before .before .before .before .before .before .before .before .before .before .before .before .before .before .before .before .before .before .before .before .before .before .before .before .before .less .ensures, c .before .before .before .before .before .before .before .before .before .before .before .before .before .before .before .before .before .before .before .before .before .before .before .before .before .before .before .before .before .entry-of .ensures), p .1)))
 
 pub put-data-spec : {M : Type 1} → statement M
 put-data-spec =
@@ -176,12 +134,8 @@ put-data-spec =
     put-frame-requires
     enum-known-w
     enum-known-n
-    unlink-requires
-    clock-requires
-    later-requires
-    put-timer-requires
+    put-sent-requires
     put-handed-requires
-    heed-requires
     same-length
     same-length-2
     same-length-3

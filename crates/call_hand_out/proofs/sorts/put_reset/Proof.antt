@@ -32,17 +32,17 @@ enum-known-n c = search needs
 unlink-requires : tie.Need-unlink-requires
 unlink-requires c κs = search needs
 
-clock-requires : tie.Need-clock-requires
-clock-requires c κs = search needs
+type-number-requires : tie.Need-type-number-requires
+type-number-requires c κs = search needs
 
-later-requires : tie.Need-later-requires
-later-requires c κs = search needs
+cast-begin : tie.Need-cast-begin
+cast-begin c = search needs
+
+begin-requires : tie.Need-begin-requires
+begin-requires c κs = search needs
 
 save-requires : tie.Need-save-requires
 save-requires c κs = search needs
-
-heed-requires : tie.Need-heed-requires
-heed-requires c κs = search needs
 
 same-length : tie.Need-same-length
 same-length c = search needs
@@ -68,8 +68,8 @@ same-length-5 c = search needs
 returns-2 : tie.Need-returns-2
 unfolding resetFrame
 returns-2 c =
-    let p = rw (c .before .before .before .before .before .before .before .before .before .before .before .before .before .before .before .before .n .given .1, c .before .before .before .before .before .before .before .before .before .before .before .before .before .before .before .before .before .before .before .before .before .before .before .fields-to .ensures, c .before .before .before .before .before .before .before .before .before .before .before .before .before .before .before .before .before .before .before .before .before .before .before .before .before .load .ensures, c .before .before .before .before .before .before .before .before .before .before .before .before .before .before .before .before .before .before .before .before .before .before .before .before .before .before .before .less .ensures) at (c .before .before .before .before .before .before .before .before .before .before .before .before .before .before .before .before .before .before .before .before .put-frame .ensures) in
-    (p .0, (rw (c .before .before .heed .ensures, c .before .before .before .before .before .before .save .ensures, c .before .before .before .before .before .before .before .before .later .ensures, c .before .before .before .before .before .before .before .before .before .clock .ensures, c .before .before .before .before .before .before .before .before .before .before .before .before .before .before .before .before .before .before .before .before .before .before .before .before .before .load .ensures, c .before .before .before .before .before .before .before .before .before .before .before .before .before .before .before .before .before .before .before .before .before .before .before .before .before .before .before .less .ensures), (c .before .before .before .before .before .before .before .before .before .before .before .before .before .unlink .ensures, p .1)))
+    let p = rw (c .before .before .before .before .before .before .before .before .before .before .before .before .before .before .n .given .1, c .before .before .before .before .before .before .before .before .before .before .before .before .before .before .before .before .before .before .before .before .before .fields-to .ensures, c .before .before .before .before .before .before .before .before .before .before .before .before .before .before .before .before .before .before .before .before .before .before .before .load .ensures, c .before .before .before .before .before .before .before .before .before .before .before .before .before .before .before .before .before .before .before .before .before .before .before .before .before .less .ensures) at (c .before .before .before .before .before .before .before .before .before .before .before .before .before .before .before .before .before .before .put-frame .ensures) in
+    (p .0, (rw (c .before .before .save .ensures, c .before .before .before .before .before .before .before .before .before .before .before .before .before .before .before .before .before .before .before .before .before .before .before .load .ensures, c .before .before .before .before .before .before .before .before .before .before .before .before .before .before .before .before .before .before .before .before .before .before .before .before .before .less .ensures), (rw (c .before .before .before .before .before .before .begin .ensures, c .before .before .before .before .before .before .before .type-number .ensures, c .before .before .before .before .before .before .before .before .before .before .before .unlink .ensures, c .before .before .before .before .before .before .before .before .before .before .before .before .before .before .before .before .before .before .before .before .before .before .before .before .before .less .ensures), p .1)))
 
 pub put-reset-spec : {M : Type 1} → statement M
 put-reset-spec =
@@ -84,10 +84,10 @@ put-reset-spec =
     enum-known-w
     enum-known-n
     unlink-requires
-    clock-requires
-    later-requires
+    type-number-requires
+    cast-begin
+    begin-requires
     save-requires
-    heed-requires
     same-length
     same-length-2
     returns

@@ -38,6 +38,15 @@ enum-known-n c = search needs
 unlink-requires : tie.Need-unlink-requires
 unlink-requires c κs = search needs
 
+type-number-requires : tie.Need-type-number-requires
+type-number-requires c κs = search needs
+
+cast-begin : tie.Need-cast-begin
+cast-begin c = search needs
+
+begin-requires : tie.Need-begin-requires
+begin-requires c κs = search needs
+
 without-urgent-requires : tie.Need-without-urgent-requires
 without-urgent-requires c κs = search needs
 
@@ -68,8 +77,8 @@ same-length-5 c = search needs
 returns-2 : tie.Need-returns-2
 unfolding urgentFrame
 returns-2 c =
-    let p = rw (c .before .before .before .before .before .before .before .before .before .before .n .given .1, c .before .before .before .before .before .before .before .before .before .before .before .before .before .before .before .part .ensures, c .before .before .before .before .before .before .before .before .before .before .before .before .before .before .before .before .before .before .spot-of .ensures, c .before .before .before .before .before .before .before .before .before .before .before .before .before .before .before .before .before .before .before .fields-to .ensures, c .before .before .before .before .before .before .before .before .before .before .before .before .before .before .before .before .before .before .before .before .before .before .load .ensures, c .before .before .before .before .before .before .before .before .before .before .before .before .before .before .before .before .before .before .before .before .before .before .before .before .less .ensures) at (c .before .before .before .before .before .before .before .before .before .before .before .before .before .before .put-frame .ensures) in
-    (p .0, (rw (c .before .before .save .ensures, c .before .before .before .without-urgent .ensures, c .before .before .before .before .before .before .before .before .before .before .before .before .before .before .before .before .before .before .before .before .before .before .load .ensures, c .before .before .before .before .before .before .before .before .before .before .before .before .before .before .before .before .before .before .before .before .before .before .before .before .less .ensures), (c .before .before .before .before .before .before .before .unlink .ensures, p .1)))
+    let p = rw (c .before .before .before .before .before .before .before .before .before .before .before .before .before .before .before .n .given .1, c .before .before .before .before .before .before .before .before .before .before .before .before .before .before .before .before .before .before .before .before .part .ensures, c .before .before .before .before .before .before .before .before .before .before .before .before .before .before .before .before .before .before .before .before .before .before .before .spot-of .ensures, c .before .before .before .before .before .before .before .before .before .before .before .before .before .before .before .before .before .before .before .before .before .before .before .before .fields-to .ensures, c .before .before .before .before .before .before .before .before .before .before .before .before .before .before .before .before .before .before .before .before .before .before .before .before .before .before .before .load .ensures, c .before .before .before .before .before .before .before .before .before .before .before .before .before .before .before .before .before .before .before .before .before .before .before .before .before .before .before .before .before .less .ensures) at (c .before .before .before .before .before .before .before .before .before .before .before .before .before .before .before .before .before .before .before .put-frame .ensures) in
+    (p .0, (rw (c .before .before .save .ensures, c .before .before .before .without-urgent .ensures, c .before .before .before .before .before .before .before .before .before .before .before .before .before .before .before .before .before .before .before .before .before .before .before .before .before .before .before .load .ensures, c .before .before .before .before .before .before .before .before .before .before .before .before .before .before .before .before .before .before .before .before .before .before .before .before .before .before .before .before .before .less .ensures), (rw (c .before .before .before .before .before .before .before .begin .ensures, c .before .before .before .before .before .before .before .before .type-number .ensures, c .before .before .before .before .before .before .before .before .before .before .before .before .unlink .ensures, c .before .before .before .before .before .before .before .before .before .before .before .before .before .before .before .before .before .before .before .before .before .before .before .before .before .before .before .before .before .less .ensures), p .1)))
 
 pub put-urgent-spec : {M : Type 1} → statement M
 put-urgent-spec =
@@ -86,6 +95,9 @@ put-urgent-spec =
     enum-known-w
     enum-known-n
     unlink-requires
+    type-number-requires
+    cast-begin
+    begin-requires
     without-urgent-requires
     save-requires
     same-length

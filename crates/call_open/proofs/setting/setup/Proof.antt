@@ -32,6 +32,9 @@ put-entries-requires c κs = sym (c .before .before .before .before .before .bef
 empty-requires : tie.Need-empty-requires
 empty-requires c κs = search needs
 
+end-requires : tie.Need-end-requires
+end-requires c κs = search needs
+
 same-length : tie.Need-same-length
 same-length c = search needs
 
@@ -41,9 +44,9 @@ same-length-2 c = search needs
 returns-3 : tie.Need-returns-3
 unfolding setupAnswer setupAfter
 returns-3 c =
-    let n = c .before .before .before .before .before .before .before .before .before .before .before .before .before .before .before .before in (
-      rw (sym (c .before .before .before .before .before .before .before .before .before .before .before .before .before .before .before .before .before .before .before .is-good .ensures) ∙ not-false _ (c .before .before .before .before .before .before .before .before .before .before .before .before .before .before .before .before .before .before .if1 .left), le-ltb _ _ (rw (n .before .store-need .ensures) at (n .if2 .left))),
-      rw (c .before .before .empty .ensures, c .before .before .before .before .before .before .put-entries .ensures, c .before .before .before .before .before .before .before .before .before .before .put-head .ensures, c .before .before .before .before .before .before .before .before .before .before .before .before .before .before .clear .ensures),
+    let n = c .before .before .before .before .before .before .before .before .before .before .before .before .before .before .before .before .before .before .before .before in (
+      rw (sym (c .before .before .before .before .before .before .before .before .before .before .before .before .before .before .before .before .before .before .before .before .before .before .before .is-good .ensures) ∙ not-false _ (c .before .before .before .before .before .before .before .before .before .before .before .before .before .before .before .before .before .before .before .before .before .before .if1 .left), le-ltb _ _ (rw (n .before .store-need .ensures) at (n .if2 .left))),
+      rw (c .before .before .end .ensures, c .before .before .before .before .before .before .empty .ensures, c .before .before .before .before .before .before .before .before .before .before .put-entries .ensures, c .before .before .before .before .before .before .before .before .before .before .before .before .before .before .put-head .ensures, c .before .before .before .before .before .before .before .before .before .before .before .before .before .before .before .before .before .before .clear .ensures),
     )
 
 pub setup-spec : {M : Type 1} → statement M
@@ -58,6 +61,7 @@ setup-spec =
     put-head-requires
     put-entries-requires
     empty-requires
+    end-requires
     same-length
     same-length-2
     returns-3)
