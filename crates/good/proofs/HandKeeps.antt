@@ -8,7 +8,6 @@ use native.Mathlib.Omega.{arith}
 use lib.ListN.{length}
 use lib.Dec.{eqb, ltb}
 use borrow.Author.Tests.{eqb-true}
-use Rattle.units.specs.Refusals.{pick}
 use Rattle.units.specs.declared.refusals.Refusal.{Refusal}
 use Rattle.units.specs.declared.refusals.Refusal.the-variants as refusal
 use Rattle.memory.specs.Layout.{resets, urgents, resends, datas}

@@ -10,7 +10,7 @@ use native.Mathlib.Omega.{arith}
 use borrow.Author.Tests.{ne-eqb, lt-ltb, le-ltb}
 use Rattle.units.specs.declared.Seq.{Seq}
 use Rattle.memory.specs.Layout.{idsEnd, resetId, urgentId}
-use Rattle.window.specs.Windows.{movedOf, acceptOf, passOf, runOf, Good as GoodWindow}
+use Rattle.window.specs.Windows.{acceptOf, passOf, runOf, Good as GoodWindow}
 use Rattle.window.specs.declared.Window.{Window}
 use Rattle.window.proofs.Accepting.{accept-start, accept-size}
 use Rattle.window.proofs.Sizes.{size-pos, size-le, size-power}

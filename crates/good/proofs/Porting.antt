@@ -1,6 +1,6 @@
 -- A frame goes under way, or its end was reported: of what is under way only its own entry sees a difference. Assumes nothing.
 use Prim.Native.Nat.{ℕ, _+_, _*_, _/_, _%_, _≤_, _<_}
-use mathlib.Core.Path.{_≡_, refl, sym, ap, subst, _∙_}
+use mathlib.Core.Path.{_≡_, refl, sym, ap, _∙_}
 use mathlib.Core.Logic.{_≢_}
 use mathlib.Core.Bool.{Bool, true, false, not, _&&_}
 use mathlib.Core.List.{List}
@@ -10,11 +10,10 @@ use lib.ListN.{getD, set}
 use lib.Seq.{getD-set-same, getD-set-other}
 use lib.Dec.{eqb}
 use borrow.Author.Tests.{eq-eqb, ne-eqb}
-use Rattle.units.specs.Refusals.{pick}
-use Rattle.memory.specs.Layout.{bookHalves, cellsAt, underAt}
-use Rattle.waiting.specs.Port.{underIn, outWord, outEntry, outNumber, begun, ended, isOwn, isData, isReset, noNumber, dataOut}
+use Rattle.memory.specs.Layout.{cellsAt, underAt}
+use Rattle.waiting.specs.Port.{underIn, outWord, outEntry, outNumber, begun, ended, isOwn, isReset, noNumber, dataOut}
 use Rattle.good.specs.Good.{Lists, Lines}
-use Rattle.good.proofs.Framing.{SameUnder, Own, Within, within-port}
+use Rattle.good.proofs.Framing.{SameUnder, Within, within-port}
 
 -- ---- what entry j sees where the frame under way is none of its own
 

@@ -1,21 +1,21 @@
 -- The report of a frame's end keeps a good node good: of the entry whose frame it was a timer starts, or nothing does. Refused, it leaves
 -- everything. Assumes nothing.
-use Prim.Native.Nat.{ℕ, _+_, _/_, _%_, _≤_, _<_}
+use Prim.Native.Nat.{ℕ, _+_, _≤_, _<_}
 use mathlib.Core.Path.{_≡_, refl, sym, ap, subst, _∙_}
 use mathlib.Core.Logic.{_≢_}
 use mathlib.Core.Bool.{Bool, true, false, not, _&&_, true≢false}
-use mathlib.Core.List.{List, [], _∷_, List·Memᴰ}
+use mathlib.Core.List.{List}
 use native.Mathlib.Decide.{ℕ-discrete}
 use native.Mathlib.Omega.{arith}
-use lib.ListN.{length, getD, set}
+use lib.ListN.{length, set}
 use lib.Dec.{eqb, ltb}
-use borrow.Author.Tests.{eq-eqb, ne-eqb, eqb-true, eqb-false, ltb-true, lt-ltb, not-false}
+use borrow.Author.Tests.{eq-eqb, ne-eqb, eqb-true, eqb-false, ltb-true, lt-ltb}
 use Rattle.units.specs.Refusals.{pick}
-use Rattle.units.specs.declared.refusals.Verdict.the-variants.{Passed, Refused}
-use Rattle.memory.specs.Layout.{allCells, cellsAt, quietAt, nodeWords, resets, resetId, lengthAt, timerAt}
+use Rattle.units.specs.declared.refusals.Verdict.the-variants.{Passed}
+use Rattle.memory.specs.Layout.{quietAt, nodeWords, timerAt}
 use Rattle.waiting.specs.Acks.{waitingOf}
 use Rattle.waiting.specs.Order.{acksIn}
-use Rattle.waiting.specs.Port.{underIn, outEntry, outNumber, isOwn, isData, isReset, dataOut, ended}
+use Rattle.waiting.specs.Port.{underIn, outEntry, outNumber, isData, isReset, dataOut, ended}
 use Rattle.timing.specs.Timing.{clockIn, quietIn, later, heeded, roused}
 use Rattle.timing.proofs.Falling.{later-runs}
 use Rattle.window.specs.Windows.{offsetOf, held, Good as GoodWindow}
@@ -29,9 +29,9 @@ use Rattle.end_points.specs.declared.State.{State}
 use Rattle.end_points.specs.declared.State.the-variants.{Closed, Enabled, Open, Failing}
 use Rattle.end_points.specs.declared.EndPoint.{EndPoint}
 use Rattle.slots.specs.Slots.{cell, past, timerIn}
-use Rattle.call_report.specs.Reporting.{reportAnswer, reportAfter, dataStarts, resetStarts, startedNode, startedBook, started, timed}
+use Rattle.call_report.specs.Reporting.{reportAnswer, reportAfter, dataStarts, startedNode, startedBook}
 use Rattle.good.specs.Good.{Lists, Resends, Sending, running, Standing, OpenSender, FailingSender, EnabledSender, Stated, Entered, Outlasts, Outlast, Timely, Good}
-use Rattle.good.proofs.Known.{stated-as, entered-as}
+use Rattle.good.proofs.Known.{entered-as}
 use Rattle.good.proofs.Framing.{Within, within-same, within-then, Apart, apart-same, apart-then, apart-saved, same-entered, outlasts-fewer, entry-low}
 use Rattle.good.proofs.Porting.{within-ended, ended-under, none-idle, port-cells}
 use Rattle.good.proofs.Clocked.{Clocked, clocked-set, clocked-end, clocked-waiting, clocked-acks, heeded-apart, heeded-quiet, roused-apart, roused-quiet, starts}

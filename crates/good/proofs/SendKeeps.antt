@@ -13,8 +13,7 @@ use lib.Dec.{eqb, leb}
 use borrow.Author.Tests.{not-false, eqb-false, leb-false, ltb-false, le-leb}
 use Rattle.units.specs.Refusals.{pick}
 use Rattle.units.specs.declared.refusals.Refusal.the-variants as refusal
-use Rattle.units.specs.declared.refusals.Verdict.{Verdict}
-use Rattle.units.specs.declared.refusals.Verdict.the-variants.{Passed, Refused}
+use Rattle.units.specs.declared.refusals.Verdict.the-variants.{Passed}
 use Rattle.units.proofs.Judging.{clear}
 use Rattle.memory.specs.Layout.{allCells, cellsAt, idsEnd, underAt, datas, urgentId, lengthAt, timerAt, retriesAt}
 use Rattle.waiting.specs.Queues.{appended}

@@ -27,15 +27,12 @@ use Rattle.end_points.specs.Ends.{endOf}
 use Rattle.end_points.specs.Heads.{countIn, needIn}
 use Rattle.end_points.specs.States.{isClosed, isOpen}
 use Rattle.end_points.specs.Lent.{Lent}
-use Rattle.end_points.specs.Answers.{answerOf, arrivedOf, handedOf}
-use Rattle.end_points.specs.declared.EndPoint.{EndPoint}
-use Rattle.end_points.specs.declared.answers.Was.{Was}
+use Rattle.end_points.specs.Answers.{handedOf}
 use Rattle.end_points.specs.declared.answers.Arrived.{Arrived}
 use Rattle.end_points.specs.declared.answers.Arrived.the-variants as arrived
-use Rattle.end_points.specs.declared.answers.HandedOut.{HandedOut}
 use Rattle.end_points.specs.declared.answers.HandedOut.the-variants as handed
 use Rattle.call_send.specs.Sending.{senderTests, sendAnswer, sendAfter, urgentAnswer, urgentAfter}
-use Rattle.call_arrive.specs.Arriving.{entryTests, entryOf, entryVerdict, takenInAnswer, takenInAfter, answerAs, afterAs, blockRoom}
+use Rattle.call_arrive.specs.Arriving.{entryOf, entryVerdict, answerAs, afterAs, blockRoom}
 use Rattle.call_arrive.specs.Arriving.{entryAnswer, entryAfter, readAnswer, readAfter, frameTests, arrivalAnswer, arrivalAfter}
 use Rattle.call_hand_out.specs.Handing.{frameOut, nextOut, handOutAnswer, handOutAfter}
 use Rattle.machine.specs.Calls.{Call, opens, closes, counts, sends, urges, arrives, hands-out, reports, ticks}

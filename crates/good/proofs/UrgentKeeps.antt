@@ -12,8 +12,7 @@ use lib.Dec.{eqb, leb}
 use borrow.Author.Tests.{not-false, eqb-true, eqb-false, leb-false, ltb-false, le-leb, eq-eqb, ne-eqb}
 use Rattle.units.specs.Refusals.{pick}
 use Rattle.units.specs.declared.refusals.Refusal.the-variants as refusal
-use Rattle.units.specs.declared.refusals.Verdict.{Verdict}
-use Rattle.units.specs.declared.refusals.Verdict.the-variants.{Passed, Refused}
+use Rattle.units.specs.declared.refusals.Verdict.the-variants.{Passed}
 use Rattle.units.proofs.Judging.{clear}
 use Rattle.memory.specs.Layout.{cellsAt, urgents, urgentId, lengthAt, timerAt}
 use Rattle.waiting.specs.Queues.{appended}

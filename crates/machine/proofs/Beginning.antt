@@ -1,8 +1,8 @@
 -- Setup goes through exactly where the table is good and the store long enough, and what it leaves. Assumes nothing.
-use Prim.Native.Nat.{ℕ, _≤_}
+use Prim.Native.Nat.{_≤_}
 use mathlib.Core.Path.{_≡_, refl}
 use mathlib.Core.Bool.{Bool, true, false, not}
-use mathlib.Core.List.{List, [], _∷_}
+use mathlib.Core.List.{[], _∷_}
 use lib.Dec.{ltb}
 use borrow.Author.Tests.{le-ltb, ltb-false}
 use Rattle.units.specs.Refusals.{pick}
@@ -11,8 +11,8 @@ use Rattle.units.specs.declared.refusals.Verdict.the-variants.{Passed, Refused}
 use Rattle.table.specs.Layout.{countOf, entryOf}
 use Rattle.table.specs.Areas.{storeOf}
 use Rattle.table.specs.Rules.{goodTable}
-use Rattle.machine.specs.Machine.{Machine, first, begun, done, judged, setting}
-use Rattle.machine.specs.LawsCalls.{SetupGoes, Begins, SetupBegins}
+use Rattle.machine.specs.Machine.{first, begun, done, judged, setting}
+use Rattle.machine.specs.LawsCalls.{SetupGoes, SetupBegins}
 use Rattle.machine.proofs.Judged.{refused-not}
 use Rattle.machine.proofs.Listed.{length-listed, elem-listed}
 

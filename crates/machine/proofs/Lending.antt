@@ -5,7 +5,7 @@ use mathlib.Core.Path.{_≡_, refl, ap, _∙_}
 use mathlib.Core.Bool.{Bool, true, false, not, _&&_}
 use mathlib.Core.Option.{Option, none, some}
 use mathlib.Core.List.{List, [], _∷_}
-use lib.ListN.{length, set, getElem?}
+use lib.ListN.{length, getElem?}
 use lib.Dec.{eqb}
 use borrow.Author.Tests.{le-ltb}
 use Rattle.units.specs.Refusals.{pick, verdict}
@@ -24,7 +24,7 @@ use Rattle.end_points.specs.Answers.{answerOf}
 use Rattle.end_points.specs.States.{isSends}
 use Rattle.end_points.specs.declared.State.{State}
 use Rattle.end_points.specs.declared.State.the-variants.{Closed, Enabled, Open, Failing}
-use Rattle.machine.specs.Calls.{Call, opens, closes, counts, sends, urges, arrives, hands-out, reports, ticks}
+use Rattle.machine.specs.Calls.{opens, closes, counts, sends, urges, arrives, hands-out, reports, ticks}
 use Rattle.machine.specs.Machine.{Number, End, Item, Sort, acks, resets, urgents, resends, datas, Machine, Outcome}
 use Rattle.machine.specs.Machine.{port, lending, found, at, answers, judged, unless, onEntry, done, turned, waits, enabled}
 use Rattle.machine.specs.Machine.{numberAt, isNew, anySpent, isOurs}

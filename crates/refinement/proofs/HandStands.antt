@@ -31,9 +31,8 @@ use Rattle.frame.specs.Types.{typeNumber}
 use Rattle.frame.specs.declared.FrameType.{FrameType}
 use Rattle.frame.specs.declared.FrameType.the-variants as type
 use Rattle.end_points.specs.Ends.{endOf}
-use Rattle.end_points.specs.Heads.{countIn, needIn}
+use Rattle.end_points.specs.Heads.{needIn}
 use Rattle.end_points.specs.Runs.{urgentGone}
-use Rattle.end_points.specs.States.{isSends}
 use Rattle.end_points.specs.Lent.{Lent}
 use Rattle.end_points.specs.declared.State.{State}
 use Rattle.end_points.specs.declared.State.the-variants.{Enabled, Open}

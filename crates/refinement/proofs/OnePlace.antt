@@ -1,6 +1,6 @@
 -- Where a number is that was handed out and is not acknowledged, in every machine that a node stands for: it runs a
 -- timer, waits as a retransmission or is under way, and only one of the three. Assumes nothing.
-use Prim.Native.Nat.{ℕ, _+_, _/_, _≤_, _<_}
+use Prim.Native.Nat.{ℕ, _+_, _/_, _<_}
 use mathlib.Core.Path.{_≡_, refl, sym, ap, subst, _∙_}
 use mathlib.Core.Logic.{_≢_}
 use mathlib.Core.Bool.{Bool, true, false, true≢false}
@@ -8,7 +8,7 @@ use mathlib.Core.Option.{some}
 use mathlib.Core.List.{List, map, List·Memᴰ, Memᴰ·map, Memᴰ·of-map}
 use native.Mathlib.Decide.{decLt, ℕ-discrete}
 use native.Mathlib.Omega.{arith}
-use lib.ListN.{length, getElem?, List·getD-eq-default}
+use lib.ListN.{List·getD-eq-default}
 use lib.Dec.{eqb}
 use borrow.Author.Tests.{eqb-true, eqb-false, eq-eqb, ne-eqb, ltb-true}
 use Rattle.memory.specs.Layout as layout
@@ -18,7 +18,6 @@ use Rattle.window.specs.Windows.{offsetOf, held, Good as GoodWindow}
 use Rattle.window.specs.declared.Window.{Window}
 use Rattle.window.proofs.WindowLaw.{distance-back}
 use Rattle.table.specs.Layout.{countOf}
-use Rattle.table.specs.Areas.{storeOf}
 use Rattle.frame.specs.declared.FrameType.{FrameType}
 use Rattle.frame.specs.declared.FrameType.the-variants as type
 use Rattle.end_points.specs.Ends.{endOf}
@@ -35,12 +34,12 @@ use Rattle.good.specs.Calls.{Memory}
 use Rattle.good.proofs.Members.{mine-all, mine-in}
 use Rattle.machine.specs.Machine.{Number, End, Item, Machine, Out, listed, numberAt, resends}
 use Rattle.machine.specs.Sound.{the-first, the-second, the-third, InOnePlace, EachInOnePlace}
-use Rattle.refinement.specs.Standing.{Reading, readAt, numberFor, endFor, endAt, slotItem, waitingFor, typeFor, underFor, standsFor, StandsInOnePlace}
+use Rattle.refinement.specs.Standing.{Reading, readAt, numberFor, endFor, endAt, slotItem, waitingFor, typeFor, standsFor, StandsInOnePlace}
 use Rattle.machine.proofs.Listed.{length-listed, getD-listed}
 use Rattle.refinement.proofs.Elsewhere.{none-taken}
 use Rattle.refinement.proofs.Following.{stateIn, low-at, stated-at, item-at}
 use Rattle.refinement.proofs.Numbers.{timer-under, timer-else}
-use Rattle.refinement.proofs.ReportStands.{Kind, of-data, of-reset, of-ack, of-urgent, kind-of}
+use Rattle.refinement.proofs.ReportStands.{Kind, of-data, kind-of}
 use Rattle.refinement.proofs.Sounding.{elem-of, picked-not}
 
 -- ---- what is under way, read back

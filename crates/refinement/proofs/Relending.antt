@@ -2,7 +2,7 @@
 -- point has a payload. Assumes nothing.
 use Prim.Native.Nat.{ℕ, zero, suc, _+_, _≤_, _<_}
 use mathlib.Core.Path.{_≡_, refl, sym, ap, subst, _∙_}
-use mathlib.Core.Bool.{Bool, true, false, not, _&&_}
+use mathlib.Core.Bool.{Bool, true, false}
 use mathlib.Core.Option.{Option, none, some}
 use mathlib.Core.List.{List, [], _∷_, List·Memᴰ, List·Memᴰ·head, List·Memᴰ·tail}
 use native.Mathlib.Omega.{arith}
@@ -14,8 +14,8 @@ use Rattle.window.specs.Windows.{held}
 use Rattle.window.specs.declared.Window.{Window}
 use Rattle.window.proofs.Resetting.{new-held}
 use Rattle.window.proofs.Holding.{held-below}
-use Rattle.table.specs.Layout.{countOf, entryOf}
-use Rattle.table.specs.Areas.{storeOf, slotsOf}
+use Rattle.table.specs.Layout.{countOf}
+use Rattle.table.specs.Areas.{storeOf}
 use Rattle.end_points.specs.Ends.{endOf}
 use Rattle.end_points.specs.Heads.{countIn}
 use Rattle.end_points.specs.States.{isSends}
