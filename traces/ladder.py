@@ -19,7 +19,7 @@ MIDDLE = LEFT + GAP // 2
 REACH = 170
 BAR = 9  # how far the bar of a frame goes down whose end is reported at once
 COLOURS = {"Data": "#1f5fa8", "Acknowledge": "#6b7280", "Reset": "#8a4b08", "Urgent": "#a3147f", "": "#444444"}
-INK, QUIET, REFUSED, DELIVERED = "#222222", "#8a8f98", "#b3261e", "#1b7a2f"
+INK, QUIET, BAND, REFUSED, DELIVERED = "#222222", "#8a8f98", "#f1f3f5", "#b3261e", "#1b7a2f"
 BOLD, HALO, SMALL, DASHES = ' font-weight="bold"', ' class="frame"', ' class="start"', ' stroke-dasharray="6 3"'
 
 # 1. ROWS: several ticks in a row are one, and so are a handing out and a report that follows at once
@@ -170,12 +170,16 @@ class Picture:
             yield text(x, y + 4, words, INK, anchor, SMALL)
         yield '<circle cx="%d" cy="%.0f" r="2" fill="%s"/>' % (self.x(here), y, INK)
 
-    def ticks(self, row: Row, y: float) -> Iterator[str]:
+    @staticmethod
+    def band(y: float) -> str:
+        place = (LEFT, y - ROW / 2 + 1, GAP, ROW - 2, BAND)
+        return '<rect x="%d" y="%.0f" width="%d" height="%d" fill="%s"/>' % place
+
+    def ticks(self, row: Row, y: float) -> str:
         counts = row.ticks[:len(self.sides)]
         same = len(set(counts)) == 1
         words = "%d tick%s" % (counts[0], "" if counts[0] == 1 else "s") if same else "ticks: %d, %d" % tuple(counts)
-        yield '<rect x="%d" y="%.0f" width="%d" height="%d" fill="#f1f3f5"/>' % (LEFT, y - ROW / 2 + 1, GAP, ROW - 2)
-        yield text(MIDDLE, y + 4, words, QUIET, "middle")
+        return text(MIDDLE, y + 4, words, QUIET, "middle", ' class="ticks"')
 
     # the whole
 
@@ -212,17 +216,19 @@ class Picture:
     def svg(self) -> str:
         size = 'width="%d" height="%d"' % (self.wide, self.high)
         out = ['<svg xmlns="http://www.w3.org/2000/svg" %s font-family="sans-serif" font-size="12">' % size,
-               "<style>.frame{paint-order:stroke;stroke:white;stroke-width:3px}.start{font-size:11px}</style>",
+               "<style>.frame{paint-order:stroke;stroke:white;stroke-width:3px}.start{font-size:11px}",
+               ".ticks{paint-order:stroke;stroke:%s;stroke-width:5px}</style>" % BAND,
                "<defs>"]
         out += [marker(colour) for colour in sorted({*COLOURS.values(), REFUSED})]
         out += ["</defs>", '<rect width="100%" height="100%" fill="white"/>', *self.names_over(), *self.legend()]
         placed = [(row, self.top + ROW * k) for k, row in enumerate(self.rows)]
-        for row, y in placed:  # ticks first, so that no arrow ends behind them
-            out += self.ticks(row, y) if any(row.ticks) else ()
+        passing = [(row, y) for row, y in placed if any(row.ticks)]
+        out += [self.band(y) for _, y in passing]  # first, so that no arrow ends behind them
         out += [*self.lifelines(), *self.under_way()]
         for row, y in placed:
             for event in row.events:
                 out += self.event(event, y) if event.words or not (event.ticks or event.at_once) else ()
+        out += [self.ticks(row, y) for row, y in passing]  # last, so that no arrow strikes them out
         return "\n".join(filter(None, [*out, *self.cuts(), "</svg>"])) + "\n"
 
 
