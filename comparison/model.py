@@ -314,8 +314,8 @@ What = Any
 
 
 class UnderWay(NamedTuple):
-    """The frame that was handed out last, until the port reports its end (02, K3): what it was while it waited, whose it
-    is, and its owner's run at handing out."""
+    """The frame that was handed out last, until the port reports its end (02, K3): what it was while it waited, whose
+    it is, and its owner's run at handing out."""
     sort: int
     owner: int
     what: What

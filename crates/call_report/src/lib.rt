@@ -16,6 +16,7 @@ use waiting::port;
 use window::distance;
 ghost use mathlib.Core.Path.{_≡_};
 ghost use lib.ListN.{set};
+ghost use Rattle.units.specs.Refusals.{pick};
 ghost use Rattle.memory.specs.Layout.{timerAt};
 ghost use Rattle.timing.specs.Timing.{clockIn, later};
 ghost use Rattle.waiting.specs.Port.{outNumber};
@@ -36,29 +37,45 @@ fn run_of(node: &[u64], i: u8) -> Run
     )
 }
 
-// Whether the timer of Data starts at its end: its number is still handed out, and its timer stands.
-fn data_starts(book: &[u16], i: u8, r: Run, u: u16) -> bool
-    ensures { λ z. ⌜ z ≡ dataStarts (now (book .entry)) i r u ⌝ }
+// Whether the timer of Data starts, and in which cell: 0 where it does not.
+struct Starting {
+    starts: bool,
+    cell: u16,
+}
+
+// The timer of Data starts at its end where its number is still handed out and its timer stands.
+fn data_start(book: &[u16], i: u8, r: Run, u: u16) -> Starting
+    ensures { λ z. ⌜ z .starts ≡ dataStarts (now (book .entry)) i r u ⌝ }
+    ensures { λ z. ⌜ z .cell ≡ pick (z .starts) (cell i (r .window) (outNumber u)) 0 ⌝ }
 {
+    let nothing = Starting {
+        starts: false,
+        cell: 0,
+    };
     if !port::is_data(u, i) {
-        return false;
+        return nothing;
     }
     let window = r.window;
     let s = port::number(u);
     if r.handed <= distance(window.start, s) {
-        return false;
+        return nothing;
     }
-    cells::timer(book, cell_of(i, window, s)) != 0
+    let g = cell_of(i, window, s);
+    if cells::timer(book, g) == 0 {
+        return nothing;
+    }
+    Starting {
+        starts: true,
+        cell: g,
+    }
 }
 
-// The timer of entry i's number starts at T, which is answered.
-fn start_data(node: &[u64], book: &mut [u16], i: u8, r: Run, u: u16) -> u16
+// The timer in cell g of entry i starts at T, which is answered.
+fn start_data(node: &[u64], book: &mut [u16], i: u8, g: u16) -> u16
     ensures { λ t. ⌜ t ≡ endOf (now (node .entry)) i .entry .timeout ⌝ }
-    ensures { λ t. ⌜ now (book .exit) ≡ set (now (book .entry)) (timerAt (cell i (r .window) (outNumber u)))
-        (later (clockIn (now (node .entry))) t) ⌝ }
+    ensures { λ t. ⌜ now (book .exit) ≡ set (now (book .entry)) (timerAt g) (later (clockIn (now (node .entry))) t) ⌝ }
 {
     let timeout = load_entry(node, i as usize).timeout;
-    let g = cell_of(i, r.window, port::number(u));
     cells::put_timer(book, g, timing::later(timing::clock(node), timeout));
     timeout
 }
@@ -89,10 +106,11 @@ fn at_open(node: &mut [u64], book: &mut [u16], i: u8, u: u16)
         (endOf (now (node .entry)) i) state.Open u ⌝ }
 {
     let run = run_of(node, i);
-    if !data_starts(book, i, run, u) {
+    let data = data_start(book, i, run, u);
+    if !data.starts {
         return;
     }
-    let timeout = start_data(node, book, i, run, u);
+    let timeout = start_data(node, book, i, data.cell);
     timing::heed(node, timeout)
 }
 
@@ -104,11 +122,12 @@ fn at_failing(node: &mut [u64], book: &mut [u16], i: u8, n: u16, u: u16)
         (endOf (now (node .entry)) i) (state.Failing n) u ⌝ }
 {
     let run = run_of(node, i);
-    if !data_starts(book, i, run, u) {
+    let data = data_start(book, i, run, u);
+    if !data.starts {
         timing::rouse(node);
         return;
     }
-    start_data(node, book, i, run, u);
+    start_data(node, book, i, data.cell);
     timing::rouse(node)
 }
 

@@ -1,7 +1,7 @@
 -- `call_hand_out::hand_out` meets its contract. Assumes nothing.
 use Rattle.call_hand_out.proofs.Outcomes.{nothing, once-same, outcome}
 use Rattle.call_hand_out.specs.Handing.{frameOut, outNode, outBook, handOutAnswer, handOutAfter}
-use borrow.Author.Tests.{eq-eqb, ne-eqb, lt-ltb, le-ltb}
+use borrow.Author.Tests.{ne-eqb, lt-ltb, le-ltb}
 use denote.Ref.{now}
 use mathlib.Core.Path.{refl, sym, _∙_}
 use borrow.Author.Needs.{needs}

@@ -1,6 +1,6 @@
 -- `call_report::report` meets its contract. Assumes nothing.
 use Rattle.call_report.specs.Reporting.{reportAnswer, reportAfter}
-use mathlib.Core.Path.{refl, sym, _∙_}
+use mathlib.Core.Path.{refl}
 use borrow.Author.Tests.{eq-eqb, ne-eqb}
 use borrow.Author.Needs.{needs}
 use Rattle.call_report.proofs.report.Statement.{statement}

@@ -1,5 +1,4 @@
 -- `call_report::start_data` meets its contract. Assumes nothing.
-use mathlib.Core.Path.{refl}
 use Rattle.end_points.specs.Ends.{endOf}
 use borrow.Author.Needs.{needs}
 use Rattle.call_report.proofs.start_data.Statement.{statement}
@@ -7,12 +6,6 @@ use Rattle.call_report.proofs.start_data.Tie as tie
 
 load-entry-requires : tie.Need-load-entry-requires
 load-entry-requires c κs = search needs
-
-number-requires : tie.Need-number-requires
-number-requires c κs = search needs
-
-cell-of-requires : tie.Need-cell-of-requires
-cell-of-requires c κs = search needs
 
 clock-requires : tie.Need-clock-requires
 clock-requires c κs = search needs
@@ -28,15 +21,13 @@ same-length c = search needs
 
 returns : tie.Need-returns
 unfolding endOf
-returns c = (rw (c .before .before .before .before .before .before .before .before .load-entry .ensures), rw (c .before .before .put-timer .ensures, c .before .before .before .before .before .before .cell-of .ensures, c .before .before .before .before .before .before .before .number .ensures, c .before .before .before .later .ensures, c .before .before .before .before .clock .ensures))
+returns c = (rw (c .before .before .before .before .before .before .load-entry .ensures), rw (c .before .before .put-timer .ensures, c .before .before .before .later .ensures, c .before .before .before .before .clock .ensures))
 
 pub start-data-spec : {M : Type 1} → statement M
 start-data-spec =
     tie.close
     (tie.spec
     load-entry-requires
-    number-requires
-    cell-of-requires
     clock-requires
     later-requires
     put-timer-requires
