@@ -2,7 +2,7 @@
 use Prim.Native.Nat.{ℕ, _+_, _*_, _/_, _%_, _≤_, _<_}
 use mathlib.Core.Path.{_≡_, refl, sym, ap, _∙_}
 use mathlib.Core.Logic.{_≢_}
-use mathlib.Core.Bool.{Bool, true, false, not, _&&_}
+use mathlib.Core.Bool.{true, false, not, and-false}
 use mathlib.Core.List.{List}
 use native.Mathlib.Nat.{mod-eq-of-lt}
 use native.Mathlib.Omega.{arith}
@@ -35,16 +35,12 @@ none-idle b j e =
       own = rw (eq-eqb (underIn b) 0 e);
     }
 
-and-false : (a b : Bool) → b ≡ false → (a && b) ≡ false
-and-false true b h = h
-and-false false b h = refl
-
 pub other-idle : (b : List ℕ) (i j : ℕ) → j < 16 → j ≢ i → outEntry (underIn b) ≡ i → Idle b j
 other-idle b i j low d e =
     record {
       data! = rw (ne-eqb (underIn b / 256) (16 + j) (λ h. d (omega (arith, e, h))));
       reset = ne-eqb (underIn b / 256) (48 + j) (λ h. d (omega (arith, e, h)));
-      own = and-false (not (eqb (underIn b) 0)) (eqb (outEntry (underIn b)) j) (ne-eqb (outEntry (underIn b)) j (λ h. d (sym h ∙ e)));
+      own = rw (ne-eqb (outEntry (underIn b)) j (λ h. d (sym h ∙ e))) (and-false (not (eqb (underIn b) 0)));
     }
 
 -- ---- a frame of entry i goes under way
@@ -72,9 +68,6 @@ module _ (b : List ℕ) (l : Lists) (L : Lines b l) (t i s : ℕ) (low : i < 16)
   within-begun none =
       within-port i b l L (outWord t i s) (λ j h d. both-idle j b (begun b t i s) (none-idle b j none) (other-idle (begun b t i s) i j h d begun-entry))
       (λ z. record { entry = word-entry t i s low byte; least = omega arith; most = omega arith })
-
-  pub begun-own : isOwn (begun b t i s) i ≡ true
-  begun-own = rw (begun-under, ne-eqb (outWord t i s) 0 (λ e. omega arith)) (eq-eqb (outEntry (outWord t i s)) i (word-entry t i s low byte))
 
   -- Data, of number s; a Reset; and no other type is the one or the other
   pub begun-data : t ≡ 0 → dataOut (begun b t i s) i ≡ s

@@ -3,13 +3,13 @@
 use Prim.Native.Nat.{ℕ, _+_, _≤_, _<_}
 use mathlib.Core.Path.{_≡_, refl, sym, ap, subst, _∙_}
 use mathlib.Core.Logic.{_≢_}
-use mathlib.Core.Bool.{Bool, true, false, not, _&&_, true≢false}
+use mathlib.Core.Bool.{Bool, true, false, _&&_, true≢false, and-false}
 use mathlib.Core.List.{List}
 use native.Mathlib.Decide.{ℕ-discrete}
 use native.Mathlib.Omega.{arith}
 use lib.ListN.{length, set}
 use lib.Dec.{eqb, ltb}
-use borrow.Author.Tests.{eq-eqb, ne-eqb, eqb-true, eqb-false, ltb-true, lt-ltb}
+use borrow.Author.Tests.{not-true, eq-eqb, ne-eqb, eqb-true, eqb-false, ltb-true, lt-ltb}
 use Rattle.units.specs.Refusals.{pick}
 use Rattle.units.specs.declared.refusals.Verdict.the-variants.{Passed}
 use Rattle.memory.specs.Layout.{quietAt, nodeWords, timerAt}
@@ -21,6 +21,7 @@ use Rattle.timing.proofs.Falling.{later-runs}
 use Rattle.window.specs.Windows.{offsetOf, held, Good as GoodWindow}
 use Rattle.window.specs.declared.Window.{Window}
 use Rattle.window.proofs.WindowLaw.{distance-back}
+use Rattle.table.proofs.Every.{both}
 use Rattle.end_points.specs.Ends.{endOf, saved}
 use Rattle.end_points.specs.Heads.{countIn}
 use Rattle.end_points.specs.States.{isSends}
@@ -42,10 +43,6 @@ use Rattle.good.proofs.HandRuns.{timed-sending, timed-resends}
 
 -- ---- when Data's timer starts
 
-both : (a b : Bool) → (a && b) ≡ true → (a ≡ true) × (b ≡ true)
-both true b h = (refl, h)
-both false b h = absurd (true≢false (sym h))
-
 -- of what is under way: it is entry i's Data, its number is handed out, and its timer stands
 pub record DataStarts (b : List ℕ) (i : ℕ) (e : EndPoint) (u : ℕ) : Type 0 where
   pub data! : isData u i ≡ true
@@ -62,10 +59,6 @@ data-starts b i e u h =
       handed = ltb-true (offsetOf w (outNumber u)) (e .run .handed) (q .0);
       stands = eqb-false (timerIn b (cell i w (outNumber u))) 0 (not-true (eqb (timerIn b (cell i w (outNumber u))) 0) (q .1));
     }
-  where
-    not-true : (z : Bool) → not z ≡ true → z ≡ false
-    not-true true h = absurd (true≢false (sym h))
-    not-true false h = refl
 
 -- ---- the call
 
@@ -422,10 +415,6 @@ module _ (t : List ℕ) (x : Lent) (l : Lists) (G : Good t (x .node) (x .book) l
       sides true false r q h = enabled-idle d false q (λ z. h .unsent refl)
       sides false z r q h = enabled-idle d z q (λ y. absurd (true≢false (sym y ∙ r)))
   by-state false ke (Enabled d sent) q h = rw (h .2, and-false (isReset u i)) (enabled-idle d sent q (λ z. h .1))
-    where
-      and-false : (z : Bool) → (z && false) ≡ false
-      and-false true = refl
-      and-false false = refl
   by-state true ke Open q h = sides (dataStarts (x .book) i (e .run) u) refl
     where
       sides : (z : Bool) → dataStarts (x .book) i (e .run) u ≡ z

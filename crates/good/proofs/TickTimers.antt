@@ -206,10 +206,6 @@ module _ (i : ℕ) (low : i < 16) (e : EndPoint) (g : GoodWindow (e .run .window
     timer-stays : (j : ℕ) → j < e .run .handed → past (e .run .window) j ≢ dataOut b i → timerIn (ticked now i e f b m .book) (at j) ≡ pick (eqb (timerIn b (at j)) now) 0 (timerIn b (at j))
     timer-stays j h d = timers-stay j h ∙ rw (ne-eqb (past (e .run .window) j) (dataOut b i) d)
 
-    -- and that one stands
-    pub timer-stands : (j : ℕ) → j < e .run .handed → past (e .run .window) j ≡ dataOut b i → timerIn (ticked now i e f b m .book) (at j) ≡ timerIn b (at j)
-    timer-stands j h d = timers-stay j h ∙ rw (eq-eqb (past (e .run .window) j) (dataOut b i) d)
-
     -- so a timer that outlasts some ticks does so afterwards
     pub still-outlasts : (c q j : ℕ) → j < e .run .handed → past (e .run .window) j ≢ dataOut b i → Outlasts c q (timerIn b (at j)) → Outlasts c q (timerIn (ticked now i e f b m .book) (at j))
     still-outlasts c q j h d o = subst (Outlasts c q) (sym (timer-stays j h d)) (sides (eqb (timerIn b (at j)) now))

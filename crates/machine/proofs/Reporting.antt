@@ -54,7 +54,7 @@ report-ends m = sides (m .under) refl
 
 module _ (q : FrameType) (m : Machine) {i s : ℕ} {e : End} (under : m .under ≡ some (q, item i s))
     (here : Is m i e) where
-  ended-is : Is (after m reports) i (ended q e s)
+  pub ended-is : Is (after m reports) i (ended q e s)
   unfolding step reporting reported
   ended-is = rw (under, here) (elem-set-same (m .ends) i (ended q e s) (elem-lt (m .ends) i here))
 

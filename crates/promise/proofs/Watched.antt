@@ -23,13 +23,13 @@ use Rattle.end_points.specs.declared.State.the-variants.{Closed, Enabled}
 use Rattle.machine.specs.Calls.{Call, opens, closes, counts, sends, urges, arrives, hands-out, reports, Answer}
 use Rattle.machine.specs.Machine.{End, acks, resets, urgents, datas, Out, Machine, Outcome, turned, urging, anew, enabled, silent, waits, past, done, unless, onEntry, sendTests, taking, opening, closing, sending, urgentSending, ended, reported, reporting, isOf, step}
 use Rattle.machine.specs.Sound.{Sound}
-use Rattle.machine.specs.Laws.{On, Untouched, OthersStay}
+use Rattle.machine.specs.Laws.{item, On, Untouched, OthersStay}
 use Rattle.machine.specs.LawsCalls.{CountsTell}
 use Rattle.machine.specs.LawsReporting.{ReportEnds}
 use Rattle.machine.proofs.Entries.{elem-lt, elem-set-same}
 use Rattle.machine.proofs.Judged.{by-verdict}
 use Rattle.machine.proofs.Hosting.{openTests, closeTests, urgentTests, counts-tell}
-use Rattle.machine.proofs.Reporting.{report-ends}
+use Rattle.machine.proofs.Reporting.{ended-is, report-ends}
 use Rattle.machine.proofs.Apart.{others-stay}
 use Rattle.promise.specs.Seen.{isDone, frameIn}
 use Rattle.promise.specs.Link.{owedTo}
@@ -209,9 +209,7 @@ module _ (K : Watch) (t : List ℕ) (m : Machine) (S : Sound t m) (i : ℕ) (e :
 
       here : (f : Out) → m .under ≡ some f → f .1 .entry ≡ i
           → getElem? (step m reports .machine .ends) i ≡ some (ended (f .0) e (f .1 .number))
-      here f under c =
-          rw (under, c, there)
-          (elem-set-same (m .ends) i (ended (f .0) e (f .1 .number)) (elem-lt (m .ends) i there))
+      here f under c = ended-is (f .0) m (under ∙ ap (λ (j : ℕ). some (f .0, item j (f .1 .number))) c) there
 
       waits : owed i (step m reports .machine) ≡ owed i m
       waits = ap (owedTo i) (report-ends m .waiting acks)

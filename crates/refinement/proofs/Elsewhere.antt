@@ -32,7 +32,7 @@ use Rattle.good.specs.Good.{Lists, Stated, Good}
 use Rattle.good.specs.Calls.{Memory}
 use Rattle.good.proofs.Turns.{Kept}
 use Rattle.good.proofs.Known.{stated-as}
-use Rattle.good.proofs.Framing.{same-under, Within, Apart, entry-low, timer-owner, retries-owner}
+use Rattle.good.proofs.Framing.{Within, Apart, entry-low, timer-owner, retries-owner}
 use Rattle.good.proofs.Stores.{urgent-low, areas-stay, read-own, slot-room}
 use Rattle.good.proofs.Payloads.{s-filled, r-filled, Stored, unaltered, put, stored-long, payload-stays}
 use Rattle.machine.specs.Machine.{End, Item, Sort, Out, number, stated, node, port, listed, turned}
@@ -147,11 +147,6 @@ unfolding endFor
 cells-as L st b b′ i e c u r =
     cells-but L st b b′ i e c u
     ∙ ap (λ (z : Bool). stated (stateFor L z (listed (e .run .taken) (numberFor L st b i e)) (e .state)) (endFor L st b i e)) r
-
--- where only links alter
-pub cells-same : (L : Reading) (st b b′ : List ℕ) (i : ℕ) (e : EndPoint) → ((k : ℕ) → cellsAt ≤ k → getD b′ k 0 ≡ getD b k 0)
-    → underIn b′ ≡ underIn b → endFor L st b′ i e ≡ endFor L st b i e
-cells-same L st b b′ i e c u = cells-as L st b b′ i e c (same-under i b b′ u .data!) (same-under i b b′ u .reset)
 
 -- a sender has no places
 pub no-places : (st b : List ℕ) (i : ℕ) (e : EndPoint) → isSends (e .entry .kind) ≡ true

@@ -2,7 +2,7 @@
 use Prim.Native.Nat.{ℕ, _+_, _/_, _≤_, _<_}
 use mathlib.Core.Path.{_≡_, refl, sym, ap, subst, _∙_}
 use mathlib.Core.Logic.{_≢_, _⊎_, inl, inr}
-use mathlib.Core.Bool.{Bool, true, false, not, _&&_, true≢false}
+use mathlib.Core.Bool.{Bool, true, false, not, _&&_, true≢false, and-false}
 use mathlib.Core.Option.{none}
 use mathlib.Core.List.{List, [], _∷_}
 use native.Mathlib.Decide.{decLt, ℕ-discrete}
@@ -413,10 +413,6 @@ module _ (t : List ℕ) (n : Memory) (l : Lists) (g : Good t (n .node) (n .book)
   enabled-ends false ke d sent q A =
       rw (A .2, and-false (isReset u i))
       (nothing-starts (Enabled d sent) q (none-handed (A .0 .fresh .handed)) (λ z. A .1) (λ z. none-counts (A .0 .fresh .taken)) (λ z. A .2))
-    where
-      and-false : (z : Bool) → (z && false) ≡ false
-      and-false true = refl
-      and-false false = refl
 
   open-ends : (k : Bool) → isSends (e .entry .kind) ≡ k → e .state ≡ Open → Stated (n .book) l i e k Open → ends-as Open
   unfolding startedNode startedBook
