@@ -1,7 +1,7 @@
 -- What holds of every node that setup and calls can give: the table's rules, windows and counts within bounds, what
 -- waits agrees with the end points, and no timer runs out before the tick that looks for it. Cited by what is proved of
 -- such nodes. Assumes nothing.
-use Prim.Native.Nat.{ℕ, zero, suc, _+_, _-_, _/_, _≤_, _<_}
+use Prim.Native.Nat.{ℕ, zero, suc, _+_, _*_, _-_, _/_, _≤_, _<_}
 use mathlib.Core.Path.{_≡_}
 use mathlib.Core.Logic.{_≢_}
 use mathlib.Core.Bool.{Bool, true, false}
@@ -13,7 +13,7 @@ use Rattle.memory.specs.Layout.{nodeWords, bookHalves, resets, urgents, resends
 use Rattle.memory.specs.Layout.{cellId, ownerOf, Ranged, ackPlaces}
 use Rattle.waiting.specs.Acks.{waitingOf}
 use Rattle.waiting.specs.Order.{Queue, acksIn}
-use Rattle.waiting.specs.Port.{underIn, outEntry, isOwn, isReset, dataOut}
+use Rattle.waiting.specs.Port.{underIn, perType, types, outEntry, isOwn, isReset, dataOut}
 use Rattle.window.specs.Windows.{newOf, held, Good as GoodWindow}
 use Rattle.window.specs.declared.Window.{Window}
 use Rattle.table.specs.Layout.{countOf, ownOf, protocolOf, entryOf}
@@ -208,11 +208,11 @@ pub record Owed (ws : List ℕ) (w : ℕ) : Type 0 where
   pub receives : isSends (endOf ws (w / 256) .entry .kind) ≡ false
   pub opened : endOf ws (w / 256) .state ≡ Open
 
--- what is under way is a frame of one of the four types, of an entry that there is [H8]
+-- what is under way is a frame of one of the types, which count from 1, and of an entry that there is [H8]
 pub record UnderWay (count u : ℕ) : Type 0 where
   pub known : outEntry u < count
-  pub least : 4096 ≤ u
-  pub most : u < 20480
+  pub least : perType ≤ u
+  pub most : u < (types + 1) * perType
 
 -- the whole: node and book, set up from a table, with what waits as lists [T17, I2]
 pub record Good (t ws b : List ℕ) (l : Lists) : Type 0 where

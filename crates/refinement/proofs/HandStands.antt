@@ -16,7 +16,7 @@ use Rattle.units.specs.declared.refusals.Refusal.the-variants.{TooShort, UnderW
 use Rattle.units.specs.declared.refusals.Verdict.the-variants.{Refused}
 use Rattle.memory.specs.Layout.{allCells, cellsAt, resetId, resetEntry, urgentEntry, lengthAt, timerAt, retriesAt}
 use Rattle.waiting.specs.Acks.{waitingOf, ackOf}
-use Rattle.waiting.specs.Port.{underIn, outWord, outEntry, outNumber, noNumber, dataOut}
+use Rattle.waiting.specs.Port.{underIn, perType, outWord, outEntry, outNumber, noNumber, dataOut}
 use Rattle.waiting.specs.Queues.{nextOf, unlinked}
 use Rattle.waiting.specs.declared.acks.Ack.{Ack}
 use Rattle.waiting.specs.Order.{from, acksIn}
@@ -114,28 +114,10 @@ word-for q i s low byte = parts q (word-entry (typeNumber q) i s low byte) (word
   where
     parts : (q : FrameType) → outEntry (outWord (typeNumber q) i s) ≡ i → outNumber (outWord (typeNumber q) i s) ≡ s
         → underFor (outWord (typeNumber q) i s) ≡ some (q, record { entry = i; number = s })
-    parts type.Data e m =
-        rw (ne-eqb (outWord 0 i s) 0 (λ z. omega arith), eq-eqb (outWord 0 i s / 4096) 1 (omega arith), e, m)
-    parts type.Acknowledge e m =
-        rw (ne-eqb (outWord 1 i s) 0 (λ z. omega arith), ne-eqb (outWord 1 i s / 4096) 1 (λ z. omega arith), eq-eqb (outWord 1 i s / 4096) 2 (omega arith), e, m)
-    parts type.Reset e m =
-        rw (
-          ne-eqb (outWord 2 i s) 0 (λ z. omega arith),
-          ne-eqb (outWord 2 i s / 4096) 1 (λ z. omega arith),
-          ne-eqb (outWord 2 i s / 4096) 2 (λ z. omega arith),
-          eq-eqb (outWord 2 i s / 4096) 3 (omega arith),
-          e,
-          m,
-        )
-    parts type.Urgent e m =
-        rw (
-          ne-eqb (outWord 3 i s) 0 (λ z. omega arith),
-          ne-eqb (outWord 3 i s / 4096) 1 (λ z. omega arith),
-          ne-eqb (outWord 3 i s / 4096) 2 (λ z. omega arith),
-          ne-eqb (outWord 3 i s / 4096) 3 (λ z. omega arith),
-          e,
-          m,
-        )
+    parts type.Data e m = let h : outWord 0 i s / perType ≡ 1 = omega arith in rw (ne-eqb (outWord 0 i s) 0 (λ z. omega arith), h, e, m)
+    parts type.Acknowledge e m = let h : outWord 1 i s / perType ≡ 2 = omega arith in rw (ne-eqb (outWord 1 i s) 0 (λ z. omega arith), h, e, m)
+    parts type.Reset e m = let h : outWord 2 i s / perType ≡ 3 = omega arith in rw (ne-eqb (outWord 2 i s) 0 (λ z. omega arith), h, e, m)
+    parts type.Urgent e m = let h : outWord 3 i s / perType ≡ 4 = omega arith in rw (ne-eqb (outWord 3 i s) 0 (λ z. omega arith), h, e, m)
 
 module _ (t : List ℕ) (n : Memory) (l : Lists) (g : Good t (n .node) (n .book) l) (room : storeOf t ≤ length (n .store))
     (free : underIn (n .book) ≡ 0) where

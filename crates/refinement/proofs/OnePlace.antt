@@ -13,7 +13,7 @@ use lib.Dec.{eqb}
 use borrow.Author.Tests.{eqb-true, eqb-false, eq-eqb, ne-eqb, ltb-true}
 use Rattle.memory.specs.Layout as layout
 use Rattle.memory.specs.Layout.{ownerOf}
-use Rattle.waiting.specs.Port.{underIn, outEntry, outNumber, isData, noNumber, dataOut}
+use Rattle.waiting.specs.Port.{underIn, perType, outEntry, outNumber, isData, noNumber, dataOut}
 use Rattle.window.specs.Windows.{offsetOf, held, Good as GoodWindow}
 use Rattle.window.specs.declared.Window.{Window}
 use Rattle.window.proofs.WindowLaw.{distance-back}
@@ -164,7 +164,7 @@ module _ (t : List ℕ) (n : Memory) (l : Lists) (g : Good t (n .node) (n .book)
               let h : underIn (n .book) / 256 ≡ 16 + i = eqb-true (underIn (n .book) / 256) (16 + i) d in
               let v : outNumber (underIn (n .book)) ≡ s = sym (rw d) ∙ sym o ∙ number-here in
               let y : outEntry (underIn (n .book)) ≡ i = omega (arith, h, low) in
-              rw (ne-eqb (underIn (n .book)) 0 (λ z. omega (arith, h, z)), eq-eqb (underIn (n .book) / 4096) 1 (omega (arith, h, low)), v, y)
+              rw (ne-eqb (underIn (n .book)) 0 (λ z. omega (arith, h, z)), let one : underIn (n .book) / perType ≡ 1 = omega (arith, h, low) in one, v, y)
           sides false d = absurd (let z : past w k ≡ noNumber = o ∙ rw d in omega (arith, z))
 
       under-not : past w k ≢ dataOut (n .book) i → M .under ≡ some (type.Data, item) → ⊥

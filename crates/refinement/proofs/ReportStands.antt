@@ -80,13 +80,14 @@ kind-of u least most = sides (ℕ-discrete (u / 4096) 1) (ℕ-discrete (u / 4096
 
     sides : Dec (u / 4096 ≡ 1) → Dec (u / 4096 ≡ 2) → Dec (u / 4096 ≡ 3) → Kind u i (typeFor u)
     sides (yes a) b c =
-        rw (eq-eqb (u / 4096) 1 a) (of-data (eq-eqb (u / 256) (16 + i) (omega (arith, a))) (reset-not (λ z. omega (arith, a, z))))
+        rw a (of-data (eq-eqb (u / 256) (16 + i) (omega (arith, a))) (reset-not (λ z. omega (arith, a, z))))
     sides (no a) (yes b) c =
-        rw (ne-eqb (u / 4096) 1 a, eq-eqb (u / 4096) 2 b) (of-ack (data-not a) (reset-not (λ z. omega (arith, b, z))))
+        rw b (of-ack (data-not a) (reset-not (λ z. omega (arith, b, z))))
     sides (no a) (no b) (yes c) =
-        rw (ne-eqb (u / 4096) 1 a, ne-eqb (u / 4096) 2 b, eq-eqb (u / 4096) 3 c) (of-reset (data-not a) (eq-eqb (u / 256) (48 + i) (omega (arith, c))))
+        rw c (of-reset (data-not a) (eq-eqb (u / 256) (48 + i) (omega (arith, c))))
     sides (no a) (no b) (no c) =
-        rw (ne-eqb (u / 4096) 1 a, ne-eqb (u / 4096) 2 b, ne-eqb (u / 4096) 3 c) (of-urgent (data-not a) (reset-not c))
+        let h : u / 4096 ≡ 4 = omega (arith, a, b, c, least, most) in
+        rw h (of-urgent (data-not a) (reset-not c))
 
 module _ (t : List ℕ) (n : Memory) (l : Lists) (g : Good t (n .node) (n .book) l) (room : storeOf t ≤ length (n .store))
     (some-under : underIn (n .book) ≢ 0) where

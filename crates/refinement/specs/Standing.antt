@@ -1,7 +1,7 @@
 -- Which machine a node's memory stands for, and the whole theorem: setup stands for the machine begun, and each call
 -- on what stands for a machine answers as the machine and leaves what stands for the machine afterwards. Assumes
 -- nothing.
-use Prim.Native.Nat.{ℕ, _/_, _≤_}
+use Prim.Native.Nat.{ℕ, _-_, _/_, _≤_}
 use mathlib.Core.Path.{_≡_}
 use mathlib.Core.Bool.{Bool, not, _&&_}
 use mathlib.Core.Option.{Option, none, some}
@@ -11,12 +11,12 @@ use lib.Dec.{eqb, ltb}
 use Rattle.units.specs.Refusals.{pick, verdict}
 use Rattle.memory.specs.Layout as layout
 use Rattle.waiting.specs.Order.{acksIn}
-use Rattle.waiting.specs.Port.{underIn, outEntry, outNumber, isReset, dataOut}
+use Rattle.waiting.specs.Port.{underIn, perType, outEntry, outNumber, isReset, dataOut}
 use Rattle.window.specs.Windows.{held}
 use Rattle.table.specs.Layout.{countOf, ownOf, protocolOf}
 use Rattle.table.specs.Areas.{storeOf}
 use Rattle.frame.specs.declared.FrameType.{FrameType}
-use Rattle.frame.specs.declared.FrameType.the-variants as type
+use Rattle.frame.specs.Types.{typeOf}
 use Rattle.end_points.specs.Ends.{endOf}
 use Rattle.end_points.specs.Lent.{Lent}
 use Rattle.end_points.specs.States.{isSends}
@@ -115,11 +115,9 @@ waitingFor ws l datas = map (slotItem ws) (l layout.datas)
 
 -- ---- the frame under way
 
--- its type, which stands before its entry and its number
+-- its type, which stands before its entry and its number, counted from 1 [F6, H8]
 abbrev pub typeFor : ℕ → FrameType
-typeFor u =
-    pick (eqb (u / 4096) 1) type.Data
-    (pick (eqb (u / 4096) 2) type.Acknowledge (pick (eqb (u / 4096) 3) type.Reset type.Urgent))
+typeFor u = typeOf (u / perType - 1)
 
 -- what the book says of it [H8]
 abbrev pub underFor : ℕ → Option Out

@@ -17,12 +17,12 @@ const PER_TYPE: u16 = 4096;
 const TYPES: u8 = 4;
 
 // Type and entry of entry 0's Data, and of its Reset.
-const DATA: u16 = 16;
+const FIRST_DATA: u16 = 16;
 
-const RESET: u16 = 48;
+const FIRST_RESET: u16 = 48;
 
 // No sequence number.
-pub const NO_NUMBER: u16 = 256;
+const NO_NUMBER: u16 = 256;
 
 // What is under way: 0 where there is none.
 pub fn under(book: &[u16]) -> u16
@@ -82,14 +82,14 @@ pub fn number(u: u16) -> Seq
 pub fn is_data(u: u16, i: u8) -> bool
     ensures { λ r. ⌜ r ≡ isData u i ⌝ }
 {
-    u / PER_ENTRY == DATA + i as u16
+    u / PER_ENTRY == FIRST_DATA + i as u16
 }
 
 // Whether it is entry i's Reset.
 pub fn is_reset(u: u16, i: u8) -> bool
     ensures { λ r. ⌜ r ≡ isReset u i ⌝ }
 {
-    u / PER_ENTRY == RESET + i as u16
+    u / PER_ENTRY == FIRST_RESET + i as u16
 }
 
 // The number of entry i's Data that is, and 256 where none is.
