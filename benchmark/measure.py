@@ -22,6 +22,7 @@ BY_THE_CLOCK = os.uname().machine == "x86_64"
 Case = collections.namedtuple("Case", "label row window entries payload timers", defaults=(0,))
 FRAMES = [Case("frame %s, %s bytes" % (row, format(n, ",")), row, 16, 1, n)
           for row in ("read", "write") for n in (16, 256, 4096)]
+ROUND_TRIP = "round trip and reports, 16 bytes, W 16"
 CALLS = [
     Case("send, 16 bytes", "send", 128, 1, 16),
     Case("hand out Data, 16 bytes", "hand_out", 128, 1, 16),
@@ -31,11 +32,14 @@ CALLS = [
     Case("Data out of order, 16 bytes", "early_data", 128, 1, 16),
     Case("acknowledgement", "acknowledgement", 128, 1, 16),
     Case("Reset with a fault, and where", "faulty", 128, 1, 16),
-    Case("round trip and reports, 16 bytes, W 16", "round_trip", 16, 1, 16),
+    Case(ROUND_TRIP, "round_trip", 16, 1, 16),
     Case("idle tick, 16 entries", "idle_tick", 128, 16, 15),
     Case("busy tick, 16 x 128 timers", "busy_tick", 128, 16, 15),
     Case("tick, all 2,048 timers end", "ending_tick", 128, 16, 15, 2048),
 ]
+# the check byte of a frame, by a table that the harness has: in C, whichever node stands beside it
+BY_TABLE = [Case("check byte by a table, %s bytes" % format(n, ","), "by_table", 16, 1, n) for n in (256, 4096)]
+HEADER, CHECK_BYTE = 8, 1
 WHOLE_FILE = "replay, 1,024 records"
 WINDOWS = (1, 2, 4, 8, 16, 32, 64, 128)
 ENTRIES = (1, 2, 4, 8, 16)
@@ -128,6 +132,35 @@ def show(title, labels, results, ratios, of_what="a call", timed=BY_THE_CLOCK):
         print(text)
 
 
+def a_byte(cases, results, which):
+    """Instructions a byte of a frame, by two cases that differ in their payload alone."""
+    short, long = cases
+    return (results[long.label][0][which] - results[short.label][0][which]) / (long.payload - short.payload)
+
+
+def show_check_byte(results):
+    """What the check byte takes of a round trip, what K4 costs that, which did away with a table, and what is left of
+    it without: that compares the nodes, and not what two compilers make of the same eight steps."""
+    reads = [case for case in FRAMES if case.row == "read" and case.payload in (256, 4096)]
+    trip = next(case for case in CALLS if case.label == ROUND_TRIP)
+    # Data and its acknowledgement, each written, and read with its check byte
+    over = sum(2 * (HEADER + payload) + CHECK_BYTE for payload in (trip.payload, 0))
+    table = a_byte(BY_TABLE, results, 0)
+    each = [a_byte(reads, results, which) for which in (0, 1)]
+    spent = [over * n for n in each]
+
+    def say(label, pair, by_table=None):
+        text = "%-40s %10.1f %10.1f %6.2f" % (label, *pair, pair[0] / pair[1])
+        print(text if by_table is None else text + " %12.1f" % by_table)
+
+    print("\nThe check byte, which a round trip of 16 bytes works out over %d bytes" % over)
+    print("%-40s %10s %10s %6s %12s" % ("instructions", "product", "peer", "ratio", "by a table"))
+    say("a byte", each, table)
+    say("a round trip's check bytes", spent, over * table)
+    say("a round trip without them", [whole - part for whole, part in zip(results[ROUND_TRIP][0], spent)])
+    print("%-40s %10.1f %10.1f" % ("what K4 costs a round trip", *(part - over * table for part in spent)))
+
+
 # ---- the picture: a panel for each of ROUND_TRIPS, instructions a payload against what grows, both on scales that
 # double; and one for a tick
 
@@ -209,9 +242,10 @@ def labels(cases):
 def main():
     programs, replays, to, run = sys.argv[1:3], sys.argv[3:5], sys.argv[5], sys.argv[6:]
     grown = [case for growth in ROUND_TRIPS + TICKS for case in growth.cases]
-    results, ratios = measure(programs, run, FRAMES + CALLS + grown), {}
+    results, ratios = measure(programs, run, FRAMES + BY_TABLE + CALLS + grown), {}
     results[WHOLE_FILE] = replay_instructions(replays, whole_file.made()), ()
     show("Frames", labels(FRAMES), results, ratios)
+    show_check_byte(results)
     show("Calls", labels(CALLS), results, ratios)
     show("Replay", [WHOLE_FILE], results, ratios, "a file", False)
     for growths, of_what in ((ROUND_TRIPS, "a payload"), (TICKS, "a tick")):

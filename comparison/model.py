@@ -6,6 +6,7 @@ long enough, so refusal 6 is never given here."""
 from __future__ import annotations
 
 import collections
+import functools
 from collections.abc import Callable, Iterator, Sequence
 from typing import Any, NamedTuple
 
@@ -30,6 +31,8 @@ MOST_ACCEPTED = 4294967295
 MOST_ACKS = 32
 MOST_STREAM = 65536
 OVERHEAD = 9
+POLYNOMIAL = 0x107  # x^8 + x^2 + x + 1
+CHECK_START = 0xFF
 
 # the faults of a header by their refusals, and the byte where each sits
 UNKNOWN_TYPE, USER_BITS, WRONG_LENGTH, WRONG_SEQUENCE = 15, 16, 17, 18
@@ -49,22 +52,25 @@ def refuse_if(condition: object, number: int) -> None:
         raise Refused(number)
 
 
-# 1. THE WIRE (01, "The frame")
+# 1. THE WIRE (01, "The frame"; 02, K4)
 
 
-def _check_entry(value: int) -> int:
+def times_x(value: int) -> int:
+    """One bit's step: times x, modulo the polynomial."""
+    return value << 1 ^ (POLYNOMIAL if value & 0x80 else 0)
+
+
+@functools.cache  # each of the 256 is asked for over and over
+def eight_steps(value: int) -> int:
     for _ in range(8):
-        value = value << 1 ^ (0x107 if value & 0x80 else 0)
+        value = times_x(value)
     return value
 
 
-CHECK = [_check_entry(value) for value in range(256)]
-
-
 def check(data: bytes | bytearray) -> int:
-    value = 0xFF
+    value = CHECK_START
     for byte in data:
-        value = CHECK[value ^ byte]
+        value = eight_steps(value ^ byte)
     return value
 
 

@@ -1,4 +1,4 @@
-/* Every number of the protocol: papers 01, 02 (K1 to K3) and 002. */
+/* Every number of the protocol: papers 01, 02 (K1 to K4) and 002. */
 #ifndef PEER_NUMBERS_H
 #define PEER_NUMBERS_H
 
@@ -34,7 +34,9 @@ enum {
     FAULT_BYTE_NONE = -1
 };
 
+/* The check byte (01, "The frame"; 02, K4). */
 enum {
+    CHECK_POLYNOMIAL = 0x07, /* x^2 + x + 1; x^8 is the bit that leaves */
     CHECK_START = 0xFF
 };
 

@@ -5,7 +5,11 @@ use Prim.Native.Nat.{ℕ, zero, suc, _<_}
 use native.Mathlib.Omega.{arith}
 use native.Mathlib.Decide.{decLt}
 use lib.Dec.{T}
-use Rattle.check8.specs.Table.{every}
+
+-- a test passes at each number below n
+abbrev pub every : (ℕ → Bool) → ℕ → Bool
+every f zero = true
+every f (suc n) = f n && every f n
 
 pub T-left : (a b : Bool) → T (a && b) → T a
 T-left true b t = tt

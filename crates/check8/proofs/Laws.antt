@@ -40,7 +40,7 @@ known : (r : ℕ) → r < 256 → T (facts r)
 unfolding facts timesX
 known = at facts 256 tt
 
-timesX-lt : (r : ℕ) → r < 256 → timesX r < 256
+pub timesX-lt : (r : ℕ) → r < 256 → timesX r < 256
 unfolding facts
 timesX-lt r h = ltb→lt (timesX r) 256 (T-left (ltb (timesX r) 256) (eqb r 0 || not (eqb (timesX r) 0)) (known r h))
 

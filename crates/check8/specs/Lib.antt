@@ -1,3 +1,2 @@
 pub mod Polynomial
-pub mod Table
 pub mod Laws

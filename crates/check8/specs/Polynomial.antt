@@ -6,16 +6,16 @@ use mathlib.Core.List.{List, [], _∷_}
 use lib.Bits.{bitXor}
 use lib.Dec.{ltb}
 
--- times x, modulo x^8 + x^2 + x + 1 [C1]
+-- one bit's step: times x, modulo x^8 + x^2 + x + 1 [C1, C4]
 unfoldable pub timesX : ℕ → ℕ
 timesX r = cond (ltb r 128) (r * 2) (bitXor (r * 2) 0x107)
 
--- times x^n [C1]
+-- n steps: times x^n [C1, C4]
 unfoldable pub timesXs : ℕ → ℕ → ℕ
 timesXs zero r = r
 timesXs (suc n) r = timesX (timesXs n r)
 
--- a byte more: its eight coefficients come in, highest first [C1]
+-- a byte more, in eight steps: its eight coefficients come in, highest first [C1, C4]
 unfoldable pub stepByte : ℕ → ℕ → ℕ
 stepByte c b = timesXs 8 (bitXor c b)
 

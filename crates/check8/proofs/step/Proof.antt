@@ -1,15 +1,47 @@
--- `check8::step` meets its contract: the table keeps its rule, by one test computed over the whole of it. Assumes nothing.
-use borrow.Author.Needs.{needs}
-use Rattle.check8.specs.Polynomial.{timesX, timesXs}
+-- `check8::step` meets its contract. The loop's invariant: after n steps r is times x^n what came in. Assumes nothing.
+use mathlib.Core.Path.{_≡_, refl, sym, ap, _∙_}
+use Prim.Native.Nat.{ℕ, suc, _+_, _≤_, _-_}
+use native.Mathlib.Numerals.{add-one}
+use native.Mathlib.Omega.{arith}
+use lib.Bits.{bitXor}
+use Rattle.check8.specs.Polynomial.{timesX, timesXs, stepByte}
 use Rattle.check8.proofs.step.Statement.{statement}
 use Rattle.check8.proofs.step.Tie as tie
 
-step-by-requires : tie.Need-step-by-requires
-unfolding timesXs timesX
-step-by-requires c κs = tt
+abbrev Inv-loop : tie.InvT-loop
+Inv-loop c b r₀ n₀ r n = (n ≤ 8) × (r ≡ timesXs n (bitXor c b))
 
-returns : tie.Need-returns
-returns c = search needs
+abbrev μ-loop : tie.MeasureT-loop
+μ-loop c b r₀ n₀ r n = 8 - n
+
+loop-holds : tie.Need-loop-holds Inv-loop μ-loop
+unfolding timesXs
+loop-holds c = (omega arith, refl)
+
+times-x-requires : tie.Need-times-x-requires Inv-loop μ-loop
+times-x-requires c κs = tt
+
+add-n : tie.Need-add-n Inv-loop μ-loop
+add-n c = omega arith
+
+loop-less : tie.Need-loop-less Inv-loop μ-loop
+loop-less c = omega arith
+
+loop-again : tie.Need-loop-again Inv-loop μ-loop
+unfolding timesXs
+loop-again c =
+    let l = c .before .before .loop in
+    let a = c .before .before .before .args in
+    (omega arith, rw add-one (c .times-x .ensures ∙ ap timesX (l .inv .1)))
+
+returns : tie.Need-returns Inv-loop μ-loop
+unfolding stepByte
+returns c =
+    let l = c .before .loop in
+    let all : l .n ≡ 8 = omega arith in
+    l .inv .1 ∙ rw all
 
 pub step-spec : {M : Type 1} → statement M
-step-spec = tie.close (tie.spec step-by-requires returns)
+step-spec =
+    tie.close
+    (tie.spec Inv-loop μ-loop loop-holds times-x-requires add-n loop-less loop-again returns)
