@@ -187,36 +187,6 @@ static int batch_writes(void)
     return refused;
 }
 
-/* The check byte by a table, as both had it before K4, so that the run can say what K4 costs. */
-static uint8_t eight_steps[256];
-
-__attribute__((noipa)) static uint8_t check_by_table(const uint8_t *bytes, size_t length)
-{
-    uint8_t check = 0xFF;
-    for (size_t i = 0; i < length; i++)
-        check = eight_steps[check ^ bytes[i]];
-    return check;
-}
-
-static void before_by_table(void)
-{
-    for (unsigned value = 0; value < 256; value++) {
-        unsigned steps = value;
-        for (unsigned k = 0; k < 8; k++)
-            steps = steps << 1 ^ (steps >> 7) * 0x107;
-        eight_steps[value] = (uint8_t)steps;
-    }
-    before_reads();
-}
-
-static int batch_by_table(void)
-{
-    int wrong = 0;
-    for (unsigned k = 0; k < 64; k++)
-        wrong |= check_by_table(frame, size + 9) != 0;
-    return wrong;
-}
-
 static void before_send(void)
 {
     open_both();
@@ -467,7 +437,6 @@ static const struct row {
 } rows[] = {
     {"read", before_reads, batch_reads, after_nothing},
     {"write", before_writes, batch_writes, after_nothing},
-    {"by_table", before_by_table, batch_by_table, after_nothing},
     {"send", before_send, batch_send, after_nothing},
     {"hand_out", before_hand_out, batch_hand_out, after_nothing},
     {"report", before_report, batch_report, after_report},

@@ -1,7 +1,9 @@
 """The benchmark's table and picture: the harness with the product and with the peer, side by side.
 
-measure PRODUCT PEER REPLAY PEERS_REPLAY PICTURE [RUN..]: two harnesses, two programs that replay a trace, where the
-picture of the growth goes, and what runs x86-64 programs here. Called by ./bench.
+measure PRODUCT PEER BY_TABLE REPLAY PEERS_REPLAY REPLAY_BY_TABLE PICTURE [RUN..]: three harnesses, three programs that
+replay a trace, where the picture of the growth goes, and what runs x86-64 programs here. Called by ./bench. The third
+is the peer once more, with a table for its check byte as before K4: that says what K4 costs, and is like with like for
+the product, since its compiler makes a table out of the eight steps and the peer's does not.
 Instructions come from tools/icount, as the difference of a run with the calls and one without; nanoseconds, on x86-64
 alone, from the quickest batch of several runs, product and peer in turn. A replay is a whole program: of it the
 instructions are counted, less those of a run on an empty file."""
@@ -37,9 +39,6 @@ CALLS = [
     Case("busy tick, 16 x 128 timers", "busy_tick", 128, 16, 15),
     Case("tick, all 2,048 timers end", "ending_tick", 128, 16, 15, 2048),
 ]
-# the check byte of a frame, by a table that the harness has: in C, whichever node stands beside it
-BY_TABLE = [Case("check byte by a table, %s bytes" % format(n, ","), "by_table", 16, 1, n) for n in (256, 4096)]
-HEADER, CHECK_BYTE = 8, 1
 WHOLE_FILE = "replay, 1,024 records"
 WINDOWS = (1, 2, 4, 8, 16, 32, 64, 128)
 ENTRIES = (1, 2, 4, 8, 16)
@@ -89,9 +88,9 @@ def instructions(program, case):
 
 
 def replay_instructions(programs, trace):
-    """Instructions a file: product, then peer, which print the same."""
+    """Instructions a file: product, peer, and that by a table, which print the same."""
     said = [counted([program], trace) for program in programs]
-    assert said[0][1] == said[1][1], "the two replays do not print the same"
+    assert len({text for _, text in said}) == 1, "the replays do not print the same"
     return [number - counted([program])[0] for program, (number, _) in zip(programs, said)]
 
 
@@ -103,69 +102,53 @@ def nanoseconds(run, program, case):
 
 
 def measure(programs, run, cases):
-    """For each case its instructions and, where there is a clock, nanoseconds: product, then peer."""
+    """For each case its instructions, of product, peer, and that by a table; and, where there is a clock, nanoseconds of
+    the first two."""
     jobs = [(program, case) for case in cases for program in programs]
     with concurrent.futures.ThreadPoolExecutor(os.cpu_count()) as pool:
         counts = list(pool.map(lambda job: instructions(*job), jobs))
     results = {}
     for i, case in enumerate(cases):
-        times = [[nanoseconds(run, program, case) for program in programs] for _ in range(5)] if BY_THE_CLOCK else []
-        results[case.label] = counts[2 * i:2 * i + 2], [min(column) for column in zip(*times)]
+        times = [[nanoseconds(run, program, case) for program in programs[:2]] for _ in range(5)] if BY_THE_CLOCK else []
+        results[case.label] = counts[3 * i:3 * i + 3], [min(column) for column in zip(*times)]
     return results
 
 
 def line(label, found):
-    """A row of the table, and its ratio by instructions."""
-    (ours, theirs), times = found
-    text = "%-40s %10.0f %10.0f %6.2f" % (label, ours, theirs, ours / theirs)
+    """A row of the table."""
+    (ours, theirs, by_table), times = found
+    text = "%-40s %10.0f %10.0f %6.2f %10.0f %6.2f" % (label, ours, theirs, ours / theirs, by_table, ours / by_table)
     if times:
         text += " %12.1f %10.1f %6.2f" % (times[0], times[1], times[0] / times[1])
-    return text, ours / theirs
+    return text
 
 
-def show(title, labels, results, ratios, of_what="a call", timed=BY_THE_CLOCK):
+def show(title, labels, results, of_what="a call", timed=BY_THE_CLOCK):
     print("\n" + title)
-    head = "%-40s %10s %10s %6s" % ("instructions " + of_what, "product", "peer", "ratio")
+    head = "%-40s %10s %10s %6s %10s %6s" % ("instructions " + of_what, "product", "peer", "ratio", "by a table", "ratio")
     print(head + (" %12s %10s %6s" % ("ns: product", "peer", "ratio") if timed else ""))
     for label in labels:
-        text, ratios[label] = line(label, results[label])
-        print(text)
-
-
-def a_byte(cases, results, which):
-    """Instructions a byte of a frame, by two cases that differ in their payload alone."""
-    short, long = cases
-    return (results[long.label][0][which] - results[short.label][0][which]) / (long.payload - short.payload)
+        print(line(label, results[label]))
 
 
 def show_check_byte(results):
-    """What the check byte takes of a round trip, what K4 costs that, which did away with a table, and what is left of
-    it without: that compares the nodes, and not what two compilers make of the same eight steps."""
-    reads = [case for case in FRAMES if case.row == "read" and case.payload in (256, 4096)]
-    trip = next(case for case in CALLS if case.label == ROUND_TRIP)
-    # Data and its acknowledgement, each written, and read with its check byte
-    over = sum(2 * (HEADER + payload) + CHECK_BYTE for payload in (trip.payload, 0))
-    table = a_byte(BY_TABLE, results, 0)
-    each = [a_byte(reads, results, which) for which in (0, 1)]
-    spent = [over * n for n in each]
-
-    def say(label, pair, by_table=None):
-        text = "%-40s %10.1f %10.1f %6.2f" % (label, *pair, pair[0] / pair[1])
-        print(text if by_table is None else text + " %12.1f" % by_table)
-
-    print("\nThe check byte, which a round trip of 16 bytes works out over %d bytes" % over)
-    print("%-40s %10s %10s %6s %12s" % ("instructions", "product", "peer", "ratio", "by a table"))
-    say("a byte", each, table)
-    say("a round trip's check bytes", spent, over * table)
-    say("a round trip without them", [whole - part for whole, part in zip(results[ROUND_TRIP][0], spent)])
-    print("%-40s %10.1f %10.1f" % ("what K4 costs a round trip", *(part - over * table for part in spent)))
+    """What working the check byte out takes a byte, and what K4, which did away with the table, costs a round trip."""
+    short, long = [case for case in FRAMES if case.row == "read"][-2:]
+    a_byte = [(more - less) / (long.payload - short.payload)
+              for less, more in zip(results[short.label][0], results[long.label][0])]
+    print("\nThe check byte, instructions a byte: product %.1f, peer %.1f, peer by a table %.1f" % tuple(a_byte))
+    *both, by_table = results[ROUND_TRIP][0]
+    print("What working it out bit by bit costs a round trip of 16 bytes, beside the peer by a table:")
+    for who, number in zip(("product", "peer"), both):
+        print("%8s %+6.0f instructions, %.2f times" % (who, number - by_table, number / by_table))
+    print()
 
 
 # ---- the picture: a panel for each of ROUND_TRIPS, instructions a payload against what grows, both on scales that
 # double; and one for a tick
 
 WIDE, HIGH, LEFT, TOP, GAP = 250, 210, 60, 46, 70
-OURS, THEIRS = "#257", "#b55"
+COLOURS = OURS, THEIRS, BY_TABLE = "#257", "#b55", "#a72"
 
 
 def scale(values, low, high):
@@ -207,10 +190,9 @@ def panel(number, title, xs, curves):
     return out
 
 
-def curves_of(growth, results, dashes=""):
-    """The peer's curve and the product's."""
-    return [([results[case.label][0][which] for case in growth.cases], colour, dashes)
-            for which, colour in ((1, THEIRS), (0, OURS))]
+def curves_of(growth, results, which, dashes=""):
+    """The curves of some of the programs."""
+    return [([results[case.label][0][k] for case in growth.cases], COLOURS[k], dashes) for k in which]
 
 
 def words_over(number, y, size, words):
@@ -219,7 +201,8 @@ def words_over(number, y, size, words):
 
 def picture(results):
     last = len(ROUND_TRIPS)
-    names = '<tspan fill="%s">product</tspan>, <tspan fill="%s">peer</tspan>' % (OURS, THEIRS)
+    names = ", ".join('<tspan fill="%s">%s</tspan>' % pair
+                      for pair in zip(COLOURS, ("product", "peer", "peer with a table for its check byte")))
     wide = LEFT + (last + 1) * WIDE + last * GAP + 20
     out = ['<svg xmlns="http://www.w3.org/2000/svg" width="%d" height="%d" font-family="sans-serif" font-size="12">'
            % (wide, TOP + HIGH + 50),
@@ -228,9 +211,9 @@ def picture(results):
            words_over(last, 18, 14, "Instructions a tick, no timer due"),
            words_over(last, 34, 12, "dashed: where a stopped one was due")]
     for number, growth in enumerate(ROUND_TRIPS):
-        out += panel(number, growth.title, growth.xs, curves_of(growth, results))
+        out += panel(number, growth.title, growth.xs, curves_of(growth, results, (2, 1, 0)))
     quiet, through = TICKS
-    curves = curves_of(through, results, ' stroke-dasharray="5 4"') + curves_of(quiet, results)
+    curves = curves_of(through, results, (1, 0), ' stroke-dasharray="5 4"') + curves_of(quiet, results, (1, 0))
     out += panel(last, quiet.title, quiet.xs, curves)
     return "\n".join(out + ["</svg>"]) + "\n"
 
@@ -240,21 +223,22 @@ def labels(cases):
 
 
 def main():
-    programs, replays, to, run = sys.argv[1:3], sys.argv[3:5], sys.argv[5], sys.argv[6:]
+    programs, replays, to, run = sys.argv[1:4], sys.argv[4:7], sys.argv[7], sys.argv[8:]
     grown = [case for growth in ROUND_TRIPS + TICKS for case in growth.cases]
-    results, ratios = measure(programs, run, FRAMES + BY_TABLE + CALLS + grown), {}
+    results = measure(programs, run, FRAMES + CALLS + grown)
     results[WHOLE_FILE] = replay_instructions(replays, whole_file.made()), ()
-    show("Frames", labels(FRAMES), results, ratios)
-    show_check_byte(results)
-    show("Calls", labels(CALLS), results, ratios)
-    show("Replay", [WHOLE_FILE], results, ratios, "a file", False)
+    show("Frames", labels(FRAMES), results)
+    show("Calls", labels(CALLS), results)
+    show("Replay", [WHOLE_FILE], results, "a file", False)
     for growths, of_what in ((ROUND_TRIPS, "a payload"), (TICKS, "a tick")):
         for growth in growths:
-            show("Growth with %s, %s" % (growth.title, of_what), labels(growth.cases), results, ratios)
+            show("Growth with %s, %s" % (growth.title, of_what), labels(growth.cases), results)
+    show_check_byte(results)
     with open(to, "w") as file:
         file.write(picture(results))
-    above = [sum(r > most for r in ratios.values()) for most in (1.0, 1.5)]
-    print("\n%d rows; above 1.0 of the peer: %d; above 1.5: %d" % (len(ratios), *above))
+    for against, which in (("the peer", 1), ("the peer by a table", 2)):
+        above = [sum(counts[0] / counts[which] > most for counts, _ in results.values()) for most in (1.0, 1.5)]
+        print("%d rows; above 1.0 of %s: %d; above 1.5: %d" % (len(results), against, *above))
 
 
 main()

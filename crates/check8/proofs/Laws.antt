@@ -88,5 +88,3 @@ unfolding checkFrom stepByte
 only-check bs x t h e =
     let c = check-lt 255 bs (omega arith) t in
     sym (xor-zero (checkOf bs) x (timesXs-zero 8 _ (xor-lt 8 (checkOf bs) x c h) (sym (check-append 255 bs (x ∷ [])) ∙ e)))
-
--- ---- as specs/Laws.antt states them

@@ -1,6 +1,6 @@
 -- `check8::step` meets its contract. The loop's invariant: after n steps r is times x^n what came in. Assumes nothing.
-use mathlib.Core.Path.{_≡_, refl, sym, ap, _∙_}
-use Prim.Native.Nat.{ℕ, suc, _+_, _≤_, _-_}
+use mathlib.Core.Path.{_≡_, refl, ap, _∙_}
+use Prim.Native.Nat.{_≤_, _-_}
 use native.Mathlib.Numerals.{add-one}
 use native.Mathlib.Omega.{arith}
 use lib.Bits.{bitXor}
@@ -31,7 +31,6 @@ loop-again : tie.Need-loop-again Inv-loop μ-loop
 unfolding timesXs
 loop-again c =
     let l = c .before .before .loop in
-    let a = c .before .before .before .args in
     (omega arith, rw add-one (c .times-x .ensures ∙ ap timesX (l .inv .1)))
 
 returns : tie.Need-returns Inv-loop μ-loop

@@ -1,5 +1,5 @@
--- `check8::times_x` meets its contract: below 128 nothing goes out at the top. Assumes nothing.
-use mathlib.Core.Path.{_≡_, refl, sym}
+-- `check8::times_x` meets its contract, in the definition's two cases. Assumes nothing.
+use mathlib.Core.Path.{_≡_}
 use Prim.Native.Nat.{ℕ, _<_, _≤_, _*_}
 use native.Mathlib.Omega.{arith}
 use borrow.Author.Needs.{needs}
@@ -10,10 +10,12 @@ use Rattle.check8.proofs.Laws.{timesX-lt}
 use Rattle.check8.proofs.times_x.Statement.{statement}
 use Rattle.check8.proofs.times_x.Tie as tie
 
+-- below 128 no x^8 comes of it
 none-out : (r : ℕ) → r < 128 → r * 2 ≡ timesX r
 unfolding timesX
 none-out r l = rw (lt-ltb r 128 l)
 
+-- otherwise one does
 one-out : (r : ℕ) → 128 ≤ r → bitXor (r * 2) 0x107 ≡ timesX r
 unfolding timesX
 one-out r l = rw (le-ltb r 128 l)
