@@ -102,14 +102,14 @@ def nanoseconds(run, program, case):
 
 
 def measure(programs, run, cases):
-    """For each case its instructions, of product, peer, and that by a table; and, where there is a clock, nanoseconds of
-    the first two."""
+    """For each case its instructions, of product, peer, and that by a table; where there is a clock, the nanoseconds of
+    the first two too."""
     jobs = [(program, case) for case in cases for program in programs]
     with concurrent.futures.ThreadPoolExecutor(os.cpu_count()) as pool:
         counts = list(pool.map(lambda job: instructions(*job), jobs))
     results = {}
     for i, case in enumerate(cases):
-        times = [[nanoseconds(run, program, case) for program in programs[:2]] for _ in range(5)] if BY_THE_CLOCK else []
+        times = [[nanoseconds(run, each, case) for each in programs[:2]] for _ in range(5)] if BY_THE_CLOCK else []
         results[case.label] = counts[3 * i:3 * i + 3], [min(column) for column in zip(*times)]
     return results
 
@@ -125,7 +125,8 @@ def line(label, found):
 
 def show(title, labels, results, of_what="a call", timed=BY_THE_CLOCK):
     print("\n" + title)
-    head = "%-40s %10s %10s %6s %10s %6s" % ("instructions " + of_what, "product", "peer", "ratio", "by a table", "ratio")
+    names = "product", "peer", "ratio", "by a table", "ratio"
+    head = "%-40s %10s %10s %6s %10s %6s" % ("instructions " + of_what, *names)
     print(head + (" %12s %10s %6s" % ("ns: product", "peer", "ratio") if timed else ""))
     for label in labels:
         print(line(label, results[label]))
