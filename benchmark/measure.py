@@ -18,8 +18,9 @@ from benchmark import whole_file
 
 ICOUNT = os.path.join(os.path.dirname(os.path.abspath(__file__)), "..", "tools", "icount")
 BY_THE_CLOCK = os.uname().machine == "x86_64"
+PRODUCT, PEER, BY_TABLE = range(3)  # what is measured, in the order of the columns
 
-# what is measured: the harness's row with the window, entries and payload of every entry, and how many timers run in
+# a case: the harness's row with the window, entries and payload of every entry, and how many timers run in
 # the rows that say so
 Case = collections.namedtuple("Case", "label row window entries payload timers", defaults=(0,))
 FRAMES = [Case("frame %s, %s bytes" % (row, format(n, ",")), row, 16, 1, n)
@@ -149,7 +150,7 @@ def show_check_byte(results):
 # double; and one for a tick
 
 WIDE, HIGH, LEFT, TOP, GAP = 250, 210, 60, 46, 70
-COLOURS = OURS, THEIRS, BY_TABLE = "#257", "#b55", "#a72"
+COLOURS = "#257", "#b55", "#a72"
 
 
 def scale(values, low, high):
@@ -212,9 +213,10 @@ def picture(results):
            words_over(last, 18, 14, "Instructions a tick, no timer due"),
            words_over(last, 34, 12, "dashed: where a stopped one was due")]
     for number, growth in enumerate(ROUND_TRIPS):
-        out += panel(number, growth.title, growth.xs, curves_of(growth, results, (2, 1, 0)))
+        out += panel(number, growth.title, growth.xs, curves_of(growth, results, (BY_TABLE, PEER, PRODUCT)))
     quiet, through = TICKS
-    curves = curves_of(through, results, (1, 0), ' stroke-dasharray="5 4"') + curves_of(quiet, results, (1, 0))
+    both = PEER, PRODUCT
+    curves = curves_of(through, results, both, ' stroke-dasharray="5 4"') + curves_of(quiet, results, both)
     out += panel(last, quiet.title, quiet.xs, curves)
     return "\n".join(out + ["</svg>"]) + "\n"
 
@@ -237,8 +239,8 @@ def main():
     show_check_byte(results)
     with open(to, "w") as file:
         file.write(picture(results))
-    for against, which in (("the peer", 1), ("the peer by a table", 2)):
-        above = [sum(counts[0] / counts[which] > most for counts, _ in results.values()) for most in (1.0, 1.5)]
+    for against, which in (("the peer", PEER), ("the peer by a table", BY_TABLE)):
+        above = [sum(counts[PRODUCT] / counts[which] > most for counts, _ in results.values()) for most in (1.0, 1.5)]
         print("%d rows; above 1.0 of %s: %d; above 1.5: %d" % (len(results), against, *above))
 
 
