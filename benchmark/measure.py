@@ -40,6 +40,7 @@ CALLS = [
     Case("busy tick, 16 x 128 timers", "busy_tick", 128, 16, 15),
     Case("tick, all 2,048 timers end", "ending_tick", 128, 16, 15, 2048),
 ]
+HEADER, CHECK_BYTE = 8, 1  # of a frame, in bytes
 WHOLE_FILE = "replay, 1,024 records"
 WINDOWS = (1, 2, 4, 8, 16, 32, 64, 128)
 ENTRIES = (1, 2, 4, 8, 16)
@@ -134,16 +135,22 @@ def show(title, labels, results, of_what="a call", timed=BY_THE_CLOCK):
 
 
 def show_check_byte(results):
-    """What working the check byte out takes a byte, and what K4, which did away with the table, costs a round trip."""
+    """What the check byte takes a byte, and by that of a round trip; and what K4 costs there, which did away with the
+    table: beside as many bytes by a table, and of the peer, which is here with and without, as measured."""
     short, long = [case for case in FRAMES if case.row == "read"][-2:]
+    trip = next(case for case in CALLS if case.label == ROUND_TRIP)
+    # Data and its acknowledgement, each written, and read with its check byte
+    over = sum(2 * (HEADER + payload) + CHECK_BYTE for payload in (trip.payload, 0))
     a_byte = [(more - less) / (long.payload - short.payload)
               for less, more in zip(results[short.label][0], results[long.label][0])]
-    print("\nThe check byte, instructions a byte: product %.1f, peer %.1f, peer by a table %.1f" % tuple(a_byte))
-    *both, by_table = results[ROUND_TRIP][0]
-    print("What working it out bit by bit costs a round trip of 16 bytes, beside the peer by a table:")
-    for who, number in zip(("product", "peer"), both):
-        print("%8s %+6.0f instructions, %.2f times" % (who, number - by_table, number / by_table))
-    print()
+    costs = [over * (each - a_byte[BY_TABLE]) for each in a_byte[:BY_TABLE]]
+    _, peer, by_table = results[ROUND_TRIP][0]
+    print("\nThe check byte, which a round trip of %d bytes works out over %d bytes" % (trip.payload, over))
+    print("%-40s %10s %10s %10s" % ("instructions", "product", "peer", "by a table"))
+    print("%-40s %10.1f %10.1f %10.1f" % ("a byte", *a_byte))
+    print("%-40s %10.0f %10.0f %10.0f" % ("a round trip, by that", *(over * each for each in a_byte)))
+    print("%-40s %+10.0f %+10.0f" % ("what K4 costs a round trip, by that", *costs))
+    print("%-40s %10s %+10.0f, %.2f times\n" % ("and as measured", "", peer - by_table, peer / by_table))
 
 
 # ---- the picture: a panel for each of ROUND_TRIPS, instructions a payload against what grows, both on scales that
