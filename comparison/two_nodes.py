@@ -138,7 +138,8 @@ class Pair:
     def entry_of(self, plan: Plan, sends: bool, remote: int) -> Entry:
         retries, timeout = (plan.retries, plan.timeout) if sends else (0, 0)
         # both ways of writing the default window
-        window = self.rng.choice((0, 16)) if plan.window in (0, 16) else plan.window
+        both = (0, model.DEFAULT_WINDOW)
+        window = self.rng.choice(both) if plan.window in both else plan.window
         return Entry(SENDS if sends else RECEIVES, remote, plan.number, retries, window, plan.largest, timeout)
 
     def strangers(self) -> list[tuple[Entry, None]]:

@@ -99,7 +99,9 @@ int main(void)
     faults();
     expect("start 250, W 16: 9", shelugvar_test_window(250, 16, 9), SHELUGVAR_INSIDE);
     expect("start 250, W 16: 10", shelugvar_test_window(250, 16, 10), SHELUGVAR_OUTSIDE);
-    expect("start 246, W 0: 5, the turn too far", shelugvar_test_window(246, 0, 5), SHELUGVAR_INSIDE);
+    expect("start 246, W 16: 5, the turn too far", shelugvar_test_window(246, 16, 5), SHELUGVAR_INSIDE);
+    expect("start 250, W 0, which is 8: 1", shelugvar_test_window(250, 0, 1), SHELUGVAR_INSIDE);
+    expect("start 250, W 0, which is 8: 2", shelugvar_test_window(250, 0, 2), SHELUGVAR_OUTSIDE);
     expect("W 3", shelugvar_test_window(0, 3, 0), SHELUGVAR_NO_WINDOW);
     expect("W 256", shelugvar_test_window(0, 256, 0), SHELUGVAR_NO_WINDOW);
     return wrong;

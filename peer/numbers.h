@@ -1,4 +1,4 @@
-/* Every number of the protocol: papers 01, 02 (K1 to K4) and 002. */
+/* Every number of the protocol: papers 01, 02 (K1 to K5) and 002. */
 #ifndef PEER_NUMBERS_H
 #define PEER_NUMBERS_H
 
@@ -73,7 +73,7 @@ enum entry_kind {
 enum {
     ADDRESS_LEAST = 32,
     ADDRESS_MOST = 254,
-    WINDOW_DEFAULT = 16,
+    WINDOW_DEFAULT = 8, /* a 0 in the table; fits small stores (02, K5) */
     WINDOW_MOST = 128,
     PAYLOAD_MOST = 32768,
     STORE_MOST = 32768,

@@ -12,7 +12,7 @@ struct entry {
     uint8_t remote;
     uint8_t channel;
     uint8_t retries;  /* M */
-    uint8_t window;   /* W in force: a 0 in the table is 16 here */
+    uint8_t window;   /* W in force: WINDOW_DEFAULT for a 0 in the table */
     uint16_t payload; /* P, the largest */
     uint16_t timeout; /* T */
 };

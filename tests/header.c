@@ -38,7 +38,7 @@ static void refuses(shelugvar_refusal got, shelugvar_refusal wanted, const char 
     wrong = 1;
 }
 
-/* The table of the paper's worked example, whose store is 5,376 bytes. */
+/* The table of the paper's worked example, whose store is 4,864 bytes. */
 static void table_bytes(void)
 {
     static const uint8_t paper[] = {0x00, 0x02, 0x00, 0x08, 0x40, 0xEE, 0x00, 0x00, 0x00, 0x41, 0x07,
@@ -50,10 +50,10 @@ static void table_bytes(void)
                              SHELUGVAR_RECEIVER(remote, 9, 0, 64)};
 
     must(sizeof table == sizeof paper && memcmp(table, paper, sizeof paper) == 0, "the table's bytes");
-    must(SHELUGVAR_SENDER_STORE(16, 256) + SHELUGVAR_RECEIVER_STORE(SHELUGVAR_WINDOW_DEFAULT, 64) == 5376,
+    must(SHELUGVAR_SENDER_STORE(16, 256) + SHELUGVAR_RECEIVER_STORE(SHELUGVAR_WINDOW_DEFAULT, 64) == 4864,
          "the table's store");
     refuses(shelugvar_node_store_need(table, sizeof table, &need), SHELUGVAR_DONE, "the need of a table");
-    must(need == 5376, "the need of a table");
+    must(need == 4864, "the need of a table");
 }
 
 static void lengths(void)

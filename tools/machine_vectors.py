@@ -35,7 +35,7 @@ ENTRIES = [
     tx(remote=FIRST, channel=7, retries=1, window=4, largest=3, timeout=1),
     rx(remote=FIRST, channel=7, window=4, largest=3),
     tx(remote=SECOND, channel=7, retries=0, window=2, largest=4, timeout=2),
-    rx(remote=SECOND, channel=9, window=0, largest=4),  # 0 is 16
+    rx(remote=SECOND, channel=9, window=0, largest=4),  # 0 is 8
     tx(remote=SECOND, channel=8, retries=3, window=2, largest=1, timeout=3),
 ]
 
@@ -70,9 +70,9 @@ def acknowledgements_full(t):
     t.reset(3)
     t.data(3, 1, of(1), of(1))
     t.data(3, 3, of(3))  # held
-    t.data(3, 17, of(17))  # W 16: the last in the window, held
+    t.data(3, 9, of(9))  # W 8: the last in the window, held
     for _ in range(28):
-        t.data(3, 18, of(18))  # the first outside, acknowledged all the same
+        t.data(3, 10, of(10))  # the first outside, acknowledged all the same
     t.no(13, t.arrival, t.frame(1, DATA, 1, of(1, 2, 3, 4)))  # Enabled; 5 and 14 are tested later
     t.no(5, t.arrival, t.frame(3, DATA, 2, of(1, 2, 3, 4, 5)))  # P 4; 14 is tested later
     t.no(14, t.arrival, t.frame(3, DATA, 2, of(2)))

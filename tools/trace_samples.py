@@ -201,6 +201,27 @@ def failing() -> list[Sample]:
     return [("failing_ground", ground.records), ("failing_pedestal", pedestal.records)]
 
 
+@sample
+def readings() -> list[Sample]:
+    """A window that is written as 0: nine readings are to go down at once, and it takes eight of them. The first is
+    lost; the ground holds the seven behind it and delivers all eight when the first comes again. Then the ninth goes."""
+    net = link()
+    ground, pedestal = net.ground, net.pedestal
+    ground.open(RECEIVER)
+    pedestal.open(SENDER)
+    net.drain()
+    pedestal.send(SENDER, *[b"el %d" % reading for reading in range(1, 10)])  # the ninth is refused
+    net.pass_on(pedestal, "lost", *["passed"] * 7)
+    net.pass_on(ground, *["passed"] * 7)
+    net.ticks(4)
+    net.drain()
+    pedestal.send(SENDER, b"el 9")
+    net.drain()
+    ground.close(RECEIVER)
+    pedestal.close(SENDER)
+    return [("readings_ground", ground.records), ("readings_pedestal", pedestal.records)]
+
+
 def header(frame: bytes, **over: int) -> bytes:
     """A frame with other header bytes, and the check byte that fits them."""
     body = bytearray(frame[:-1])

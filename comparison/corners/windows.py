@@ -6,7 +6,7 @@ from comparison.model import ACKNOWLEDGE
 @corner
 def window_past_255(t: Corner) -> None:
     """Start 250, W 16: 9 is in, 10 and 249 are out."""
-    t.given(rx(window=0, largest=3))
+    t.given(rx(window=16, largest=3))
     t.up(0)
     t.deliver(0, 1, 249)
     for sequence in (10, 249, 9):
@@ -27,6 +27,28 @@ def senders_window_past_255(t: Corner) -> None:
     for n in range(264, 249, -1):
         t.passes(0, n % 256, 16 if n == 250 else 0)
     t.ok(t.counts, 0, gives=[265, 265])
+
+
+@corner
+def window_written_as_0(t: Corner) -> None:
+    """It is 8. Start 250: 1 is in, 2 and 249 are out; all are acknowledged, so 2 is lost where the sender has more."""
+    t.given(rx(window=0, largest=3))
+    t.up(0)
+    t.deliver(0, 1, 249)
+    for sequence in (2, 249, 1):
+        t.data(0, sequence, b"%d" % sequence)
+        t.out(0, ACKNOWLEDGE, sequence)
+    t.reset(0, held=1)
+
+
+@corner
+def senders_window_written_as_0(t: Corner) -> None:
+    t.given(tx(window=0, largest=3), tx(channel=8, window=8, largest=3), tx(channel=9, window=16, largest=3))
+    t.up(0, 1, 2)
+    for index, size in ((0, 8), (1, 8), (2, 16)):
+        t.send_out(index, *range(1, size + 1))
+        t.no(7, t.send, index, b"one")
+        t.ok(t.counts, index, gives=[size, 0])
 
 
 @corner

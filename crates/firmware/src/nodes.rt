@@ -265,14 +265,14 @@ pub extern "C" fn shelugvar_store_need(table: &[u8], need: &mut usize) -> u8
 
 const MAJOR: u32 = 0;
 
-const MINOR: u32 = 3;
+const MINOR: u32 = 4;
 
 const PATCH: u32 = 0;
 
 // The version of this archive, a byte a number.
 #[no_mangle]
 pub extern "C" fn shelugvar_version() -> u32
-    ensures { λ r. ⌜ r ≡ versionOf 0 3 0 ⌝ }
+    ensures { λ r. ⌜ r ≡ versionOf 0 4 0 ⌝ }
 {
     (MAJOR * 256 + MINOR) * 256 + PATCH
 }

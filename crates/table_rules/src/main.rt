@@ -127,8 +127,8 @@ fn pairs() {
 fn stores() {
     one(32768);
     one(32769);
-    areas(8);
-    areas(9);
+    areas(16);
+    areas(17);
 }
 
 // The paper's table with one byte altered.
@@ -160,12 +160,12 @@ fn one(largest: u16) {
     show(b"", &table);
 }
 
-// The paper's table with a sender's area of 32,640 bytes and a receiver's of 16 payloads.
+// The paper's table with a sender's area of 32,640 bytes and a receiver's of 8 payloads.
 fn areas(largest: u16) {
     let mut table = paper();
     put16(&mut table, 14, 1920);
     put16(&mut table, 26, largest);
-    say(b"areas of 32640 and ", 16 * largest as u64);
+    say(b"areas of 32640 and ", 8 * largest as u64);
     show(b"", &table);
 }
 

@@ -8,7 +8,7 @@ use Rattle.units.specs.Refusals.{pick}
 
 -- what 0 stands for [T11]
 unfoldable pub defaultSize : ℕ
-defaultSize = 16
+defaultSize = 8
 
 -- exactly one bit set, and at most 128 [T10, G2]
 abbrev pub isSize : ℕ → Bool

@@ -7,7 +7,7 @@ ghost use Rattle.units.specs.Sizes.{isSize, inForce, defaultSize};
 pub fn default_size() -> u16
     ensures { λ r. ⌜ r ≡ defaultSize ⌝ }
 {
-    16
+    8
 }
 
 // Whether n is a window's size: exactly one bit set, and at most 128. [G2]
