@@ -57,7 +57,8 @@ class Totals:
     """What was compared so far."""
 
     def __init__(self) -> None:
-        self.traces = self.records = self.bytes = self.frames = 0
+        self.kinds: dict[str, collections.Counter[str]] = collections.defaultdict(collections.Counter)  # by ./compare's
+        self.by_hand: dict[str, list[Trace]] = collections.defaultdict(list)  # by event, the corners that reach it
         self.seen: model.Seen = collections.Counter()
         self.pairs = self.wild = 0
         self.channels: collections.Counter[str] = collections.Counter()
@@ -67,15 +68,21 @@ class Totals:
         self.files = self.refused = self.lines = 0  # trace files
         self.replayed: model.Seen = collections.Counter()
 
-    def add_trace(self, trace: Trace) -> None:
+    def add_trace(self, trace: Trace, kind: str) -> None:
         seen = trace.node.seen
-        self.traces += 1
-        self.records += trace.text().count("\n")
-        self.bytes += len(trace.stream)
-        self.frames += sum(n for key, n in seen.items()
-                           if str(key).startswith("handed out") or key[0] == model.ARRIVAL_CALL)
+        frames = sum(n for key, n in seen.items()
+                     if str(key).startswith("handed out") or key[0] == model.ARRIVAL_CALL)
+        self.kinds[kind] += collections.Counter(traces=1, records=trace.text().count("\n"), bytes=len(trace.stream),
+                                                frames=frames)
         self.seen += seen
+        for event in EVENTS if kind == "c" else ():
+            if seen[event]:
+                self.by_hand[event].append(trace)
         self.notes += ["%s: %s" % (trace.name, trace.note)] if trace.note else []
+
+    def count(self, what: str) -> int:
+        """How many traces there were, or how much of something was in them all."""
+        return sum(kind[what] for kind in self.kinds.values())
 
     def add_pair(self, pair: Pair) -> None:
         self.pairs += 1
@@ -110,6 +117,10 @@ class Totals:
         out += [name for name in TRANSITIONS + EVENTS if not self.seen[name]]
         return out
 
+    def by_seed_alone(self) -> list[str]:
+        """The events that no trace by hand reaches."""
+        return [name for name in EVENTS if not self.by_hand[name]]
+
     def unlisted(self) -> list[str]:
         """What happened and stands in no list above: the lists would then be wrong."""
         refusals = {(code, n) for code, name in model.CALL_NAMES.items() for n in REFUSALS[name]}
@@ -126,7 +137,7 @@ class Totals:
 
     def show(self, gaps: bool) -> None:
         """The coverage table; `gaps` where all kinds were run, so that nothing should be missing."""
-        print("%d traces, %d records, %d bytes, %d frames" % (self.traces, self.records, self.bytes, self.frames))
+        print(", ".join("%d %s" % (self.count(what), what) for what in ("traces", "records", "bytes", "frames")))
         print("\nCalls by refusal number (0: done). The desk cannot be brought to 6, since its buffers are always long"
               " enough, nor to 8.")
         for row in self.refusal_rows(self.seen, model.CALL_NAMES):
@@ -140,6 +151,8 @@ class Totals:
         print("\n".join([""] + self.notes))
         for name in self.missing() if gaps else ():
             print("NOT REACHED: " + name)
+        for name in self.by_seed_alone() if gaps else ():
+            print("NOT REACHED BY HAND: " + name)
 
     def show_files(self, gaps: bool) -> None:
         """The trace files' part of the table."""

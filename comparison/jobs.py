@@ -114,10 +114,10 @@ def report(trace: Trace, wrong: str, again: str, desks: list[Program]) -> str:
     return "\n".join(out)
 
 
-def compare_trace(trace: Trace, again: str, desks: list[Program], totals: Totals) -> str | None:
+def compare_trace(trace: Trace, kind: str, again: str, desks: list[Program], totals: Totals) -> str | None:
     """None, or what is wrong with a trace."""
     stream, text = bytes(trace.stream), trace.text()
-    totals.add_trace(trace)
+    totals.add_trace(trace, kind)
     wrong = disagreement(stream, text, desks)
     return report(trace, wrong, again, desks) if wrong else None
 
@@ -134,7 +134,7 @@ def job_a(seed: int, desks: list[Program], totals: Totals, option: str = "") -> 
     again = "./compare --kind a --seed %d%s" % (seed, option)
 
     def run() -> str | None:
-        return compare_trace(one_node(seed), again, desks, totals)
+        return compare_trace(one_node(seed), "a", again, desks, totals)
     return Job("a", run)
 
 
@@ -144,7 +144,7 @@ def job_b(seed: int, desks: list[Program], totals: Totals, option: str = "") -> 
     def run() -> str | None:
         pair = two_nodes(seed)
         totals.add_pair(pair)
-        found = [compare_trace(side.trace, again, desks, totals) for side in pair.sides]
+        found = [compare_trace(side.trace, "b", again, desks, totals) for side in pair.sides]
         if pair.broken:
             # the play has stopped there, so the streams are no longer than they must be
             paths = [save(side.trace.name, bytes(side.trace.stream), side.trace.text()) for side in pair.sides]
@@ -161,7 +161,8 @@ def job_c(name: str, desks: list[Program], totals: Totals, option: str = "") -> 
             made = corners.CORNERS[name]()
         except (corners.Unexpected, history.Broken) as wrong:
             return "the model's answer is not the one by hand: %s\nagain: %s" % (wrong, again)
-        return "\n".join(filter(None, [compare_trace(trace, again, desks, totals) for trace in made])) or None
+        found = [compare_trace(trace, "c", again, desks, totals) for trace in made]
+        return "\n".join(filter(None, found)) or None
     return Job("c", run)
 
 

@@ -333,7 +333,7 @@ def sample():
 def gaps(trace):
     """Calls, refusals and changes of state that a sample should show and this one does not."""
     totals = coverage.Totals()
-    totals.add_trace(trace)
+    totals.add_trace(trace, "c")
     return [name for name in totals.missing() if name not in coverage.EVENTS]
 
 

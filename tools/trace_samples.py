@@ -204,7 +204,7 @@ def failing() -> list[Sample]:
 @sample
 def readings() -> list[Sample]:
     """A window that is written as 0: nine readings are to go down at once, and it takes eight of them. The first is
-    lost; the ground holds the seven behind it and delivers all eight when the first comes again. Then the ninth goes."""
+    lost; the ground holds the seven behind it and delivers all eight when that comes again. Then the ninth goes."""
     net = link()
     ground, pedestal = net.ground, net.pedestal
     ground.open(RECEIVER)

@@ -23,6 +23,7 @@ def acks_at_failing(t: Corner) -> None:
     t.given(tx(retries=0, timeout=3))
     failing(t)
     t.ignores(0, 4)  # never handed out
+    t.ignores(0, 5)  # outside the window
     t.passes(0, 3, 0)  # its timer stops
     t.ignores(0, 3)
     t.passes(0, 1, 1)  # ended, but not yet acknowledged
