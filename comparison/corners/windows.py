@@ -3,15 +3,21 @@ from comparison.corners.corner import Corner, corner, rx, tx
 from comparison.model import ACKNOWLEDGE
 
 
+def one_is_in(t: Corner, window: int, start: int, *sequences: int) -> None:
+    """Numbers come to a receiver whose window stands at a start; all are acknowledged, and one of them is held."""
+    t.given(rx(window=window, largest=3))
+    t.up(0)
+    t.deliver(0, 1, start - 1)
+    for sequence in sequences:
+        t.data(0, sequence, b"%d" % sequence)
+        t.out(0, ACKNOWLEDGE, sequence)
+    t.reset(0, held=1)
+
+
 @corner
 def window_past_255(t: Corner) -> None:
     """Start 250, W 16: 9 is in, 10 and 249 are out."""
-    t.given(rx(window=16, largest=3))
-    t.up(0)
-    t.deliver(0, 1, 249)
-    for sequence in (10, 249, 9):
-        t.data(0, sequence, b"%d" % sequence)
-    t.reset(0, held=1)
+    one_is_in(t, 16, 250, 10, 249, 9)
 
 
 @corner
@@ -31,14 +37,8 @@ def senders_window_past_255(t: Corner) -> None:
 
 @corner
 def window_written_as_0(t: Corner) -> None:
-    """It is 8. Start 250: 1 is in, 2 and 249 are out; all are acknowledged, so 2 is lost where the sender has more."""
-    t.given(rx(window=0, largest=3))
-    t.up(0)
-    t.deliver(0, 1, 249)
-    for sequence in (2, 249, 1):
-        t.data(0, sequence, b"%d" % sequence)
-        t.out(0, ACKNOWLEDGE, sequence)
-    t.reset(0, held=1)
+    """It is 8. Start 250: 1 is in, 2 and 249 are out; 2 is acknowledged too, and lost where the sender has more."""
+    one_is_in(t, 0, 250, 2, 249, 1)
 
 
 @corner
@@ -65,14 +65,8 @@ def window_of_one(t: Corner) -> None:
 
 @corner
 def window_of_128(t: Corner) -> None:
-    """Start 200: 71 is in, 72 is out."""
-    t.given(rx(window=128, largest=3))
-    t.up(0)
-    t.deliver(0, 1, 199)
-    for sequence in (71, 72, 199):
-        t.data(0, sequence, b"%d" % sequence)
-        t.out(0, ACKNOWLEDGE, sequence)
-    t.reset(0, held=1)
+    """Start 200: 71 is in, 72 and 199 are out."""
+    one_is_in(t, 128, 200, 71, 72, 199)
 
 
 @corner
