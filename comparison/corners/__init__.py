@@ -16,6 +16,7 @@ from comparison.corners import slots
 from comparison.corners import addresses
 from comparison.corners import timers
 from comparison.corners import windows
+from comparison.corners import two_windows
 from comparison.corners import turn_too_far
 from comparison.corners import endings
 

@@ -1,6 +1,7 @@
 """The turn too far: two nodes, and old data that comes again late, with demand 3's history beside them."""
 from comparison import history, model
-from comparison.corners.corner import OWN, PROTOCOL, REMOTE, Corner, Unexpected, double, rx, tx
+from comparison.corners.corner import Corner, Unexpected, double
+from comparison.corners.linked import handed_out, open_both, take_in
 
 
 def turn(name: str, last: int) -> tuple[list[Corner], history.Channel]:
@@ -8,7 +9,7 @@ def turn(name: str, last: int) -> tuple[list[Corner], history.Channel]:
 
     Gives both traces and the channel's history."""
     a, b, channel = Corner(name + ".A"), Corner(name + ".B"), history.Channel(name, 16)
-    open_both(a, b, channel)
+    open_both(a, b, channel, 16, 16)
     sent = []
     for number in range(1, 263):
         payload = b"move %d" % number
@@ -23,33 +24,6 @@ def turn(name: str, last: int) -> tuple[list[Corner], history.Channel]:
             channel.hand_out_ack(handed_out(b))  # this acknowledgement is lost
         channel.check()
     return [a, b], channel
-
-
-def open_both(a: Corner, b: Corner, channel: history.Channel) -> None:
-    a.ok(a.setup, OWN, PROTOCOL, [tx(channel=5, window=16)])
-    b.ok(b.setup, REMOTE, PROTOCOL, [rx(channel=5, window=16, remote=OWN)])
-    b.ok(b.open, 0)
-    a.ok(a.open, 0)
-    channel.begin()
-    reset = channel.hand_out_reset(handed_out(a))
-    b.ok(b.arrival, reset.frame, gives=[model.TOOK_RESET, 0, 0])
-    channel.take_reset(reset.run, reset.number)
-    a.ok(a.arrival, channel.hand_out_ack(handed_out(b)).frame, gives=[model.OPENED, 0])
-    channel.opened()
-
-
-def handed_out(t: Corner) -> bytes:
-    frame = bytes(t.hand_out().fields[1:])
-    t.ok(t.report)
-    return frame
-
-
-def take_in(b: Corner, channel: history.Channel, carried: history.Carried) -> None:
-    """Data whose premise is asked, and which is taken in all the same."""
-    if channel.premise(carried) == history.FAR_DATA:
-        channel.break_premise()
-    answer = b.arrival(carried.frame)
-    channel.take_data(carried.run, carried.number, model.payloads_of(bytes(answer.fields[3:])))
 
 
 @double
