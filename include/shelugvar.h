@@ -120,7 +120,7 @@ enum shelugvar_window_answer {
 #define SHELUGVAR_ADDRESS_MOST 254   /* the same */
 #define SHELUGVAR_PROTOCOL_ID 238    /* what our stations' tables have; a table may have any but 0 */
 #define SHELUGVAR_RETRIES_MOST 255   /* M of a sender: how often a frame goes out again before the sender fails */
-#define SHELUGVAR_WINDOW_DEFAULT 8   /* W where the table has 0 */
+#define SHELUGVAR_WINDOW_DEFAULT 8   /* W where the table has 0; up to version 0.3 it was 16 */
 #define SHELUGVAR_WINDOW_MOST 128    /* W is a number with one bit set, 1 to 128 */
 #define SHELUGVAR_PAYLOAD_MOST 32768 /* P of an entry, in bytes, as far as the store goes */
 #define SHELUGVAR_TIMEOUT_MOST 65535 /* T of a sender, in ticks; at least 1 */
