@@ -57,7 +57,7 @@ class Totals:
     """What was compared so far."""
 
     def __init__(self) -> None:
-        self.kinds: dict[str, collections.Counter[str]] = collections.defaultdict(collections.Counter)  # by ./compare's
+        self.kinds: dict[str, collections.Counter[str]] = collections.defaultdict(collections.Counter)  # of traces
         self.by_hand: dict[str, list[Trace]] = collections.defaultdict(list)  # by event, the corners that reach it
         self.seen: model.Seen = collections.Counter()
         self.pairs = self.wild = 0

@@ -16,6 +16,7 @@ from comparison.one_node import one_node
 from comparison.trace import Trace
 from comparison.two_nodes import two_nodes
 
+SEEDS, PAIRS = 60, 12  # seeds of one node and of two that tests/traces runs, and docs/COVERAGE.md shows
 SAVED = os.path.join(programs.ROOT, "target", "compare")
 OUR_DESK = os.path.join(programs.ROOT, "crates", "desk", "src", "main.rt")
 
