@@ -196,9 +196,34 @@ static void before_send(void)
 static int batch_send(void)
 {
     int refused = 0;
-    for (unsigned k = 0; k < batch_length; k++)
+    for (unsigned k = 0; k < window; k++)
         refused |= send_one(0);
     return refused;
+}
+
+/* A plan of as many payloads as the window has numbers, in the block; then the same by single sends. */
+static void before_plan(void)
+{
+    size_t at = 6 + 4 * window;
+
+    open_both();
+    batch_length = 1;
+    memcpy(block, (const uint8_t[2]){0, (uint8_t)window}, 2);
+    for (unsigned k = 0; k <= window; k++, at += size)
+        memcpy(block + 2 + 4 * k, (const uint8_t[4]){0, 0, (uint8_t)(at >> 8), (uint8_t)at}, 4);
+}
+
+static int batch_plan(void)
+{
+    return node_plans(&here, here_store, STORE, 0, block, 6 + window * (4 + size));
+}
+
+/* Every number is taken, and each goes out. */
+static void after_plan(void)
+{
+    must(send_one(0) == 7, "the window is full");
+    for (unsigned k = 0; k < window; k++)
+        must(out_of_here() == size + 9, "hand out");
 }
 
 /* A batch of one call each on copies of a node. */
@@ -438,6 +463,8 @@ static const struct row {
     {"read", before_reads, batch_reads, after_nothing},
     {"write", before_writes, batch_writes, after_nothing},
     {"send", before_send, batch_send, after_nothing},
+    {"sends", before_plan, batch_send, after_plan},
+    {"plan", before_plan, batch_plan, after_plan},
     {"hand_out", before_hand_out, batch_hand_out, after_nothing},
     {"report", before_report, batch_report, after_report},
     {"report_acknowledge", before_report_acknowledge, batch_report, after_report_acknowledge},

@@ -26,8 +26,11 @@ Case = collections.namedtuple("Case", "label row window entries payload timers",
 FRAMES = [Case("frame %s, %s bytes" % (row, format(n, ",")), row, 16, 1, n)
           for row in ("read", "write") for n in (16, 256, 4096)]
 ROUND_TRIP = "round trip and reports, 16 bytes, W 16"
+SINGLY, AT_ONCE = "64 sends, 16 bytes each", "plan of 64 payloads, 16 bytes each"
 CALLS = [
     Case("send, 16 bytes", "send", 128, 1, 16),
+    Case(SINGLY, "sends", 64, 1, 16),
+    Case(AT_ONCE, "plan", 64, 1, 16),
     Case("hand out Data, 16 bytes", "hand_out", 128, 1, 16),
     Case("report of Data, its timer starts", "report", 128, 1, 16),
     Case("report of an Acknowledge", "report_acknowledge", 128, 1, 16),
@@ -153,6 +156,13 @@ def show_check_byte(results):
     print("%-40s %10s %+10.0f, %.2f times\n" % ("and as measured", "", peer - by_table, peer / by_table))
 
 
+def show_plan(results):
+    """What a plan saves beside as many sends: the end point is found, loaded and saved once."""
+    singly, at_once = results[SINGLY][0][:BY_TABLE], results[AT_ONCE][0][:BY_TABLE]
+    print("A plan beside as many sends: product %.2f of their instructions, peer %.2f; %d and %d saved"
+          % (*(b / a for a, b in zip(singly, at_once)), *(a - b for a, b in zip(singly, at_once))))
+
+
 # ---- the picture: a panel for each of ROUND_TRIPS, instructions a payload against what grows, both on scales that
 # double; and one for a tick
 
@@ -244,6 +254,7 @@ def main():
         for growth in growths:
             show("Growth with %s, %s" % (growth.title, of_what), labels(growth.cases), results)
     show_check_byte(results)
+    show_plan(results)
     with open(to, "w") as file:
         file.write(picture(results))
     for against, which in (("the peer", PEER), ("the peer by a table", BY_TABLE)):

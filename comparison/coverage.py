@@ -7,12 +7,14 @@ from collections.abc import Iterator
 from comparison import history, model
 from comparison.trace import Trace
 from comparison.two_nodes import Pair
+from traces import files
 
 REFUSALS = {
     "table": (0, 1), "open": (0, 2, 4), "close": (0, 2, 4), "counts": (0, 2, 3), "send": (0, 2, 3, 4, 5, 7),
     "urgent": (0, 2, 3, 4, 5, 9), "arrival": (0, 10, 11, 15, 16, 17, 18, 13, 5, 14), "tick": (0,), "hand out": (0, 19),
-    "report": (0, 20),
+    "report": (0, 20), "plan": (0, 22),
 }
+PLAYED = {code: name for code, name in model.CALL_NAMES.items() if code in files.NAMES}  # the calls of a trace file
 TRANSITIONS = ["sender " + way for way in (
     "Closed to Enabled", "Enabled to Open", "Open to Failing", "Failing to Enabled",
     "Enabled to Closed", "Open to Closed", "Failing to Closed")]
@@ -51,6 +53,15 @@ EVENTS += ["report starts nothing: %s, %s meanwhile" % (what, why) for what in (
 EVENTS += ["report starts nothing: data, acknowledged and its slot taken meanwhile"]
 EVENTS += ["Failing goes on for its own frame under way: " + what for what in ("data", "acknowledged data", "Urgent")]
 EVENTS += ["report lets a Failing end recover at the next tick", "recovery while another entry's frame is under way"]
+EVENTS += ["plan malformed: " + fault for fault in (
+    "shorter than 6 bytes", "shorter than its count asks", "a count above 64", "the first offset too low",
+    "the first offset too high", "an offset falls", "the last offset before the end", "the last offset beyond the end")]
+EVENTS += ["plan stopped by %d at its first payload" % n for n in (2, 3, 4)]
+EVENTS += ["plan stopped by %d at %s payload" % (n, where)
+           for n in (5, 7) for where in ("its first", "a middle", "its last")]
+EVENTS += ["plan empty", "plan empty, at an index of no entry"]
+EVENTS += ["plan accepted whole", "plan accepted whole fills the window", "plan of 64 payloads accepted whole"]
+EVENTS += ["plan's numbers fold", "plan accepted while a frame is under way"]
 
 
 class Totals:
@@ -104,10 +115,8 @@ class Totals:
 
     def unplayed(self) -> list[str]:
         """The calls and refusals that a trace can show and that no file showed."""
-        codes = {name: code for code, name in model.CALL_NAMES.items()}
         return ["%s refused with %d in a trace file" % (name, n)
-                for name, numbers in REFUSALS.items() if name != "counts"
-                for n in numbers if not self.replayed[(codes[name], n)]]
+                for code, name in PLAYED.items() for n in REFUSALS[name] if not self.replayed[(code, n)]]
 
     def missing(self) -> list[str]:
         """What was to be reached and was not."""
@@ -129,7 +138,7 @@ class Totals:
     # the table
 
     def refusal_rows(self, seen: model.Seen, names: dict[int, str]) -> Iterator[str]:
-        numbers = [n for n in range(21) if n != 12]  # 12 is given no more
+        numbers = [n for n in range(23) if n not in (12, 21)]  # 12 is given no more, and 21 by no call
         yield "refusal   " + "".join("%8d" % n for n in numbers)
         for code, name in names.items():
             counts = [seen[(code, n)] if n in REFUSALS[name] else "." for n in numbers]
@@ -158,8 +167,7 @@ class Totals:
         """The trace files' part of the table."""
         print("\n%d trace files, %d of them refused with 21; %d lines. Their calls by refusal number:"
               % (self.files, self.refused, self.lines))
-        names = {code: name for code, name in model.CALL_NAMES.items() if code != model.COUNTS_CALL}
-        for row in self.refusal_rows(self.replayed, names):
+        for row in self.refusal_rows(self.replayed, PLAYED):
             print(row)
         for name in self.unplayed() if gaps else ():
             print("NOT REACHED: " + name)

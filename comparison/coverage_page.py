@@ -1,5 +1,5 @@
-"""The tables of docs/COVERAGE.md, from what ./compare reached. Each stands between two marks with its name; the words
-around them are written by hand and have no counts in them."""
+"""The tables of docs/COVERAGE.md, from what ./compare and tests/long_runs reached. Each stands between two marks with
+its name; the words around them are written by hand and have no counts in them."""
 from __future__ import annotations
 
 import os
@@ -7,7 +7,7 @@ import re
 from collections.abc import Iterable
 
 from comparison import history, model, programs
-from comparison.coverage import EVENTS, REFUSALS, TRANSITIONS, Totals
+from comparison.coverage import EVENTS, PLAYED, REFUSALS, TRANSITIONS, Totals
 
 PAGE = os.path.join(programs.ROOT, "docs", "COVERAGE.md")
 KINDS = {"c": "corners by hand (`comparison/corners/`)", "a": "one node under random calls and damaged frames",
@@ -69,15 +69,27 @@ def events(totals: Totals) -> str:
 
 
 def files(totals: Totals) -> str:
-    names = {code: name for code, name in model.CALL_NAMES.items() if code != model.COUNTS_CALL}
     head = table(("trace files", "of them refused with 21", "lines"), [[totals.files, totals.refused, totals.lines]])
-    return head + "\n" + refusals(totals.replayed, names)
+    return head + "\n" + refusals(totals.replayed, PLAYED)
+
+
+def long_runs(said: str) -> str:
+    """What tests/long_runs said: how much in its first line, then how often it reached what."""
+    first, *others = said.splitlines()[:-1]
+    much = [part.split(" ", 1) for part in first.split(", ")]
+    reached = (line.split(None, 1) for line in others)
+    return (table((what for _, what in much), [[int(number) for number, _ in much]]) + "\n"
+            + table(("event", "times"), ([event, int(times)] for times, event in reached)))
 
 
 def write(totals: Totals) -> None:
-    """Puts the tables into the page."""
-    made = {"traces": traces(totals), "refusals": refusals(totals.seen, model.CALL_NAMES), "states": states(totals),
-            "promise": promise(totals), "premises": premises(totals), "events": events(totals), "files": files(totals)}
+    """Puts what ./compare reached into the page."""
+    put({"traces": traces(totals), "refusals": refusals(totals.seen, model.CALL_NAMES), "states": states(totals),
+         "promise": promise(totals), "premises": premises(totals), "events": events(totals), "files": files(totals)})
+
+
+def put(made: dict[str, str]) -> None:
+    """Puts tables into the page, each in its place."""
     with open(PAGE, encoding="utf-8") as file:
         text = file.read()
     for name, content in made.items():

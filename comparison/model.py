@@ -20,7 +20,7 @@ SORTS = ACKS, RESETS, URGENTS, AGAIN, FIRST = range(5)
 SORT_NAMES = ("acknowledgement", "Reset", "Urgent", "retransmission", "data")
 # the desk's kinds of record
 TABLE_CALL, OPEN_CALL, CLOSE_CALL, SEND_CALL, URGENT_CALL, ARRIVAL_CALL, TICK_CALL, HAND_OUT_CALL = range(1, 9)
-REPORT_CALL = 9
+REPORT_CALL, PLAN_CALL = 9, 10
 COUNTS_CALL = 20
 
 DEFAULT_WINDOW = 8  # what a window of 0 stands for (02, K5)
@@ -29,8 +29,10 @@ MOST_STORE = 32768
 MOST_PAYLOAD = 65520
 MOST_ACCEPTED = 4294967295
 MOST_ACKS = 32
+MOST_PLANNED = 64
 MOST_STREAM = 65536
 OVERHEAD = 9
+EMPTY_BLOCK = 6  # bytes of a block of no payloads
 POLYNOMIAL = 0x107  # x^8 + x^2 + x + 1
 CHECK_START = 0xFF
 
@@ -101,9 +103,14 @@ def faults_of(control: int, length: int, sequence: int) -> list[int]:
     return [fault for fault, fits in tests if fits]
 
 
+def first_payload(count: int) -> int:
+    """Where the payloads of a block start: right after its offsets."""
+    return EMPTY_BLOCK + 4 * count
+
+
 def block(payloads: Sequence[bytes]) -> bytes:
     """The host's block: count, offsets, payloads."""
-    at = 2 + 4 * (len(payloads) + 1)
+    at = first_payload(len(payloads))
     out = two(len(payloads)) + at.to_bytes(4, "big")
     for payload in payloads:
         at += len(payload)
@@ -111,11 +118,32 @@ def block(payloads: Sequence[bytes]) -> bytes:
     return out + b"".join(payloads)
 
 
+def offsets_of(data: bytes) -> list[int]:
+    """One more than a block counts: the last is its end."""
+    count = int.from_bytes(data[:2], "big")
+    return [int.from_bytes(data[2 + 4 * k:6 + 4 * k], "big") for k in range(count + 1)]
+
+
 def payloads_of(data: bytes) -> list[bytes]:
     """What a block holds: the other way round."""
+    at = offsets_of(data)
+    return [data[start:end] for start, end in zip(at, at[1:])]
+
+
+def faults_of_plan(data: bytes) -> list[str]:
+    """What in a plan's block is against its form (02, K6). One that is too short has no offsets to ask about."""
+    if len(data) < EMPTY_BLOCK:
+        return ["shorter than 6 bytes"]
     count = int.from_bytes(data[:2], "big")
-    at = [int.from_bytes(data[2 + 4 * k:6 + 4 * k], "big") for k in range(count + 1)]
-    return [data[at[k]:at[k + 1]] for k in range(count)]
+    faults = ["a count above 64"] if count > MOST_PLANNED else []
+    first, end = first_payload(count), len(data)
+    if end < first:
+        return faults + ["shorter than its count asks"]
+    at = offsets_of(data)
+    tests = (("the first offset too low", at[0] < first), ("the first offset too high", at[0] > first),
+             ("an offset falls", any(later < earlier for earlier, later in zip(at, at[1:]))),
+             ("the last offset before the end", at[-1] < end), ("the last offset beyond the end", at[-1] > end))
+    return faults + [fault for fault, fits in tests if fits]
 
 
 # 2. THE CHANNEL TABLE (01, "The channel table")
@@ -431,6 +459,51 @@ class Node:
         self.wait(FIRST, index, number)
         return []
 
+    def plan(self, index: int, data: bytes) -> list[int]:
+        """How many of a block's payloads were accepted, and the refusal that stopped the rest or 0 (02, K6). Such a
+        stop is no refused call: what was accepted before it stays, and nothing is counted as a send's refusal."""
+        self.refuse_malformed(faults_of_plan(data))
+        payloads = payloads_of(data)
+        accepted, stopped = self.send_all(index, payloads)
+        self.count_plan(index, len(payloads), accepted, stopped)
+        return [accepted, stopped]
+
+    def refuse_malformed(self, faults: list[str]) -> None:
+        """Before everything, the index too. A fault is counted where it is the only one: else another could be what the
+        block was refused for."""
+        if len(faults) == 1:
+            self.seen["plan malformed: " + faults[0]] += 1
+        refuse_if(faults, 22)
+
+    def send_all(self, index: int, payloads: list[bytes]) -> tuple[int, int]:
+        """Single sends in order, up to and including the first that is refused; of no payloads none is made."""
+        for accepted, payload in enumerate(payloads):
+            try:
+                self.send(index, payload)
+            except Refused as refused:
+                return accepted, refused.number
+        return len(payloads), 0
+
+    def count_plan(self, index: int, count: int, accepted: int, stopped: int) -> None:
+        """What became of a plan, for coverage."""
+        if not count:
+            self.seen["plan empty" if index < len(self.ends) else "plan empty, at an index of no entry"] += 1
+        elif stopped:
+            where = "its first" if not accepted else "its last" if accepted + 1 == count else "a middle"
+            self.seen["plan stopped by %d at %s payload" % (stopped, where)] += 1
+        else:
+            self.seen["plan accepted whole"] += 1
+            self.seen["plan of 64 payloads accepted whole"] += count == MOST_PLANNED
+        if accepted:
+            self.count_planned(self.sender(index), accepted, stopped)
+
+    def count_planned(self, end: Sender, accepted: int, stopped: int) -> None:
+        """What became of the payloads that were accepted, for coverage."""
+        self.seen["plan accepted whole fills the window"] += len(end.taken) == end.entry.window and not stopped
+        sequences = [number.sequence for number in end.taken[len(end.taken) - accepted:]]
+        self.seen["plan's numbers fold"] += 0 in sequences[1:]
+        self.seen["plan accepted while a frame is under way"] += self.under_way is not None
+
     def urgent(self, index: int, payload: bytes) -> list[int]:
         end = self.sender(index)
         refuse_if(end.state != OPEN, 4)
@@ -723,11 +796,13 @@ CALLS: dict[int, Callable[[Node, int, bytes], list[int]]] = {
     TICK_CALL: lambda node, index, data: node.tick(),
     HAND_OUT_CALL: lambda node, index, data: node.hand_out(),
     REPORT_CALL: lambda node, index, data: node.report(),
+    PLAN_CALL: lambda node, index, data: node.plan(index, data),
     COUNTS_CALL: lambda node, index, data: node.counts(index),
 }
 CALL_NAMES = {
     TABLE_CALL: "table", OPEN_CALL: "open", CLOSE_CALL: "close", SEND_CALL: "send", URGENT_CALL: "urgent",
-    ARRIVAL_CALL: "arrival", TICK_CALL: "tick", HAND_OUT_CALL: "hand out", REPORT_CALL: "report", COUNTS_CALL: "counts",
+    ARRIVAL_CALL: "arrival", TICK_CALL: "tick", HAND_OUT_CALL: "hand out", REPORT_CALL: "report", PLAN_CALL: "plan",
+    COUNTS_CALL: "counts",
 }
 
 

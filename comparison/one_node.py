@@ -5,9 +5,10 @@ import random
 from collections.abc import Callable
 
 from comparison import model
+from comparison.blocks import broken_blocks
 from comparison.model import ACKNOWLEDGE, DATA, ENABLED, FAILING, OPEN, RESET, URGENT, Answer, AnyEnd, Sender
 from comparison.tables import broken_tables, random_table
-from comparison.trace import Full, Trace, from_remote
+from comparison.trace import Full, Trace, delivered, from_remote
 
 
 class Player:
@@ -16,6 +17,7 @@ class Player:
     def __init__(self, rng: random.Random, trace: Trace) -> None:
         self.rng, self.trace = rng, trace
         self.frames = [b"\0" * 9]  # seen on the wire in either direction
+        self.blocks = [model.block([])]  # that arrivals delivered; one with no payload is enough
         self.focus = 0
         self.lost_for = 0  # moves for which the port's reports are lost
 
@@ -110,7 +112,8 @@ class Player:
         frame = self.frame()
         if len(frame) <= self.trace.room():
             self.frames = self.frames[-40:] + [frame]
-            self.trace.arrival(frame)
+            block = delivered(self.trace.arrival(frame))
+            self.blocks = self.blocks[-8:] + [block] if len(block) > model.EMPTY_BLOCK else self.blocks
 
     def hand_out(self) -> None:
         """Mostly the frame's end is reported at once, else by a later move, and now and then ticks pass first. While a
@@ -147,10 +150,35 @@ class Player:
             return focus if focus in good and self.rng.random() < 0.8 else self.rng.choice(good)
         return self.index()
 
+    def largest(self, index: int) -> int:
+        """An entry's P, or one to try where there is no entry."""
+        ends = self.trace.node.ends
+        return ends[index].entry.largest if index < len(ends) else 4
+
     def give(self, call: Callable[[int, bytes], Answer]) -> None:
         """A send or an Urgent."""
-        index, ends = self.sender(), self.trace.node.ends
-        call(index, self.payload(ends[index].entry.largest if index < len(ends) else 4))
+        index = self.sender()
+        call(index, self.payload(self.largest(index)))
+
+    def payloads(self, index: int) -> list[bytes]:
+        """Of a plan: as many as the window has left, one more, a few, or any number up to the most that there may be
+        and one more."""
+        rng, ends = self.rng, self.trace.node.ends
+        end = ends[index] if index < len(ends) else None
+        left = min(model.MOST_PLANNED, end.entry.window - len(end.taken)) if isinstance(end, Sender) else 0
+        count = rng.choice((left, left + 1, left + 1, rng.randint(0, 8), rng.randint(1, 8)))
+        if rng.random() < 0.05:
+            count = rng.choice((model.MOST_PLANNED, model.MOST_PLANNED + 1, rng.randint(0, model.MOST_PLANNED)))
+        return [self.payload(self.largest(index)) for _ in range(count)]
+
+    def plan(self) -> None:
+        """Now and then what a receiver wrote is handed on, and now and then a rule of the block is broken."""
+        rng, index = self.rng, self.sender()
+        block = rng.choice(self.blocks) if rng.random() < 0.2 else model.block(self.payloads(index))
+        if rng.random() < 0.15:
+            block = rng.choice(list(broken_blocks(block)))[1]
+        if len(block) <= self.trace.room():
+            self.trace.plan(index, block)
 
     def open_some(self) -> None:
         for index in range(len(self.trace.node.ends)):
@@ -195,7 +223,7 @@ class Player:
         trace = self.trace
         moves: list[tuple[float, Callable[[], object]]] = [
             (40, self.arrive), (34, self.hand_out), (20, self.report), (0.3, self.lose_reports),
-            (20, lambda: self.give(trace.send)), (3, lambda: self.give(trace.urgent)), (7, trace.tick),
+            (20, lambda: self.give(trace.send)), (3, lambda: self.give(trace.urgent)), (2, self.plan), (7, trace.tick),
             (0.6, self.wait), (2, lambda: trace.counts(self.index())), (2, lambda: trace.open(self.index())),
             (0.6, self.close), (3, self.look_elsewhere), (0.3, self.flood), (0.15, self.begin_anew)]
         self.lost_for = max(0, self.lost_for - 1)
@@ -205,13 +233,13 @@ class Player:
 def stray_end(rng: random.Random, trace: Trace) -> None:
     """Now and then a stream ends badly."""
     roll, number = rng.random(), len(trace.lines) + 1
-    record = bytes((rng.choice((1, 4, 6, 7, 8, 9, 20)), rng.randrange(3), 0, 5)) + rng.randbytes(5)
+    record = bytes((rng.choice((1, 4, 6, 7, 8, 9, 10, 20)), rng.randrange(3), 0, 5)) + rng.randbytes(5)
     if len(trace.stream) + len(record) > model.MOST_STREAM or roll < 0.8:
         return
     if roll < 0.9:
         trace.end_with(record[:rng.randint(1, 8)], "torn %d\n" % number)
     else:
-        kind = rng.choice((0, 10, 19, 21, rng.randint(22, 255)))
+        kind = rng.choice((0, 11, 19, 21, rng.randint(22, 255)))
         trace.end_with(bytes((kind,)) + record[1:], "unknown %d\n" % number)
 
 

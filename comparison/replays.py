@@ -42,20 +42,32 @@ def replay(data: bytes, seen: model.Seen | None = None) -> str:
 # 2. GOOD FILES BY SEED
 
 
+def calls_of(kind: int, index: int, data: bytes, line: str) -> list[Record]:
+    """A record of a desk as calls of a trace, which has no counts and no plans: a plan is the single sends that were
+    made of it (02, K6), which its line tells."""
+    if kind == model.PLAN_CALL:
+        refusal, *fields = map(int, line.split()[2:])
+        made = 0 if refusal else fields[0] + (fields[1] > 0)
+        return [Record(files.SEND, index, payload) for payload in model.payloads_of(data)[:made]]
+    if kind not in files.NAMES:
+        return []
+    return [Record(kind, index if kind in files.TAKES_INDEX else 0, data if kind in files.TAKES_BYTES else b"")]
+
+
 def recorded(trace: Trace) -> bytes:
     """The file of a desk's stream: from its first table that is not refused to the next one, or to where a file is
-    full; counts are no calls of a trace."""
+    full."""
     found: list[Record] = []
     size = files.HEADER
     for (kind, index, data, _), line in zip(model.records(bytes(trace.stream)), trace.lines):
         if kind == files.TABLE and found:
             break
-        record = Record(kind, index if kind in files.TAKES_INDEX else 0, data if kind in files.TAKES_BYTES else b"")
-        size += len(record.packed())
-        if size > files.MOST_BYTES or len(found) == files.MOST_RECORDS:
+        calls = calls_of(kind, index, data, line)
+        size += sum(len(call.packed()) for call in calls)
+        if size > files.MOST_BYTES or len(found) + len(calls) > files.MOST_RECORDS:
             break
-        if kind in files.NAMES and (found or kind == files.TABLE and line.split()[2] == "0"):
-            found.append(record)
+        if found or kind == files.TABLE and line.split()[2] == "0":
+            found += calls
     return files.pack(found)
 
 
@@ -196,6 +208,12 @@ def a_report_with_bytes() -> Case:
 @case
 def a_kind_behind_the_last() -> Case:
     return files.pack([table(), Record(10)]), REFUSED
+
+
+@case
+def a_plan() -> Case:
+    """The desk's kind 10 (K6) is no call of a trace, though its block is good."""
+    return files.pack([table(tx()), Record(model.PLAN_CALL, 0, model.block([b"a"]))]), REFUSED
 
 
 @case

@@ -61,6 +61,9 @@ class Trace:
         """The port reports the end of the frame under way."""
         return self.record(model.REPORT_CALL)
 
+    def plan(self, index: int, block: bytes) -> Answer:
+        return self.record(model.PLAN_CALL, index, block)
+
     def counts(self, index: int) -> Answer:
         return self.record(model.COUNTS_CALL, index)
 
@@ -74,6 +77,12 @@ class Trace:
 
     def text(self) -> str:
         return "".join(self.lines) + self.tail
+
+
+def delivered(answer: Answer) -> bytes:
+    """The block that an arrival gave the host, no bytes where it gave none."""
+    gives = answer.refusal == 0 and answer.fields[0] in (model.TOOK_DATA, model.TOOK_URGENT)
+    return bytes(answer.fields[3:] if gives else ())
 
 
 def from_remote(node: Node, end: AnyEnd, control: int, sequence: int, payload: bytes = b"") -> bytes:

@@ -8,9 +8,10 @@ from typing import NamedTuple
 
 from comparison import history, model
 from comparison.model import ACKNOWLEDGE, CLOSED, DATA, OPEN, RECEIVES, RESET, SENDS, URGENT, Entry, Receiver, Sender
+from comparison.blocks import broken_blocks
 from comparison.history import Carried, Channel
 from comparison.tables import WINDOWS
-from comparison.trace import Full, Trace
+from comparison.trace import Full, Trace, delivered
 
 # how a link behaves: the chance of losing, repeating, damaging a frame; of laying a copy aside and of bringing such an
 # old one back; among how many on the link one is picked
@@ -54,7 +55,7 @@ class Side:
         self.trace = Trace(name)
         self.own = own
         self.link = Link(rng)
-        self.plans: list[Plan | None] = []  # of each entry, None of a stranger's
+        self.routes: list[Route | None] = []  # of each entry, None of a stranger's
         self.sending: dict[int, Channel] = {}  # by entry index
         self.receiving: dict[int, Channel] = {}
         self.loads: list[int] = []  # how much traffic each of those that send has
@@ -73,7 +74,7 @@ class Side:
         return None
 
 
-class Plan(NamedTuple):
+class Route(NamedTuple):
     """A channel between the two: which way, and what its entries say."""
     up: bool
     number: int
@@ -83,20 +84,20 @@ class Plan(NamedTuple):
     timeout: int
 
 
-def plan_channels(rng: random.Random, steady: bool) -> list[Plan]:
+def choose_routes(rng: random.Random, steady: bool) -> list[Route]:
     """Channels in both directions. In a steady pair the first of each, which has most of the traffic, seldom fails."""
-    plans: list[Plan] = []
+    routes: list[Route] = []
     for up in (True, False):
         for number in rng.sample(range(256), rng.choice((1, 1, 2, 2, 3))):
-            busy = steady and all(plan.up != up for plan in plans)
+            busy = steady and all(route.up != up for route in routes)
             window = rng.choice(WINDOWS[4:] if busy else WINDOWS)
             retries = rng.choice((3, 6, 255) if busy else (0, 1, 2, 3))
             timeout = rng.choice((8, 20) if busy else (2, 4, 8))
-            plans.append(Plan(up, number, window, rng.choice((1, 2, 3, 4)), retries, timeout))
-    if rng.random() < 0.3 and all(plan.number != plans[0].number for plan in plans[1:]):
+            routes.append(Route(up, number, window, rng.choice((1, 2, 3, 4)), retries, timeout))
+    if rng.random() < 0.3 and all(route.number != routes[0].number for route in routes[1:]):
         # a number may serve once in each direction
-        plans[-1] = plans[-1]._replace(number=plans[0].number)
-    return plans
+        routes[-1] = routes[-1]._replace(number=routes[0].number)
+    return routes
 
 
 class Pair:
@@ -111,6 +112,7 @@ class Pair:
         a, b = rng.sample(range(32, 255), 2)
         self.sides = [Side("b%d.%s" % (seed, name), rng, own) for name, own in (("A", a), ("B", b))]
         self.channels: list[Channel] = []
+        self.blocks = [model.block([])]  # that arrivals at either node delivered; one with no payload is enough
         # premise: how often the link would have broken it and was kept from it; how often it was broken
         self.withheld: collections.Counter[str] = collections.Counter()
         self.breaks: collections.Counter[str] = collections.Counter()
@@ -122,25 +124,25 @@ class Pair:
     # tables
 
     def set_up(self, protocol: int) -> None:
-        plans = plan_channels(self.rng, self.steady)
+        routes = choose_routes(self.rng, self.steady)
         for here, side in enumerate(self.sides):
             remote = self.sides[1 - here].own
-            rows = [(self.entry_of(plan, plan.up == (here == 0), remote), plan) for plan in plans] + self.strangers()
+            rows = [(self.entry_of(r, r.up == (here == 0), remote), r) for r in routes] + self.strangers()
             self.rng.shuffle(rows)
             side.trace.setup(side.own, protocol, [entry for entry, _ in rows])
-            side.plans = [plan for _, plan in rows]
-        for plan in plans:
-            self.join(plan)
+            side.routes = [route for _, route in rows]
+        for route in routes:
+            self.join(route)
         for side in self.sides:
             # one channel of each direction has most of the traffic, so that its numbers fold
             side.loads = [8] + [1] * (len(side.sending) - 1)
 
-    def entry_of(self, plan: Plan, sends: bool, remote: int) -> Entry:
-        retries, timeout = (plan.retries, plan.timeout) if sends else (0, 0)
+    def entry_of(self, route: Route, sends: bool, remote: int) -> Entry:
+        retries, timeout = (route.retries, route.timeout) if sends else (0, 0)
         # both ways of writing the default window
         both = (0, model.DEFAULT_WINDOW)
-        window = self.rng.choice(both) if plan.window in both else plan.window
-        return Entry(SENDS if sends else RECEIVES, remote, plan.number, retries, window, plan.largest, timeout)
+        window = self.rng.choice(both) if route.window in both else route.window
+        return Entry(SENDS if sends else RECEIVES, remote, route.number, retries, window, route.largest, timeout)
 
     def strangers(self) -> list[tuple[Entry, None]]:
         """Entries that lead to a third station, which never answers."""
@@ -151,14 +153,14 @@ class Pair:
             rows.append((Entry(SENDS, remote, channel, 1, 4, 4, 30), None))
         return rows
 
-    def join(self, plan: Plan) -> None:
-        sender, receiver = self.sides if plan.up else self.sides[::-1]
-        name = "channel %d %s" % (plan.number, "up" if plan.up else "down")
-        channel = Channel(name, plan.window or model.DEFAULT_WINDOW)
+    def join(self, route: Route) -> None:
+        sender, receiver = self.sides if route.up else self.sides[::-1]
+        name = "channel %d %s" % (route.number, "up" if route.up else "down")
+        channel = Channel(name, route.window or model.DEFAULT_WINDOW)
         self.channels.append(channel)
         for side, ends, kind in ((sender, sender.sending, Sender), (receiver, receiver.receiving, Receiver)):
-            here = zip(side.plans, side.trace.node.ends)
-            index = [p == plan and isinstance(end, kind) for p, end in here].index(True)
+            here = zip(side.routes, side.trace.node.ends)
+            index = [r == route and isinstance(end, kind) for r, end in here].index(True)
             ends[index] = channel
 
     # the hosts' calls, noted in the histories
@@ -175,14 +177,39 @@ class Pair:
         if index in side.receiving:
             self.breaks[history.HOST_CLOSES] += side.receiving[index].close_receiver()
 
-    def send(self, side: Side, index: int) -> None:
+    def payload(self, side: Side, index: int, ahead: int = 0) -> bytes:
+        """A channel's next payload, or that after so many more."""
         channel, largest = side.sending[index], side.trace.node.ends[index].entry.largest
-        number = 1 + len(channel.accepted)
+        number = 1 + len(channel.accepted) + ahead
         # of two payloads whose numbers are 256 apart, or that have the same number in two runs, the first bytes differ
         body = bytes(((number * 7 + channel.run * 13) % 251,)) + model.two(number) + bytes((channel.run % 256,))
-        payload = body[:self.rng.randint(max(1, largest - 1), largest)]
+        return body[:self.rng.randint(max(1, largest - 1), largest)]
+
+    def send(self, side: Side, index: int) -> None:
+        payload = self.payload(side, index)
         if side.trace.send(index, payload).refusal == 0:
-            channel.accept(payload)
+            side.sending[index].accept(payload)
+
+    def block(self, side: Side, index: int) -> bytes:
+        """Of a plan: payloads that the window has mostly room for, seldom one of a wrong length among them, or what a
+        receiver wrote, handed on; seldom with a rule of the block broken."""
+        rng, end = self.rng, side.trace.node.ends[index]
+        assert isinstance(end, Sender)
+        left = min(model.MOST_PLANNED, end.entry.window - len(end.taken))
+        count = rng.choice((left, left + 1, rng.randint(0, left), rng.randint(0, min(left, 4))))
+        payloads = [self.payload(side, index, ahead) for ahead in range(count)]
+        if payloads and rng.random() < 0.1:
+            payloads[rng.randrange(count)] = rng.choice((b"", bytes(end.entry.largest + 1)))
+        block = rng.choice(self.blocks) if rng.random() < 0.1 else model.block(payloads)
+        return rng.choice(list(broken_blocks(block)))[1] if rng.random() < 0.05 else block
+
+    def plan(self, side: Side, index: int) -> None:
+        """What is accepted of it is noted as that of single sends."""
+        block = self.block(side, index)
+        answer = side.trace.plan(index, block)
+        if answer.refusal == 0:
+            for payload in model.payloads_of(block)[:answer.fields[0]]:
+                side.sending[index].accept(payload)
 
     def counts(self, side: Side, index: int) -> None:
         side.sending[index].counts(*side.trace.counts(index).fields)
@@ -259,7 +286,8 @@ class Pair:
         answer = side.trace.arrival(frame)
         if answer.refusal:
             return
-        channel, what = self.channel_at(side, frame), answer.fields[0]
+        channel, what, block = self.channel_at(side, frame), answer.fields[0], delivered(answer)
+        self.blocks = self.blocks[-8:] + [block] if len(block) > model.EMPTY_BLOCK else self.blocks
         if what == model.OPENED:
             channel.opened()
         elif what == model.ACKNOWLEDGED:
@@ -267,7 +295,7 @@ class Pair:
         elif what == model.TOOK_RESET:
             channel.take_reset(carried.run, carried.number)
         elif what == model.TOOK_DATA:
-            channel.take_data(carried.run, carried.number, model.payloads_of(bytes(answer.fields[3:])))
+            channel.take_data(carried.run, carried.number, model.payloads_of(block))
 
     # the play
 
@@ -295,8 +323,9 @@ class Pair:
         self.weather(number)
         here = rng.randrange(2)
         side, other = self.sides[here], self.sides[1 - here]
-        what = rng.choices(("send", "hand out", "report", "deliver", "tick", "counts", "urgent", "host", "sleep",
-                            "lose reports"), (22, 36, 12, 36, self.ticking, 0.6, 0.6, 0.5, 0.05, 0.03))[0]
+        what = rng.choices(("send", "plan", "hand out", "report", "deliver", "tick", "counts", "urgent", "host",
+                            "sleep", "lose reports"),
+                           (20, 1.2, 36, 12, 36, self.ticking, 0.6, 0.6, 0.5, 0.05, 0.03))[0]
         if what == "hand out":
             # with nothing waiting, or a frame under way, it is worth a record only now and then
             free = any(side.trace.node.waiting) and not side.trace.node.under_way
@@ -321,10 +350,11 @@ class Pair:
         rng = self.rng
         index = rng.choices(list(side.sending), side.loads)[0]
         end = side.trace.node.ends[index]
-        if what == "send":
+        if what in ("send", "plan"):
             free = isinstance(end, Sender) and end.state == OPEN and len(end.taken) < end.entry.window
             if free or rng.random() < 0.03:
-                self.send(side, index)
+                call = self.send if what == "send" else self.plan
+                call(side, index)
         elif what == "urgent":
             side.trace.urgent(index, rng.randbytes(1))
         else:

@@ -1,8 +1,9 @@
-/* A station computer's driver: a plan of moves goes up to the two motors of a pedestal, and their readings come down,
- * four end points over one port. The pedestal is a second node at the other end of a port in memory, which loses every
- * seventh frame. Both drivers do the same in turn: send what is to go, write to the port what waits and report each
- * frame's end when it has left, read from the port what came, tick. Prints how it went; ends with status 1 where a
- * reading is missing or out of order. */
+/* A station computer's driver: a plan of moves goes up to each of the two motors of a pedestal, and their readings come
+ * down, four end points over one port. The moves are known beforehand: all that are left are handed over at once, and
+ * the node accepts as many as its window takes. A reading is sent when there is one. The pedestal is a second node at
+ * the other end of a port in memory, which loses every seventh frame. Both drivers do the same in turn: hand over what
+ * is to go, write to the port what waits and report each frame's end when it has left, read from the port what came,
+ * tick. Prints how it went; ends with status 1 where a reading is missing or out of order. */
 #include <stdio.h>
 #include <string.h>
 
@@ -11,7 +12,7 @@
 enum {
     GROUND = 64,
     PEDESTAL = 65, /* logical addresses */
-    MOVES = 40,    /* of each motor */
+    MOVES = 40,    /* of each motor; a plan has at most SHELUGVAR_PLAN_MOST, 64 */
     WINDOW = 8,
     PAYLOAD = 2, /* bytes of a position, in tenths of a degree */
     PORT_FRAMES = 64
@@ -45,6 +46,7 @@ struct port {
 struct list {
     unsigned positions[MOVES], count;
     unsigned accepted; /* how many of them the node has accepted to send */
+    unsigned plans;    /* in how many plans; 0 where they were sent one by one */
 };
 
 struct station {
@@ -80,6 +82,45 @@ static void add(struct list *l, unsigned position)
         l->positions[l->count++] = position;
     else
         must(0, "no more comes than was sent");
+}
+
+/* A number of so many bytes, the high byte first. */
+static void put(uint8_t *at, unsigned bytes, size_t number)
+{
+    for (; bytes > 0; bytes--, number >>= 8)
+        at[bytes - 1] = (uint8_t)number;
+}
+
+/* What of a list is not accepted yet, as a plan's block: how many payloads, where each begins and where the last ends,
+ * then the payloads, which here are all of a length. The block's length. */
+static size_t write_plan(const struct list *l, uint8_t *block)
+{
+    const unsigned count = l->count - l->accepted;
+
+    put(block, 2, count);
+    for (unsigned k = 0; k <= count; k++)
+        put(block + 2 + 4 * k, 4, SHELUGVAR_PLAN_LENGTH(count, k * PAYLOAD));
+    for (unsigned k = 0; k < count; k++)
+        put(block + SHELUGVAR_PLAN_LENGTH(count, k * PAYLOAD), PAYLOAD, l->positions[l->accepted + k]);
+    return SHELUGVAR_PLAN_LENGTH(count, count * PAYLOAD);
+}
+
+/* All that is left of a list, as one plan, or as an empty one, which is none the worse. Where the full window stops it,
+ * or the sender is not Open yet, nothing is lost: the next turn hands over the rest. */
+static void plan_on(struct station *s, size_t entry)
+{
+    struct list *l = &s->lists[entry];
+    uint8_t block[SHELUGVAR_PLAN_LENGTH(MOVES, MOVES * PAYLOAD)];
+    const size_t length = write_plan(l, block);
+    struct shelugvar_planned planned = {0, 0};
+
+    must(shelugvar_node_plan(&s->node, s->store, sizeof s->store, entry, block, length, &planned) == SHELUGVAR_DONE,
+         "plan");
+    const enum shelugvar_refusal stop = shelugvar_planned_stop(&planned);
+
+    must(stop == SHELUGVAR_DONE || stop == SHELUGVAR_WINDOW_FULL || stop == SHELUGVAR_WRONG_STATE, "a plan's stop");
+    l->accepted += planned.accepted;
+    l->plans += planned.accepted != 0;
 }
 
 /* As much of a list as its window lets through. A refusal is no loss: the next turn tries again. */
@@ -138,11 +179,10 @@ static void read_port(struct station *s, struct port *p)
     p->count = 0;
 }
 
-/* A driver's turn. Where a sender gives up, examples/link.c shows what to do; with these retries none does. */
-static void turn(struct station *s, size_t first_sender, struct port *out, struct port *in)
+/* A driver's turn, once what is to go is with the node. Where a sender gives up, examples/link.c shows what to do; with
+ * these retries none does. */
+static void turn(struct station *s, struct port *out, struct port *in)
 {
-    send_on(s, first_sender);
-    send_on(s, first_sender + 1);
     write_port(s, out);
     read_port(s, in);
     must(shelugvar_node_tick(&s->node) == 0, "no sender gives up");
@@ -160,8 +200,12 @@ int main(void)
         add(&ground.lists[ELEVATION_PLAN], 300 + 5 * k);
     }
     while (ground.lists[AZIMUTH_READING].count + ground.lists[ELEVATION_READING].count < 2 * MOVES && ticks++ < 200) {
-        turn(&ground, AZIMUTH_PLAN, &up, &down);
-        turn(&pedestal, AZIMUTH_READING, &down, &up);
+        plan_on(&ground, AZIMUTH_PLAN);
+        plan_on(&ground, ELEVATION_PLAN);
+        turn(&ground, &up, &down);
+        send_on(&pedestal, AZIMUTH_READING);
+        send_on(&pedestal, ELEVATION_READING);
+        turn(&pedestal, &down, &up);
     }
     printf("%u ticks; frames lost: %zu up, %zu down\n", ticks, up.lost, down.lost);
     for (size_t i = AZIMUTH_PLAN; i <= ELEVATION_PLAN; i++) {
@@ -171,7 +215,8 @@ int main(void)
         must(shelugvar_node_counts(&ground.node, i, &counts) == SHELUGVAR_DONE && counts.confirmed == MOVES &&
                  memcmp(readings->positions, moves->positions, sizeof moves->positions) == 0,
              "every move is confirmed and has its reading, in order");
-        printf("%s: %u moves confirmed, %u readings\n", motors[i], (unsigned)counts.confirmed, readings->count);
+        printf("%s: %u moves confirmed, accepted in %u plans; %u readings\n", motors[i], (unsigned)counts.confirmed,
+               moves->plans, readings->count);
     }
     return wrong;
 }

@@ -21,10 +21,10 @@
 #endif
 
 /* The version of this header and of the archive that it declares, as in CHANGELOG.md. */
-#define SHELUGVAR_VERSION "0.4.0"
+#define SHELUGVAR_VERSION "0.4.1"
 #define SHELUGVAR_VERSION_MAJOR 0
 #define SHELUGVAR_VERSION_MINOR 4
-#define SHELUGVAR_VERSION_PATCH 0
+#define SHELUGVAR_VERSION_PATCH 1
 /* The same as one number, which grows with the version: a byte for each part after the first. */
 #define SHELUGVAR_VERSION_NUMBER \
     (SHELUGVAR_VERSION_MAJOR * 65536 + SHELUGVAR_VERSION_MINOR * 256 + SHELUGVAR_VERSION_PATCH)
@@ -66,7 +66,7 @@ enum shelugvar_state {
 };
 
 /* Refusals: each is given exactly when its test is the first to fit, in the order that the call names. 0 is none; 12,
- * which stood for 15 to 18 up to version 0.1, is given no more. */
+ * which stood for 15 to 18 up to version 0.1, is given no more; 21 is the program replay's. */
 enum shelugvar_refusal {
     SHELUGVAR_DONE = 0,
     SHELUGVAR_BAD_TABLE = 1,            /* the table breaks a rule */
@@ -87,7 +87,8 @@ enum shelugvar_refusal {
     SHELUGVAR_LENGTH_AGAINST_TYPE = 17, /* length that the frame says not fitting its type */
     SHELUGVAR_WRONG_SEQUENCE = 18,      /* a Reset's sequence not 0; frame writer: an Urgent's too */
     SHELUGVAR_UNDER_WAY = 19,           /* handing out while a frame is under way */
-    SHELUGVAR_NONE_UNDER_WAY = 20       /* a frame's end reported with none under way */
+    SHELUGVAR_NONE_UNDER_WAY = 20,      /* a frame's end reported with none under way */
+    SHELUGVAR_BAD_BLOCK = 22            /* a plan's block malformed, or of more than 64 payloads */
 };
 
 /* What shelugvar_byte_at_fault answers for a refusal that is for no byte of the frame's header. */
@@ -147,6 +148,7 @@ enum shelugvar_window_answer {
 #define SHELUGVAR_RECEIVER_STORE(w, p) ((w) * (p))               /* a receiver's */
 #define SHELUGVAR_BLOCK_ROOM(w, p) (6 + (w) * (4 + (p)))         /* block for such a receiver */
 #define SHELUGVAR_FRAME_ROOM(p) ((p) + SHELUGVAR_FRAME_OVERHEAD) /* frame buffer for entries of such a P */
+#define SHELUGVAR_PLAN_LENGTH(k, bytes) (6 + 4 * (k) + (bytes))  /* plan of k payloads with so many bytes in all */
 
 #define SHELUGVAR_STORE_MOST 32768 /* store that a table can need */
 #define SHELUGVAR_BLOCK_MOST 33286 /* block: W 128, and W x P 32,768 */
@@ -154,6 +156,7 @@ enum shelugvar_window_answer {
 #define SHELUGVAR_NODE_WORDS 832
 #define SHELUGVAR_BOOK_WORDS 10368
 
+#define SHELUGVAR_PLAN_MOST 64                  /* payloads of a plan */
 #define SHELUGVAR_ACKS_MOST 32                  /* acknowledgements that can wait in a node */
 #define SHELUGVAR_RUN_MOST UINT32_C(4294967295) /* payloads that a sender accepts in a run */
 
@@ -169,6 +172,13 @@ struct shelugvar_node {
 struct shelugvar_sender_counts {
     uint32_t accepted;
     uint32_t confirmed;
+};
+
+/* What a plan came to: how many of its payloads were accepted, and what the next was refused with
+ * (shelugvar_planned_stop), or SHELUGVAR_DONE. */
+struct shelugvar_planned {
+    uint8_t accepted;
+    uint8_t stop; /* a number of enum shelugvar_refusal */
 };
 
 /* What an arrival was (shelugvar_arrived_what), the index of the entry that it was for, and its value: 0 where the list
@@ -194,6 +204,7 @@ struct shelugvar_fields {
 typedef char shelugvar_a_node_has_27392_bytes[sizeof(struct shelugvar_node) == 27392 ? 1 : -1];
 typedef char shelugvar_the_book_follows_the_words[offsetof(struct shelugvar_node, book) == 6656 ? 1 : -1];
 typedef char shelugvar_counts_are_two_of_32_bits[sizeof(struct shelugvar_sender_counts) == 8 ? 1 : -1];
+typedef char shelugvar_planned_is_two_bytes[sizeof(struct shelugvar_planned) == 2 ? 1 : -1];
 typedef char shelugvar_arrived_is_three_of_64_bits[sizeof(struct shelugvar_arrived) == 24 ? 1 : -1];
 typedef char shelugvar_fields_are_seven_bytes[sizeof(struct shelugvar_fields) == 7 ? 1 : -1];
 
@@ -209,6 +220,8 @@ uint8_t shelugvar_send(uint64_t *node, uint16_t *book, uint8_t *store, size_t ro
                        const uint8_t *payload, size_t length);
 uint8_t shelugvar_urgent(uint64_t *node, uint16_t *book, uint8_t *store, size_t room, size_t index,
                          const uint8_t *payload, size_t length);
+uint8_t shelugvar_plan(uint64_t *node, uint16_t *book, uint8_t *store, size_t room, size_t index, const uint8_t *block,
+                       size_t length, struct shelugvar_planned *planned);
 uint8_t shelugvar_arrival(uint64_t *node, uint16_t *book, uint8_t *store, size_t room, uint8_t *block,
                           size_t block_room, const uint8_t *frame, size_t length, struct shelugvar_arrived *arrived);
 uint8_t shelugvar_hand_out(uint64_t *node, uint16_t *book, const uint8_t *store, size_t room, uint8_t *frame,
@@ -302,6 +315,25 @@ static inline enum shelugvar_refusal shelugvar_node_urgent(struct shelugvar_node
 {
     return SHELUGVAR_REFUSAL_(shelugvar_urgent(n->node, n->book, room != 0 ? store : SHELUGVAR_ANY_(n), room, index,
                                                length != 0 ? payload : SHELUGVAR_ANY_(n), length));
+}
+
+/* A plan: the payloads of a block, of the form that an arrival writes, are sent in order up to and including the first
+ * that is refused, each as shelugvar_node_send would. The block is all `length` bytes: its offsets start right after
+ * themselves, never fall and end at its end. What an arrival wrote can be handed on, with the length that it answered,
+ * where it has at most 64 payloads. Refuses 22, with nothing sent. A payload that stops the rest is told in *planned,
+ * and is no refusal of the call, whatever stopped it: look there too. */
+static inline enum shelugvar_refusal shelugvar_node_plan(struct shelugvar_node *n, uint8_t *store, size_t room,
+                                                         size_t index, const uint8_t *block, size_t length,
+                                                         struct shelugvar_planned *planned)
+{
+    return SHELUGVAR_REFUSAL_(shelugvar_plan(n->node, n->book, room != 0 ? store : SHELUGVAR_ANY_(n), room, index,
+                                             length != 0 ? block : SHELUGVAR_ANY_(n), length, planned));
+}
+
+/* What the payload was refused with that stopped a plan; SHELUGVAR_DONE where all were accepted. */
+static inline enum shelugvar_refusal shelugvar_planned_stop(const struct shelugvar_planned *planned)
+{
+    return SHELUGVAR_REFUSAL_(planned->stop);
 }
 
 /* A frame has arrived. Data and Urgent write the block: count k (2 bytes), k + 1 offsets (4 bytes each) from the

@@ -141,6 +141,35 @@ static inline enum shelugvar_refusal shelugvar_recorded_send(struct shelugvar_re
     return refused;
 }
 
+/* For this header alone: where payload k of a plan's block begins. */
+static inline size_t shelugvar_recorder_offset_(const uint8_t *block, size_t k)
+{
+    size_t number = 0;
+
+    for (size_t b = 2 + 4 * k; b < 6 + 4 * k; b++)
+        number = number * 256 + block[b];
+    return number;
+}
+
+/* A plan stands in the trace as its sends, the refused one among them: they leave the node as the plan does. */
+static inline enum shelugvar_refusal shelugvar_recorded_plan(struct shelugvar_recorder *r, struct shelugvar_node *n,
+                                                             uint8_t *store, size_t room, size_t index,
+                                                             const uint8_t *block, size_t length,
+                                                             struct shelugvar_planned *planned)
+{
+    const enum shelugvar_refusal refused = shelugvar_node_plan(n, store, room, index, block, length, planned);
+    const size_t sends = refused == SHELUGVAR_DONE ? planned->accepted + SHELUGVAR_WORD_(planned->stop != 0) : 0;
+
+    for (size_t k = 0; k < sends; k++) {
+        const size_t begin = shelugvar_recorder_offset_(block, k);
+
+        shelugvar_record(r, SHELUGVAR_RECORD_SEND, index, block + begin,
+                         shelugvar_recorder_offset_(block, k + 1) - begin,
+                         k < planned->accepted ? SHELUGVAR_DONE : shelugvar_planned_stop(planned));
+    }
+    return refused;
+}
+
 static inline enum shelugvar_refusal shelugvar_recorded_urgent(struct shelugvar_recorder *r, struct shelugvar_node *n,
                                                                uint8_t *store, size_t room, size_t index,
                                                                const uint8_t *payload, size_t length)

@@ -5,8 +5,12 @@ enum {
     INPUT_MOST = 65536
 };
 
-/* The desk's own kind, beside those that a trace has. */
+/*
+ * The desk's own kinds, beside those that a trace has. A recorder writes a
+ * plan's single sends, so a trace has no plan (02, K6).
+ */
 enum {
+    CALL_PLAN = 10,
     CALL_COUNTS = 20
 };
 
@@ -17,7 +21,21 @@ struct desk {
 
 static bool is_known(uint8_t kind)
 {
-    return kind_is_known(kind) || kind == CALL_COUNTS;
+    return kind_is_known(kind) || kind == CALL_PLAN || kind == CALL_COUNTS;
+}
+
+static void run_plan(struct caller *caller, const struct record *record)
+{
+    struct planned planned;
+    int refusal =
+        node_plan(&caller->node, caller->store, sizeof caller->store,
+                  record->index, record->bytes, record->length, &planned);
+
+    lines_number(&caller->lines, (uint32_t)refusal);
+    if (refusal == NOT_REFUSED) {
+        lines_number(&caller->lines, planned.accepted);
+        lines_number(&caller->lines, (uint32_t)planned.stopped);
+    }
 }
 
 static void run_counts(struct caller *caller, const struct record *record)
@@ -32,14 +50,26 @@ static void run_counts(struct caller *caller, const struct record *record)
     }
 }
 
+/* A kind that a trace has too. */
+static void run_call(struct caller *caller, const struct record *record)
+{
+    struct answer answer = call_make(caller, record);
+
+    lines_bytes(&caller->lines, answer.bytes, answer.length);
+}
+
 static void run_record(struct caller *caller, const struct record *record)
 {
-    if (record->kind == CALL_COUNTS) {
+    switch (record->kind) {
+    case CALL_PLAN:
+        run_plan(caller, record);
+        break;
+    case CALL_COUNTS:
         run_counts(caller, record);
-    } else {
-        struct answer answer = call_make(caller, record);
-
-        lines_bytes(&caller->lines, answer.bytes, answer.length);
+        break;
+    default:
+        run_call(caller, record);
+        break;
     }
 }
 

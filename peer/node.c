@@ -2,6 +2,7 @@
 
 #include <string.h>
 
+#include "block.h"
 #include "lookup.h"
 #include "receiver.h"
 #include "sender.h"
@@ -103,9 +104,8 @@ int node_counts(const struct node *node, size_t index, struct counts *counts)
     return refusal;
 }
 
-/* What Send and Urgent begin with: 2, 3, 4, 5. */
-static int payload_refused(const struct node *node, size_t index,
-                           size_t length)
+/* What Send, Urgent and a plan begin with: 2, 3, 4. */
+static int open_sender_refused(const struct node *node, size_t index)
 {
     int refusal = sender_refused(node, index);
 
@@ -115,22 +115,23 @@ static int payload_refused(const struct node *node, size_t index,
     if (node->end[index].state != STATE_OPEN) {
         return REFUSED_STATE;
     }
-    if (length == 0 || length > node->end[index].entry.payload) {
-        return REFUSED_PAYLOAD;
-    }
     return NOT_REFUSED;
 }
 
-int node_send(struct node *node, uint8_t *store, size_t store_length,
-              size_t index, const uint8_t *payload, size_t length)
+/* Refusal 5 is of any other length. */
+static bool payload_fits(const struct end_point *end, size_t length)
 {
-    int refusal = payload_refused(node, index, length);
+    return length != 0 && length <= end->entry.payload;
+}
 
-    if (refusal != NOT_REFUSED) {
-        return refusal;
+/* At Open: what is left of Send's order, 5, 8, 7, 6, then the sending. */
+static int send_at_open(struct node *node, struct end_point *end,
+                        uint8_t *store, size_t store_length,
+                        const uint8_t *payload, size_t length)
+{
+    if (!payload_fits(end, length)) {
+        return REFUSED_PAYLOAD;
     }
-    struct end_point *end = &node->end[index];
-
     if (end->accepted == UINT32_MAX) {
         return REFUSED_COUNT;
     }
@@ -144,16 +145,75 @@ int node_send(struct node *node, uint8_t *store, size_t store_length,
     return NOT_REFUSED;
 }
 
+int node_send(struct node *node, uint8_t *store, size_t store_length,
+              size_t index, const uint8_t *payload, size_t length)
+{
+    int refusal = open_sender_refused(node, index);
+
+    if (refusal != NOT_REFUSED) {
+        return refusal;
+    }
+    return send_at_open(node, &node->end[index], store, store_length,
+                        payload, length);
+}
+
+/*
+ * A block's payloads, up to the one that is refused. A send leaves its entry
+ * Open, so what all begin with is tested once.
+ */
+static struct planned send_all(struct node *node, uint8_t *store,
+                               size_t store_length, size_t index,
+                               const uint8_t *block)
+{
+    struct planned planned = {.accepted = 0, .stopped = NOT_REFUSED};
+    unsigned count = block_count(block);
+
+    if (count == 0) {
+        return planned; /* no send is made, so no index is wrong */
+    }
+    planned.stopped = open_sender_refused(node, index);
+    if (planned.stopped != NOT_REFUSED) {
+        return planned;
+    }
+    for (; planned.accepted < count; planned.accepted++) {
+        size_t length;
+        const uint8_t *payload =
+            block_payload(block, planned.accepted, &length);
+
+        planned.stopped = send_at_open(node, &node->end[index], store,
+                                       store_length, payload, length);
+        if (planned.stopped != NOT_REFUSED) {
+            break;
+        }
+    }
+    return planned;
+}
+
+int node_plan(struct node *node, uint8_t *store, size_t store_length,
+              size_t index, const uint8_t *block, size_t length,
+              struct planned *planned)
+{
+    int refusal = block_refused(block, length);
+
+    if (refusal == NOT_REFUSED) {
+        *planned = send_all(node, store, store_length, index, block);
+    }
+    return refusal;
+}
+
 int node_urgent(struct node *node, uint8_t *store, size_t store_length,
                 size_t index, const uint8_t *payload, size_t length)
 {
-    int refusal = payload_refused(node, index, length);
+    int refusal = open_sender_refused(node, index);
 
     if (refusal != NOT_REFUSED) {
         return refusal;
     }
     struct end_point *end = &node->end[index];
 
+    if (!payload_fits(end, length)) {
+        return REFUSED_PAYLOAD;
+    }
     if (node->waiting.item[item_urgent(end->index)].list != LIST_NONE) {
         return REFUSED_URGENT;
     }

@@ -54,6 +54,11 @@ struct counts {
     uint32_t confirmed;
 };
 
+struct planned {
+    unsigned accepted; /* payloads of the block, from its first on */
+    int stopped;       /* the refusal that stopped the rest, or 0 */
+};
+
 /* Setup tests the store's length only; no byte of it is touched. */
 int node_setup(struct node *node, size_t store_length, const uint8_t *bytes,
                size_t length);
@@ -64,6 +69,15 @@ int node_send(struct node *node, uint8_t *store, size_t store_length,
               size_t index, const uint8_t *payload, size_t length);
 int node_urgent(struct node *node, uint8_t *store, size_t store_length,
                 size_t index, const uint8_t *payload, size_t length);
+
+/*
+ * Sends a block's payloads in order until one is refused (02, K6). Such a
+ * stop is not a refused call: only refusal 22, of the block, is, and it comes
+ * before everything else. No payload, no send: then any index will do.
+ */
+int node_plan(struct node *node, uint8_t *store, size_t store_length,
+              size_t index, const uint8_t *block, size_t length,
+              struct planned *planned);
 int node_arrival(struct node *node, uint8_t *store, size_t store_length,
                  uint8_t *block, size_t block_length, const uint8_t *bytes,
                  size_t length, struct arrival *arrival);

@@ -1,4 +1,4 @@
-/* Every number of the protocol: papers 01, 02 (K1 to K5) and 002. */
+/* Every number of the protocol: papers 01, 02 (K1 to K6) and 002. */
 #ifndef PEER_NUMBERS_H
 #define PEER_NUMBERS_H
 
@@ -96,6 +96,11 @@ enum {
     BLOCK_MOST = BLOCK_EMPTY + WINDOW_MOST * BLOCK_OFFSET + STORE_MOST
 };
 
+/* Payloads of the block that is a plan (02, K6). */
+enum {
+    PLAN_MOST = 64
+};
+
 /* A trace of a node's calls (02, K2); records follow its 4,104 bytes. */
 enum {
     TRACE_COUNT = 0,
@@ -131,8 +136,8 @@ enum call_kind {
 
 /*
  * Refusal numbers (01, "Refusal numbers"; 02, K1: 15 to 18 are given where 12
- * stood, and 12 no longer; K2: 21, of a trace; K3: 19 and 20); 0 is no
- * refusal.
+ * stood, and 12 no longer; K2: 21, of a trace; K3: 19 and 20; K6: 22, of a
+ * plan's block); 0 is no refusal.
  */
 enum refusal {
     NOT_REFUSED = 0,
@@ -155,7 +160,8 @@ enum refusal {
     REFUSED_SEQUENCE = 18,
     REFUSED_UNDER_WAY = 19,
     REFUSED_NONE_UNDER_WAY = 20,
-    REFUSED_TRACE = 21
+    REFUSED_TRACE = 21,
+    REFUSED_BLOCK = 22
 };
 
 #endif

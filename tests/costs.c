@@ -21,6 +21,7 @@ enum call {
     COUNTS,
     SEND,
     URGENT,
+    PLAN,
     ARRIVAL,
     HAND_OUT,
     REPORT,
@@ -49,6 +50,7 @@ static const struct {
     {"counts", (function)shelugvar_counts, 3, UINT8_MAX},
     {"send", (function)shelugvar_send, 7, UINT8_MAX},
     {"urgent", (function)shelugvar_urgent, 7, UINT8_MAX},
+    {"plan", (function)shelugvar_plan, 8, UINT8_MAX},
     {"arrival", (function)shelugvar_arrival, 9, UINT8_MAX},
     {"hand_out", (function)shelugvar_hand_out, 7, UINT8_MAX},
     {"report", (function)shelugvar_report, 2, UINT8_MAX},
@@ -180,6 +182,7 @@ static uint8_t frame[SHELUGVAR_FRAME_ROOM(65535)]; /* as long as two length byte
 static size_t frame_length;
 static struct shelugvar_arrived arrived;
 static struct shelugvar_sender_counts counts;
+static struct shelugvar_planned planned;
 static struct shelugvar_fields fields;
 static uint8_t state;
 static size_t need;
@@ -221,6 +224,12 @@ static unsigned send(struct side *s, size_t index, size_t length)
 static unsigned urgent(struct side *s, size_t index, size_t length)
 {
     return call(URGENT, (const uint64_t[9]){NODE_AND_STORE(s), index, at(payload), length});
+}
+
+/* Of the block, as many bytes as are given. */
+static unsigned plan(struct side *s, size_t index, size_t length)
+{
+    return call(PLAN, (const uint64_t[9]){NODE_AND_STORE(s), index, at(block), length, at(&planned)});
 }
 
 static unsigned arrival(struct side *s)
@@ -359,6 +368,20 @@ static void fill(size_t count, unsigned window, size_t length, int gone)
         go_out(SHELUGVAR_FRAME_ROOM(length));
 }
 
+/* A plan of so many payloads, all of that length, in the block. The block's length. */
+static size_t write_plan(unsigned count, size_t length)
+{
+    block[0] = 0;
+    block[1] = (uint8_t)count;
+    for (unsigned k = 0; k <= count; k++) {
+        const size_t begin = SHELUGVAR_PLAN_LENGTH(count, k * length);
+
+        memcpy(block + 2 + 4 * k, (const uint8_t[4]){0, 0, (uint8_t)(begin >> 8), (uint8_t)begin}, 4);
+        memcpy(block + begin, payload, k < count ? length : 0);
+    }
+    return SHELUGVAR_PLAN_LENGTH(count, count * length);
+}
+
 /* Data from one number to another, all held; their acknowledgements go out, or wait. */
 static void hold(unsigned first, unsigned last, size_t length, int acknowledged)
 {
@@ -375,7 +398,9 @@ enum {
     SLIM = 15,                         /* P of 16 senders with W 128 */
     LONG = SHELUGVAR_PAYLOAD_MOST / 2, /* P of a sender with W 1 */
     LONGEST = SHELUGVAR_PAYLOAD_MOST,  /* P of a receiver with W 1 */
-    BROAD = SHELUGVAR_STORE_MOST / WIDE
+    BROAD = SHELUGVAR_STORE_MOST / WIDE,
+    FULL = SHELUGVAR_PLAN_MOST,                     /* payloads of a plan, and W of a sender that accepts them all */
+    PLANNED = SHELUGVAR_STORE_MOST / (FULL + 1) - 1 /* its P; one more would cost less, being a whole number of words */
 };
 
 /* ---- the cases: what stands before the call, and the call */
@@ -444,6 +469,22 @@ static unsigned do_send(void)
 static unsigned do_urgent(void)
 {
     return urgent(&sides[0], 0, LONG);
+}
+
+static size_t full_plan;
+
+static void before_plan(void)
+{
+    open_all(SHELUGVAR_SENDS, 1, FULL, PLANNED);
+    full_plan = write_plan(FULL, PLANNED);
+}
+
+/* Its refusal and, in the low byte, how many payloads were accepted. */
+static unsigned do_plan(void)
+{
+    const unsigned refused = plan(&sides[0], 0, full_plan);
+
+    return refused << 8 | planned.accepted;
 }
 
 static void before_hand_out(void)
@@ -603,6 +644,7 @@ static const struct {
     {"counts", COUNTS, before_counts, do_counts, SHELUGVAR_DONE},
     {"send", SEND, before_send, do_send, SHELUGVAR_DONE},
     {"urgent", URGENT, before_send, do_urgent, SHELUGVAR_DONE},
+    {"plan", PLAN, before_plan, do_plan, FULL},
     {"noise", ARRIVAL, before_noise, do_arrival, SHELUGVAR_BAD_FRAME},
     {"long_data", ARRIVAL, before_long_data, do_arrival, SHELUGVAR_DONE},
     {"freeing", ARRIVAL, before_freeing, do_arrival, SHELUGVAR_DONE},
@@ -687,8 +729,10 @@ static void loop(void)
     for (unsigned k = 0; k < STEPS; k++) {
         const unsigned side = below(2), index = below(MANY), what = below(100), length = 1 + below(LOOP_PAYLOAD);
 
-        if (what < 30)
+        if (what < 27)
             send(&sides[side], index, length);
+        else if (what < 30)
+            plan(&sides[side], index, write_plan(below(FULL + 2), length));
         else if (what < 33)
             urgent(&sides[side], index, length);
         else if (what < 80)

@@ -1,7 +1,9 @@
 /* Nodes whose memory was damaged: bits of node and book are flipped, calls follow, and whatever these answer, it leads
  * nowhere outside what was lent. Every length answered is at most the length lent, every entry is one that a table can
- * have, every refusal is one of the list, and the bytes before and after store, block and frame buffer are as they
- * were. Ends with 'N passed, M failed', a test for each sort of call, and with status 1 where one failed. */
+ * have, every refusal is one of the list, and the bytes before and after store, blocks and frame buffer are as they
+ * were. A plan, of a good block or of one that is nearly good, answers and leaves what its sends do on a copy of the
+ * damaged node; refused, it leaves all as it was. Ends with 'N passed, M failed', a test for each sort of call, and
+ * with status 1 where one failed. */
 #include <stdio.h>
 #include <stdlib.h>
 #include <string.h>
@@ -24,7 +26,10 @@ enum {
 enum {
     STORE = SHELUGVAR_SENDER_STORE(WINDOW, PAYLOAD) + SHELUGVAR_RECEIVER_STORE(WINDOW, PAYLOAD),
     BLOCK = SHELUGVAR_BLOCK_ROOM(WINDOW, PAYLOAD),
-    FRAME = SHELUGVAR_FRAME_ROOM(PAYLOAD)
+    FRAME = SHELUGVAR_FRAME_ROOM(PAYLOAD),
+    PLANNED_MOST = SHELUGVAR_PLAN_MOST + 1, /* payloads that are planned here: one too many, */
+    PLANNED_LONGEST = PAYLOAD + 1,          /* and one byte too long */
+    PLAN_BLOCK = SHELUGVAR_BLOCK_ROOM(PLANNED_MOST, PLANNED_LONGEST)
 };
 
 /* What is lent, each with marks around it. */
@@ -37,18 +42,22 @@ static struct {
 static struct {
     uint8_t before[MARGIN], bytes[FRAME], after[MARGIN];
 } frame;
+static struct {
+    uint8_t before[MARGIN], bytes[PLAN_BLOCK], after[MARGIN];
+} plan_block;
 static struct shelugvar_node node;
 
 /* the sorts of call that are tested, what was wrong with each, and how often each was made and not refused */
 enum {
     ARRIVAL,
     HAND_OUT,
+    PLAN,
     REPORT,
     SEND,
     TICK,
     SORTS
 };
-static const char *const names[SORTS] = {"arrival", "hand out", "report", "send and Urgent", "tick"};
+static const char *const names[SORTS] = {"arrival", "hand out", "plan", "report", "send and Urgent", "tick"};
 static unsigned long made[SORTS], wrong[SORTS];
 
 static unsigned draw(unsigned below)
@@ -67,17 +76,18 @@ static int marked(const uint8_t *bytes)
     return 1;
 }
 
-/* Whether a number is one of the header's list, which has none between 11 and 13. */
+/* Whether a number is one of the header's list, which has none between 11 and 13, nor between 20 and 22. */
 static int is_listed(enum shelugvar_refusal refused)
 {
     return refused <= SHELUGVAR_NOT_OURS ||
-           (refused >= SHELUGVAR_NO_END_POINT && refused <= SHELUGVAR_NONE_UNDER_WAY);
+           (refused >= SHELUGVAR_NO_END_POINT && refused <= SHELUGVAR_NONE_UNDER_WAY) ||
+           refused == SHELUGVAR_BAD_BLOCK;
 }
 
 static void judge(unsigned sort, enum shelugvar_refusal refused, size_t length, size_t lent)
 {
     int whole = marked(store.before) && marked(store.after) && marked(block.before) && marked(block.after) &&
-                marked(frame.before) && marked(frame.after);
+                marked(frame.before) && marked(frame.after) && marked(plan_block.before) && marked(plan_block.after);
 
     made[sort] += refused == SHELUGVAR_DONE;
     wrong[sort] += !whole || !is_listed(refused) || length > lent;
@@ -143,9 +153,84 @@ static void send(void)
     judge(SEND, refused, 0, 0);
 }
 
+/* Where payload k of the plan's block begins, or the block ends. */
+static size_t offset(size_t k)
+{
+    const uint8_t *at = plan_block.bytes + 2 + 4 * k;
+
+    return (size_t)at[0] << 24 | (size_t)at[1] << 16 | (size_t)at[2] << 8 | at[3];
+}
+
+/* A block of so many payloads, few of which have no byte or one too many. Its length. */
+static size_t write_plan(unsigned count)
+{
+    size_t end = SHELUGVAR_PLAN_LENGTH(count, 0);
+
+    plan_block.bytes[0] = 0;
+    plan_block.bytes[1] = (uint8_t)count;
+    for (unsigned k = 0; k <= count; k++) {
+        const uint8_t number[4] = {0, 0, (uint8_t)(end >> 8), (uint8_t)end};
+        const unsigned length = draw(32) != 0 ? 1 + draw(PAYLOAD) : draw(PLANNED_LONGEST + 1);
+
+        memcpy(plan_block.bytes + 2 + 4 * k, number, sizeof number);
+        for (unsigned b = 0; k < count && b < length; b++)
+            plan_block.bytes[end++] = (uint8_t)draw(256);
+    }
+    return end;
+}
+
+/* Such a block, mostly with a bit of its count or its offsets flipped; or noise, of any length. */
+static size_t some_plan(void)
+{
+    const unsigned sort = draw(16), count = draw(4) != 0 ? draw(2 * WINDOW) : draw(PLANNED_MOST + 1);
+    const size_t length = write_plan(count);
+
+    if (sort < 9)
+        plan_block.bytes[draw(SHELUGVAR_PLAN_LENGTH(count, 0))] ^= (uint8_t)(1u << draw(8));
+    if (sort != 9)
+        return length;
+    for (size_t b = 0; b < PLAN_BLOCK; b++)
+        plan_block.bytes[b] = (uint8_t)draw(256);
+    return draw(PLAN_BLOCK + 1);
+}
+
+/* Whether the sends of a plan, one by one, answer what it came to. */
+static int sends_answer(struct shelugvar_node *n, uint8_t *to, size_t index, const struct shelugvar_planned *planned)
+{
+    const enum shelugvar_refusal stop = shelugvar_planned_stop(planned);
+    const size_t sends = planned->accepted + (stop == SHELUGVAR_DONE ? 0u : 1u);
+
+    for (size_t k = 0; k < sends; k++)
+        if (shelugvar_node_send(n, to, STORE, index, plan_block.bytes + offset(k), offset(k + 1) - offset(k)) !=
+            (k < planned->accepted ? SHELUGVAR_DONE : stop))
+            return 0;
+    return stop != SHELUGVAR_DONE || planned->accepted == plan_block.bytes[1];
+}
+
+/* A plan, and its sends on a copy of what it was lent. */
+static void plan(void)
+{
+    static struct shelugvar_node copy;
+    static uint8_t copied_store[STORE];
+    const size_t length = some_plan(), index = draw(8) != 0 ? SENDER : draw(SHELUGVAR_ENTRIES_MOST);
+    struct shelugvar_planned planned = {MARK, MARK};
+
+    copy = node;
+    memcpy(copied_store, store.bytes, STORE);
+    const enum shelugvar_refusal refused =
+        shelugvar_node_plan(&node, store.bytes, STORE, index, plan_block.bytes, length, &planned);
+
+    judge(PLAN, refused, refused == SHELUGVAR_DONE ? planned.accepted : 0, plan_block.bytes[1]);
+    if (refused == SHELUGVAR_DONE)
+        wrong[PLAN] += !sends_answer(&copy, copied_store, index, &planned);
+    else
+        wrong[PLAN] += planned.accepted != MARK || planned.stop != MARK;
+    wrong[PLAN] += memcmp(&node, &copy, sizeof node) != 0 || memcmp(store.bytes, copied_store, STORE) != 0;
+}
+
 static void some_call(void)
 {
-    const unsigned sort = draw(13);
+    const unsigned sort = draw(15);
 
     if (sort < 4)
         arrive();
@@ -155,6 +240,8 @@ static void some_call(void)
         report();
     else if (sort < 12)
         send();
+    else if (sort < 14)
+        plan();
     else
         judge(TICK, SHELUGVAR_DONE, shelugvar_node_tick(&node), UINT16_MAX);
 }
@@ -214,6 +301,7 @@ int main(int argc, char **argv)
     memset(&store, MARK, sizeof store);
     memset(&block, MARK, sizeof block);
     memset(&frame, MARK, sizeof frame);
+    memset(&plan_block, MARK, sizeof plan_block);
     for (unsigned long n = 0; n < nodes; n++) {
         begin();
         damage();

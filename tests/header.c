@@ -1,7 +1,7 @@
 /* include/shelugvar.h by itself, as C99, C11, C++11 and C++17 (tests/header): it may be included twice; each of its
  * tags may be a typedef's name too, which it cannot where a function has that name; every function with a length takes
- * null where that is 0, and answers what it has to; a frame is under way until its end is reported; the macros give the
- * paper's bytes and lengths.
+ * null where that is 0, and answers what it has to; a frame is under way until its end is reported; a plan leaves what
+ * its sends leave; the macros give the paper's bytes and lengths.
  * Prints what is wrong and ends with status 1 where anything is. */
 #include "shelugvar.h"
 #include "shelugvar.h"
@@ -11,6 +11,7 @@
 
 typedef struct shelugvar_node shelugvar_node;
 typedef struct shelugvar_sender_counts shelugvar_sender_counts;
+typedef struct shelugvar_planned shelugvar_planned;
 typedef struct shelugvar_arrived shelugvar_arrived;
 typedef struct shelugvar_fields shelugvar_fields;
 typedef enum shelugvar_frame_type shelugvar_frame_type;
@@ -38,6 +39,15 @@ static void refuses(shelugvar_refusal got, shelugvar_refusal wanted, const char 
     wrong = 1;
 }
 
+static void comes_to(const shelugvar_planned *planned, int accepted, shelugvar_refusal stop, const char *what)
+{
+    if (planned->accepted == accepted && shelugvar_planned_stop(planned) == stop)
+        return;
+    printf("wrong: %s accepts %d and stops with %d, not %d and %d\n", what, planned->accepted, planned->stop, accepted,
+           stop);
+    wrong = 1;
+}
+
 /* The table of the paper's worked example, whose store is 4,864 bytes. */
 static void table_bytes(void)
 {
@@ -62,6 +72,8 @@ static void lengths(void)
     must(SHELUGVAR_BLOCK_ROOM(SHELUGVAR_WINDOW_MOST, SHELUGVAR_STORE_MOST / SHELUGVAR_WINDOW_MOST) ==
              SHELUGVAR_BLOCK_MOST,
          "block");
+    must(SHELUGVAR_PLAN_LENGTH(8, 8 * 64) == SHELUGVAR_BLOCK_ROOM(8, 64), "a plan is a block");
+    must(SHELUGVAR_PLAN_LENGTH(0, 0) == 6 && SHELUGVAR_PLAN_MOST == 64, "plan");
     must(SHELUGVAR_FRAME_ROOM(SHELUGVAR_PAYLOAD_MOST) == SHELUGVAR_FRAME_MOST, "frame");
     must(SHELUGVAR_FRAME_ROOM(SHELUGVAR_PROTOCOL_PAYLOAD_MOST) == SHELUGVAR_PROTOCOL_FRAME_MOST, "the wire's frame");
     must(SHELUGVAR_RUN_MOST == UINT32_MAX, "a run's payloads");
@@ -81,9 +93,11 @@ static void version(void)
 static void null_at_a_new_node(void)
 {
     static const uint8_t no_entries[] = {SHELUGVAR_HEAD(0, 64, SHELUGVAR_PROTOCOL_ID)};
+    static const uint8_t empty_plan[] = {0, 0, 0, 0, 0, 6};
     static shelugvar_node n;
     shelugvar_arrived arrived = {7, 7, 7};
     shelugvar_sender_counts counts = {7, 7};
+    shelugvar_planned planned = {7, 7};
     shelugvar_state state = SHELUGVAR_FAILING;
     size_t length = 7, need = 7;
 
@@ -96,10 +110,14 @@ static void null_at_a_new_node(void)
     refuses(shelugvar_node_entry_state(&n, 0, &state), SHELUGVAR_NO_ENTRY, "an entry's state");
     refuses(shelugvar_node_send(&n, NULL, 0, 0, NULL, 0), SHELUGVAR_NO_ENTRY, "send");
     refuses(shelugvar_node_urgent(&n, NULL, 0, 0, NULL, 0), SHELUGVAR_NO_ENTRY, "urgent");
+    refuses(shelugvar_node_plan(&n, NULL, 0, 0, NULL, 0, &planned), SHELUGVAR_BAD_BLOCK, "plan, no block");
     refuses(shelugvar_node_arrival(&n, NULL, 0, NULL, 0, NULL, 0, &arrived), SHELUGVAR_BAD_FRAME, "arrival");
     must(arrived.what == 7 && arrived.entry == 7 && arrived.value == 7 && counts.accepted == 7 && need == 7 &&
-             state == SHELUGVAR_FAILING,
+             state == SHELUGVAR_FAILING && planned.accepted == 7 && planned.stop == 7,
          "a refused call alters nothing");
+    refuses(shelugvar_node_plan(&n, NULL, 0, 0, empty_plan, sizeof empty_plan, &planned), SHELUGVAR_DONE,
+            "an empty plan");
+    comes_to(&planned, 0, SHELUGVAR_DONE, "an empty plan, for which every index will do,");
     refuses(shelugvar_node_report(&n), SHELUGVAR_NONE_UNDER_WAY, "report");
     refuses(shelugvar_node_hand_out(&n, NULL, 0, NULL, 0, &length), SHELUGVAR_DONE, "hand out");
     must(length == 0, "nothing waits");
@@ -115,8 +133,9 @@ static void null_at_a_sender(void)
     static const shelugvar_fields ack = {64, SHELUGVAR_PROTOCOL_ID, 65, SHELUGVAR_ACKNOWLEDGE, 0, 7, 0};
     static shelugvar_node n;
     uint8_t store[SHELUGVAR_SENDER_STORE(1, 8)], frame[SHELUGVAR_FRAME_ROOM(8)];
-    const uint8_t payload[] = {1};
+    const uint8_t payload[] = {1}, plan[] = {0, 1, 0, 0, 0, 10, 0, 0, 0, 11, 1};
     shelugvar_arrived arrived = {7, 7, 7};
+    shelugvar_planned planned = {7, 7};
     shelugvar_state state = SHELUGVAR_FAILING;
     size_t length = 0;
 
@@ -143,6 +162,73 @@ static void null_at_a_sender(void)
     refuses(shelugvar_node_send(&n, NULL, 0, 0, payload, 1), SHELUGVAR_TOO_SHORT, "send, no store");
     refuses(shelugvar_node_urgent(&n, store, sizeof store, 0, NULL, 0), SHELUGVAR_PAYLOAD_LENGTH, "urgent, no payload");
     refuses(shelugvar_node_urgent(&n, NULL, 0, 0, payload, 1), SHELUGVAR_TOO_SHORT, "urgent, no store");
+    refuses(shelugvar_node_plan(&n, NULL, 0, 0, plan, sizeof plan, &planned), SHELUGVAR_DONE, "plan, no store");
+    comes_to(&planned, 0, SHELUGVAR_TOO_SHORT, "plan, no store");
+}
+
+/* Set up with a sender of W 2, which is Open then. */
+static void open_a_sender(shelugvar_node *n, uint8_t *store, size_t room)
+{
+    static const uint8_t table[] = {SHELUGVAR_HEAD(1, 64, SHELUGVAR_PROTOCOL_ID),
+                                    SHELUGVAR_SENDER(65, 7, 3, 2, 8, 100)};
+    static const shelugvar_fields ack = {64, SHELUGVAR_PROTOCOL_ID, 65, SHELUGVAR_ACKNOWLEDGE, 0, 7, 0};
+    uint8_t frame[SHELUGVAR_FRAME_OVERHEAD];
+    shelugvar_arrived arrived;
+    size_t length;
+
+    refuses(shelugvar_node_setup(n, store, room, table, sizeof table), SHELUGVAR_DONE, "setup");
+    refuses(shelugvar_node_open(n, 0), SHELUGVAR_DONE, "open");
+    refuses(shelugvar_node_hand_out(n, store, room, frame, sizeof frame, &length), SHELUGVAR_DONE, "a Reset");
+    refuses(shelugvar_node_report(n), SHELUGVAR_DONE, "report");
+    refuses(shelugvar_write_frame(frame, sizeof frame, &ack, NULL, 0), SHELUGVAR_DONE, "write");
+    refuses(shelugvar_node_arrival(n, store, room, NULL, 0, frame, sizeof frame, &arrived), SHELUGVAR_DONE, "arrival");
+}
+
+/* A plan that the full window stops leaves node, book and store as its sends do. One that is refused for its block, by
+ * the archive's own function and by the header's, alters nothing. */
+static void plan_and_sends(void)
+{
+    static const uint8_t plan[] = {0, 3, 0, 0, 0, 18, 0, 0, 0, 19, 0, 0, 0, 21, 0, 0, 0, 22, 11, 12, 13, 14};
+    static shelugvar_node n, m;
+    static uint8_t store[SHELUGVAR_SENDER_STORE(2, 8)], other[SHELUGVAR_SENDER_STORE(2, 8)];
+    shelugvar_planned planned = {7, 7};
+
+    open_a_sender(&n, store, sizeof store);
+    m = n;
+    must(shelugvar_plan(n.node, n.book, store, sizeof store, 0, plan, sizeof plan - 1, &planned) == 22,
+         "the archive's refusal of a block");
+    refuses(shelugvar_node_plan(&n, store, sizeof store, 0, plan, sizeof plan - 1, &planned), SHELUGVAR_BAD_BLOCK,
+            "plan, a byte is missing");
+    must(planned.accepted == 7 && planned.stop == 7 && memcmp(&n, &m, sizeof n) == 0 &&
+             memcmp(store, other, sizeof store) == 0,
+         "a refused plan alters nothing");
+    refuses(shelugvar_node_plan(&n, store, sizeof store, 0, plan, sizeof plan, &planned), SHELUGVAR_DONE, "plan");
+    comes_to(&planned, 2, SHELUGVAR_WINDOW_FULL, "a plan of three at a window of two");
+    refuses(shelugvar_node_send(&m, other, sizeof other, 0, plan + 18, 1), SHELUGVAR_DONE, "the first send");
+    refuses(shelugvar_node_send(&m, other, sizeof other, 0, plan + 19, 2), SHELUGVAR_DONE, "the second");
+    refuses(shelugvar_node_send(&m, other, sizeof other, 0, plan + 21, 1), SHELUGVAR_WINDOW_FULL, "the third");
+    must(memcmp(&n, &m, sizeof n) == 0 && memcmp(store, other, sizeof store) == 0, "a plan leaves what its sends do");
+}
+
+/* As many payloads as a plan may have, here of no bytes, and one more: all offsets are the block's end. */
+static void most_of_a_plan(void)
+{
+    static uint8_t plan[SHELUGVAR_PLAN_LENGTH(SHELUGVAR_PLAN_MOST + 1, 0)];
+    static shelugvar_node n;
+    shelugvar_planned planned = {7, 7};
+
+    for (unsigned count = SHELUGVAR_PLAN_MOST; count <= SHELUGVAR_PLAN_MOST + 1; count++) {
+        const size_t length = SHELUGVAR_PLAN_LENGTH(count, 0);
+
+        plan[1] = count & 255;
+        for (unsigned k = 0; k <= count; k++) {
+            plan[4 + 4 * k] = length >> 8 & 255;
+            plan[5 + 4 * k] = length & 255;
+        }
+        refuses(shelugvar_node_plan(&n, NULL, 0, 0, plan, length, &planned),
+                count == SHELUGVAR_PLAN_MOST ? SHELUGVAR_DONE : SHELUGVAR_BAD_BLOCK, "the most of a plan");
+        comes_to(&planned, 0, SHELUGVAR_NO_ENTRY, "the most of a plan");
+    }
 }
 
 /* The two refusals of the frame under way, by the archive's own functions and by the header's, which alter nothing;
@@ -233,6 +319,8 @@ int main(void)
     version();
     null_at_a_new_node();
     null_at_a_sender();
+    plan_and_sends();
+    most_of_a_plan();
     frame_under_way();
     null_without_a_node();
     bytes_at_fault();

@@ -4,9 +4,9 @@
  *
  *   long_runs TRACES
  *
- * First timers by themselves, whose ends are known by hand; then random calls on two nodes whose entries name each
- * other, over a link that loses frames and through ports that are quick or slow. Prints what was reached, and last 'N
- * passed, M failed': a trace each, and one that everything listed was reached. */
+ * First timers and plans by themselves, of which it is known by hand what they come to; then random calls on two nodes
+ * whose entries name each other, over a link that loses frames and through ports that are quick or slow. Prints what
+ * was reached, and last 'N passed, M failed': a trace each, and one that everything listed was reached. */
 #include <stdio.h>
 #include <stdlib.h>
 #include <string.h>
@@ -20,7 +20,8 @@ enum {
     FRAME = 64,
     PAYLOAD = 16,
     ENTRIES = 4,
-    ROUND = 65535
+    ROUND = 65535,
+    PLAN_BLOCK = SHELUGVAR_BLOCK_ROOM(SHELUGVAR_PLAN_MOST + 1, PAYLOAD + 1)
 };
 
 /* ---- what is to be reached */
@@ -49,6 +50,16 @@ enum event {
     CLOSED_UNDER_WAY,
     FAILING_UNDER_WAY,
     SET_UP_UNDER_WAY,
+    PLAN_WHOLE,
+    PLAN_LONGEST,
+    PLAN_STOPPED,
+    PLAN_CUT,
+    PLAN_AT_NOBODY,
+    PLAN_WITHOUT,
+    PLAN_ROUND,
+    PLAN_LATE,
+    PLAN_REFUSED,
+    PLAN_TOO_MANY,
     EVENTS
 };
 static const char *const event_names[EVENTS] = {
@@ -75,6 +86,16 @@ static const char *const event_names[EVENTS] = {
     [CLOSED_UNDER_WAY] = "close while the entry's frame is under way",
     [FAILING_UNDER_WAY] = "a Failing end waits for its frame under way alone",
     [SET_UP_UNDER_WAY] = "setup while a frame is under way",
+    [PLAN_WHOLE] = "a plan of several payloads is accepted whole",
+    [PLAN_LONGEST] = "a plan of 64 payloads is accepted whole",
+    [PLAN_STOPPED] = "the full window stops a plan of which some are accepted",
+    [PLAN_CUT] = "a payload's length stops a plan of which some are accepted",
+    [PLAN_AT_NOBODY] = "a plan for an index that does not exist is stopped at once",
+    [PLAN_WITHOUT] = "a plan without payloads is accepted, for such an index too",
+    [PLAN_ROUND] = "a plan takes sequence numbers on from 255 to 0",
+    [PLAN_LATE] = "a plan is accepted after the clock's round",
+    [PLAN_REFUSED] = "a plan is refused, since an offset of its block is wrong",
+    [PLAN_TOO_MANY] = "a plan is refused, since its block has 65 payloads",
 };
 static unsigned long seen[EVENTS];
 
@@ -140,6 +161,19 @@ static unsigned long send_urgent(struct side *s, unsigned i, const uint8_t *payl
 {
     return same("urgent", shelugvar_node_urgent(&s->ours, s->our_store, STORE, i, payload, length),
                 (unsigned long)node_urgent(&s->peers, s->peers_store, STORE, i, payload, length));
+}
+
+static unsigned long send_plan(struct side *s, unsigned i, const uint8_t *block, size_t length,
+                               struct shelugvar_planned *planned)
+{
+    struct planned peers = {planned->accepted, planned->stop};
+    unsigned long refused =
+        same("plan", shelugvar_node_plan(&s->ours, s->our_store, STORE, i, block, length, planned),
+             (unsigned long)node_plan(&s->peers, s->peers_store, STORE, i, block, length, &peers));
+
+    same("a plan's accepted", planned->accepted, peers.accepted);
+    same("a plan's stop", planned->stop, (unsigned long)peers.stopped);
+    return refused;
 }
 
 static void ask_counts(struct side *s, unsigned i)
@@ -452,6 +486,64 @@ static void random_send(void)
         send_one(&here, i, payload, length);
 }
 
+/* A plan's block of so many payloads, of which in a hundred so many odd ones may have no byte or one too many. Its
+ * length. */
+static size_t random_block(uint8_t *block, unsigned payloads, unsigned odd)
+{
+    size_t end = SHELUGVAR_PLAN_LENGTH(payloads, 0);
+
+    memcpy(block, (const uint8_t[2]){0, (uint8_t)payloads}, 2);
+    for (unsigned k = 0; k <= payloads; k++) {
+        const unsigned length = below(100) < odd ? below(PAYLOAD + 2) : 1 + below(PAYLOAD);
+
+        memcpy(block + 2 + 4 * k, (const uint8_t[4]){0, 0, (uint8_t)(end >> 8), (uint8_t)end}, 4);
+        for (unsigned b = 0; k < payloads && b < length; b++)
+            block[end++] = (uint8_t)below(256);
+    }
+    return end;
+}
+
+/* The sequence number that the next payload for entry i is to take. */
+static unsigned next_number(unsigned i)
+{
+    const struct end_point *end = &here.peers.end[i];
+
+    return (uint8_t)(end->window.start + end->taken);
+}
+
+/* What a plan of so many payloads for entry i came to, which was to take sequence numbers from `next` on. */
+static void see_plan(unsigned i, unsigned payloads, unsigned next, const struct shelugvar_planned *planned)
+{
+    const enum shelugvar_refusal stop = shelugvar_planned_stop(planned);
+
+    seen[PLAN_WHOLE] += payloads > 1 && stop == SHELUGVAR_DONE;
+    seen[PLAN_LONGEST] += payloads == SHELUGVAR_PLAN_MOST && stop == SHELUGVAR_DONE;
+    seen[PLAN_STOPPED] += planned->accepted > 0 && stop == SHELUGVAR_WINDOW_FULL;
+    seen[PLAN_CUT] += planned->accepted > 0 && stop == SHELUGVAR_PAYLOAD_LENGTH;
+    seen[PLAN_AT_NOBODY] += stop == SHELUGVAR_NO_ENTRY;
+    seen[PLAN_WITHOUT] += payloads == 0 && i == count;
+    seen[PLAN_ROUND] += next + planned->accepted > 256;
+    seen[PLAN_LATE] += planned->accepted > 0 && ticks > ROUND;
+}
+
+/* A plan, mostly of about as many payloads as a window has numbers, for an entry or for the index behind the last. Of
+ * eight blocks one has a bit of its count or its offsets flipped. */
+static void random_plan(void)
+{
+    uint8_t block[PLAN_BLOCK];
+    const unsigned i = below(16) ? below(count) : count, payloads = below(16) ? below(12) : 60 + below(6);
+    const size_t length = random_block(block, payloads, 5);
+    const unsigned next = next_number(i);
+    struct shelugvar_planned planned = {99, 99}; /* as which a refused plan leaves it */
+
+    if (below(8) == 0)
+        block[below(SHELUGVAR_PLAN_LENGTH(payloads, 0))] ^= (uint8_t)(1U << below(8));
+    if (send_plan(&here, i, block, length, &planned) == 0)
+        see_plan(i, payloads, next, &planned);
+    else
+        seen[payloads > SHELUGVAR_PLAN_MOST ? PLAN_TOO_MANY : PLAN_REFUSED]++;
+}
+
 /* A frame goes over or comes back, if the link does not lose it. A slow port reports its end at some later step. */
 static void random_frame(int over, unsigned loss, unsigned slow)
 {
@@ -484,8 +576,10 @@ static void random_step(unsigned loss, unsigned slow)
     unsigned what = below(1000);
 
     asleep -= asleep > 0;
-    if (what < 200)
+    if (what < 160)
         random_send();
+    else if (what < 200)
+        random_plan();
     else if (what < 500)
         random_frame(1, loss, slow);
     else if (what < 720 && asleep == 0)
@@ -532,6 +626,37 @@ static int random_trace(unsigned long seed)
     return differs;
 }
 
+/* ---- plans by themselves, of 64 payloads over a link that loses nothing: each is accepted as far as the window goes,
+ * and what is accepted arrives before the next; the sequence numbers go round */
+
+static int planned_alone(unsigned window)
+{
+    const unsigned all = SHELUGVAR_PLAN_MOST, most = window < all ? window : all;
+    uint8_t block[PLAN_BLOCK];
+
+    new_trace("plans by themselves, window", window);
+    state = window;
+    count = 1;
+    timeouts[0] = 1;
+    retries[0] = 0;
+    windows[0] = window;
+    set_up_both();
+    must(go_over() == 9 && come_back() == 9, "it does not open");
+    for (unsigned sent = 0; sent < 600 && !differs; sent += most) {
+        const size_t length = random_block(block, all, 0);
+        const unsigned next = next_number(0);
+        struct shelugvar_planned planned = {0, 0};
+
+        must(send_plan(&here, 0, block, length, &planned) == 0 && planned.accepted == most &&
+                 planned.stop == (most < all ? SHELUGVAR_WINDOW_FULL : SHELUGVAR_DONE),
+             "a plan is not accepted as far as the window goes");
+        see_plan(0, all, next, &planned);
+        for (unsigned k = 0; k < most; k++)
+            must(go_over() > 9 && come_back() == 9, "a payload of a plan is not acknowledged");
+    }
+    return differs;
+}
+
 int main(int argc, char **argv)
 {
     static const unsigned alone_timeouts[] = {1, 2, ROUND - 1, ROUND};
@@ -543,6 +668,8 @@ int main(int argc, char **argv)
         for (size_t k = 0; k < sizeof afters / sizeof *afters; k++)
             for (size_t s = 0; s < sizeof slows / sizeof *slows; s++, run++)
                 failed += (unsigned long)alone(alone_timeouts[t], afters[k], slows[s]);
+    for (unsigned window = 1; window <= SHELUGVAR_WINDOW_MOST; window *= 2, run++)
+        failed += (unsigned long)planned_alone(window);
     for (unsigned long seed = 1; seed <= traces; seed++, run++)
         failed += (unsigned long)random_trace(seed);
     printf("%lu traces, %lu ticks, %lu answers compared\n", run, ticks_in_all, calls);

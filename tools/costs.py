@@ -31,6 +31,7 @@ WORDS = {
     "counts": "the last of 16 senders",
     "send": "16,384 bytes, the most that a sender can have",
     "urgent": "16,384 bytes",
+    "plan": "64 payloads of 503 bytes, all accepted; 504, the most that a store has room for, cost less",
     "noise": "noise of 65,544 bytes, the most that a frame's length bytes can say; refused",
     "long_data": "Data of 32,768 bytes, the most that a receiver can have",
     "freeing": "Data of 1 byte that frees 127 held payloads of 256",

@@ -286,6 +286,40 @@ def full_and_urgent(t):
 
 
 @scene
+def a_plan(t):
+    """Plans: a block of payloads, each sent as though alone. One is accepted whole and goes out in order; a full
+    window, an empty payload, another kind of entry stop the rest, and what was accepted before stays; an empty plan
+    stops at nothing, whatever the index; what a receiver delivered is handed on; blocks against the form are refused
+    with 22 before everything, and nothing is sent."""
+    t.given(tx(window=4, largest=5), rx())
+    moves = model.block([b"slew", b"track"])
+    t.ok(t.plan, 0, moves, gives=[0, 4])  # Closed
+    t.up(0, 1)
+    t.plans(0, b"slew", b"track")
+    t.stops(0, b"point", b"", b"stow", by=5, after=1)
+    t.stops(0, b"point", b"stow", by=7, after=1)
+    t.ok(t.counts, 0, gives=[4, 0])
+    for number, move in enumerate((b"slew", b"track", b"point", b"point"), 1):
+        t.out(0, DATA, number, move)
+        t.passes(0, number, 1)
+    t.stops(1, b"slew", by=3)
+    t.stops(2, b"slew", by=2)
+    for index in (0, 1, 2):
+        t.plans(index)
+    t.data(1, 2, b"there")
+    t.data(1, 1, b"halt", b"halt", b"there")
+    t.plans(0, b"halt", b"there")
+    for block in (b"", moves[:-1], moves + b"\0", model.two(1) + moves[2:], model.block([b"x"] * 65)):
+        t.no(22, t.plan, 0, block)
+        t.no(22, t.plan, 2, block)
+    t.ok(t.counts, 0, gives=[6, 4])
+    for sequence in (2, 1):
+        t.out(1, ACKNOWLEDGE, sequence)
+    t.out(0, DATA, 5, b"halt")
+    t.out(0, DATA, 6, b"there")
+
+
+@scene
 def past_255(t):
     """Numbers fold: with W 16 and start 250 number 9 is in, 10 and 249 are out, at both ends; the sender's window fills
     from 250 to 9, and is acknowledged from the far end."""

@@ -15,7 +15,7 @@ import sys
 
 sys.dont_write_bytecode = True  # the source tree stays as it is
 sys.path.insert(0, os.path.join(os.path.dirname(os.path.abspath(__file__)), ".."))
-from comparison import coverage, model, programs
+from comparison import blocks, coverage, model, programs
 from comparison.corners.corner import OWN, PROTOCOL, Corner, rx, tx
 from comparison.model import ACKNOWLEDGE, DATA, RESET, URGENT
 
@@ -349,6 +349,44 @@ def failing_with_its_frame_under_way(t):
     t.ok(t.report)
 
 
+@scene
+def plans(t):
+    """plans: payload after payload is sent, up to and including the first that is refused; 22 before everything"""
+    t.stops(4, of(1), by=4)  # Closed
+    t.stops(3, of(1), by=3)
+    t.stops(5, of(1), by=2)
+    t.plans(4)
+    t.plans(5)
+    good = model.block([of(1), of(2)])  # offsets 14, 15 and 16
+    for block in (good[:5], good[:13], blocks.with_offset(good, 0, 13), blocks.with_offset(good, 0, 15),
+                  blocks.with_offset(good, 1, 13), blocks.with_offset(good, 1, 17), good[:-1], good + of(0)):
+        t.no(22, t.plan, 5, block)
+    t.out(2, RESET, 0)
+    t.up(4)
+    t.stops(4, of(), of(1), by=5)
+    t.stops(4, of(1), of(), of(2), by=5, after=1)
+    t.begin(4, DATA, 1, of(1))
+    t.plans(4, of(2))
+    t.ok(t.report)
+    t.stops(4, of(3), by=7)
+    t.out(4, DATA, 2, of(2))
+    t.passes(4, 1, 1)
+    t.stops(4, of(3), of(4), of(5), by=7, after=1)
+    t.out(4, DATA, 3, of(3))
+    t.passes(4, 3, 0)
+    t.passes(4, 2, 2)
+    t.stops(4, of(4), of(5, 5), by=5, after=1)  # P 1
+    t.out(4, DATA, 4, of(4))
+    t.passes(4, 4, 1)
+    t.plans(4, of(5), of(6))
+    t.out(4, DATA, 5, of(5))
+    t.out(4, DATA, 6, of(6))
+    t.passes(4, 5, 1)
+    t.passes(4, 6, 1)
+    t.stops(4, of(7), of(8), of(9), by=7, after=2)
+    t.ok(t.counts, 4, gives=[8, 6])
+
+
 def trace():
     """The whole trace, and the scene of each of its records; the table is of none."""
     out, scenes = Corner("machine"), [""]
@@ -417,6 +455,7 @@ CALLS = {
     model.COUNTS_CALL: lambda v: "counts %d" % v.index,
     model.SEND_CALL: lambda v: "sends %d %s" % (v.index, argument(v.data)),
     model.URGENT_CALL: lambda v: "urges %d %s" % (v.index, argument(v.data)),
+    model.PLAN_CALL: lambda v: "plans %d %s" % (v.index, argument(v.data)),
     model.ARRIVAL_CALL: lambda v: "arrives (lent %d) %s" % (lent(v), argument(v.data)),
     model.HAND_OUT_CALL: lambda v: "hands-out (lent %d)" % lent(v),
     model.REPORT_CALL: lambda v: "reports",
@@ -466,7 +505,7 @@ use mathlib.Core.Path.{_≡_, refl}
 use mathlib.Core.List.{List, [], _∷_, _++_}
 use lib.ListN.{getD, take, replicate}
 use lib.Dec.{leb}
-use Rattle.units.specs.Bytes.{get16Of, be32}
+use Rattle.units.specs.Bytes.{get16Of, get32Of, be32}
 use Rattle.units.specs.Refusals.{pick}
 use Rattle.units.specs.Sizes.{defaultSize}
 use Rattle.check8.specs.Polynomial.{timesX, timesXs, stepByte, checkFrom}
@@ -476,8 +515,9 @@ use Rattle.frame.specs.Layout.{payloadOf, headBytes, bodyBytes, frameBytes}
 use Rattle.frame.specs.Reading.{soundOf, headerOf}
 use Rattle.arrive_lookup.specs.Fitting.{fits}
 use Rattle.blocks.specs.Blocks.{offsets, joinedUp, blockOf}
-use Rattle.machine.specs.Calls.{Call, opens, closes, counts, sends, urges, arrives, hands-out, reports, ticks}
-use Rattle.machine.specs.Calls.{Answer}
+use Rattle.blocks.specs.Reading.{payloadIn, payloadsIn, readBlock, neverFall, isBlock, isPlan}
+use Rattle.machine.specs.Calls.{Call, opens, closes, counts, sends, urges, plans, arrives, hands-out, reports}
+use Rattle.machine.specs.Calls.{ticks, Answer}
 use Rattle.machine.specs.Machine as machine
 use Rattle.machine.specs.Machine.{Machine, begun, step}
 
@@ -521,6 +561,7 @@ lineOf (closes i) a = a .numbers
 lineOf (counts i) a = a .numbers
 lineOf (sends i p) a = a .numbers
 lineOf (urges i p) a = a .numbers
+lineOf (plans i block) a = a .numbers
 lineOf (arrives block f) a = a .numbers ++ take (blockLength (a .numbers)) (a .out)
 lineOf (hands-out buffer) a = a .numbers ++ take (frameLength (a .numbers)) (a .out)
 lineOf reports a = a .numbers
@@ -539,13 +580,14 @@ peers (v ∷ vs) = v .1 ∷ peers vs
 
 -- what the machine computes with
 computes : Unit {0}
-unfolding get16Of be32 defaultSize timesX timesXs stepByte checkFrom entryOf entryFrom areas.areaOf areas.placeOf
-    areas.storeOf payloadOf headBytes bodyBytes frameBytes soundOf headerOf fits offsets joinedUp blockOf begun step
-    machine.without machine.enabled machine.listed machine.opening machine.closing machine.counting machine.sending
-    machine.urgentSending machine.ackedRun machine.running machine.acking machine.heldCount machine.heldRun
-    machine.receiving machine.resetting machine.takenIn machine.placeOf machine.reading machine.arriving machine.frameOf
-    machine.goingOut machine.inOrder machine.handingOut machine.reported machine.reporting machine.tickedAll
-    machine.anySpent machine.againFrom machine.ticked machine.each machine.bitsFrom machine.ticking
+unfolding get16Of get32Of be32 defaultSize timesX timesXs stepByte checkFrom entryOf entryFrom areas.areaOf
+    areas.placeOf areas.storeOf payloadOf headBytes bodyBytes frameBytes soundOf headerOf fits offsets joinedUp blockOf
+    payloadIn payloadsIn readBlock neverFall isBlock isPlan begun step machine.without machine.enabled machine.listed
+    machine.opening machine.closing machine.counting machine.sending machine.urgentSending machine.sendingAll
+    machine.planning machine.ackedRun machine.running machine.acking machine.heldCount machine.heldRun machine.receiving
+    machine.resetting machine.takenIn machine.placeOf machine.reading machine.arriving machine.frameOf machine.goingOut
+    machine.inOrder machine.handingOut machine.reported machine.reporting machine.tickedAll machine.anySpent
+    machine.againFrom machine.ticked machine.each machine.bitsFrom machine.ticking
 computes = tt
 
 pub vectors-agree : machines (begun table room) vectors ≡ peers vectors
@@ -562,7 +604,7 @@ def whole_file(found):
 
 # 4. THE CHECK
 
-REFUSED = {2, 3, 4, 5, 7, 9, 10, 11, 13, 14, 15, 16, 17, 18, 19, 20}
+REFUSED = {2, 3, 4, 5, 7, 9, 10, 11, 13, 14, 15, 16, 17, 18, 19, 20, 22}
 ARRIVED = {model.IGNORED, model.ACKNOWLEDGED, model.OPENED, model.TOOK_RESET, model.TOOK_DATA, model.TOOK_URGENT}
 TYPES = {DATA, ACKNOWLEDGE, RESET, URGENT}
 LEFT_OUT = {
@@ -570,6 +612,7 @@ LEFT_OUT = {
     "sender Enabled to Closed", "sender Failing to Closed", "receiver Enabled to Closed",
     "acknowledgement at Failing passes more", "acknowledgement at Failing ignored, outside",
     "acknowledgement at Failing ignored, again", "acknowledgement at Failing ignored, not handed out",
+    "plan malformed: a count above 64", "plan of 64 payloads accepted whole", "plan's numbers fold",
     "a timer of T 65,535 starts",  # would take 65,535 ticks to show more than that
     "setup while timers run", "setup while a frame is under way",  # setup is no call of the machine
 }

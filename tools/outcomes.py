@@ -21,7 +21,7 @@ PUBLIC = {"node", "firmware", "frame", "check8", "window", "lent_window", "table
           "trace_step", "trace_lines"}
 RECORDS = "lent_window"  # lent as a struct: crates/lent_window/specs/Lending.antt
 EXCEPT = {"lines-flush": "answers nothing and alters no lent memory"}
-REFUSES = {"Verdict", "Arrived", "HandedOut", "Written", "Told"}  # and for C a number
+REFUSES = {"Verdict", "Planned", "Arrived", "HandedOut", "Written", "Told"}  # and for C a number
 NO_REFUSAL = {"shelugvar-tick"}
 FUNCTION = re.compile(r'^ *pub (?:extern "C" )?fn (\w+)(?:<[^>]*>)?\((.*?)\)(?: -> ([^\n{]+?))?\n(.*?)^ *\{\n',
                       re.M | re.S)

@@ -2,7 +2,7 @@
 """Calls in words, a line each, to the records that `desk` reads: standard input to standard output.
 
     table BYTE..        open INDEX       send INDEX BYTE..      arrival BYTE..      hand_out      counts INDEX
-                        close INDEX      urgent INDEX BYTE..    tick                report
+                        close INDEX      urgent INDEX BYTE..    tick                report        plan INDEX BYTE..
 
 Bytes are decimal numbers, as `desk` prints them, so a frame that one node handed out is the arrival of another.
 """
@@ -11,11 +11,11 @@ from pathlib import Path
 
 sys.dont_write_bytecode = True  # the source tree stays as it is
 sys.path.insert(0, str(Path(__file__).resolve().parent.parent))
-from comparison.model import COUNTS_CALL
+from comparison.model import COUNTS_CALL, PLAN_CALL
 from traces import files
 
-KINDS = {name: kind for kind, name in files.NAMES.items()} | {"counts": COUNTS_CALL}
-TAKES_INDEX = files.TAKES_INDEX | {COUNTS_CALL}
+KINDS = {name: kind for kind, name in files.NAMES.items()} | {"counts": COUNTS_CALL, "plan": PLAN_CALL}
+TAKES_INDEX = files.TAKES_INDEX | {COUNTS_CALL, PLAN_CALL}
 
 
 def record(line: str) -> bytes:

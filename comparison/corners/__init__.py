@@ -12,6 +12,7 @@ from comparison.corners import failing
 from comparison.corners import ticks
 from comparison.corners import handing_out
 from comparison.corners import reporting
+from comparison.corners import plans
 from comparison.corners import slots
 from comparison.corners import addresses
 from comparison.corners import timers

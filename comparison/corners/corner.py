@@ -71,6 +71,16 @@ class Corner(trace.Trace):
             self.ok(self.tick, gives=[0])
         self.ok(self.tick, gives=[last])
 
+    # plans
+
+    def plans(self, index: int, *payloads: bytes) -> None:
+        """A plan of these payloads, all of which are accepted."""
+        self.ok(self.plan, index, model.block(payloads), gives=[len(payloads), 0])
+
+    def stops(self, index: int, *payloads: bytes, by: int, after: int = 0) -> None:
+        """A plan of these payloads, stopped by this refusal after so many were accepted."""
+        self.ok(self.plan, index, model.block(payloads), gives=[after, by])
+
     # arrivals at a sender
 
     def ack(self, index: int, sequence: int, what: int, *value: int) -> None:

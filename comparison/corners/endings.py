@@ -18,7 +18,7 @@ ending("desk_torn_in_the_head", TICK + b"\x07\0\0", "1 7 0 0\ntorn 2\n")
 ending("desk_torn_in_the_bytes", TICK + b"\x06\0\0\x02x", "1 7 0 0\ntorn 2\n")
 ending("desk_torn_at_once", b"\x07", "torn 1\n")
 ending("desk_torn_though_unknown", b"\x63\0\0\x02x", "torn 1\n")
-ending("desk_unknown", TICK + b"\x0a\0\0\0" + TICK, "1 7 0 0\nunknown 2\n")
+ending("desk_unknown", TICK + b"\x0b\0\0\0" + TICK, "1 7 0 0\nunknown 2\n")
 ending("desk_unknown_zero", bytes(8), "unknown 1\n")
 ending("desk_spare_bytes_are_not_looked_at", b"\x07\xff\0\x03abc\x08\xff\0\x01x\x09\xff\0\x01x",
        "1 7 0 0\n2 8 0 0\n3 9 20\n")

@@ -5,9 +5,9 @@ use Prim.Native.Nat.{ℕ, suc, _+_, _*_, _-_, _/_, _%_, _≤_}
 use native.Mathlib.Omega.{arith}
 use lib.ListN.{length, getD, drop, length-append}
 use lib.Seq.{sets, sets-eq, getD-append-add, append-snoc, take-at, drop-at}
-use Rattle.units.specs.Bytes.{get16Of, be16, be32}
+use Rattle.units.specs.Bytes.{get16Of, get32Of, be16, be32}
 use Rattle.blocks.specs.Blocks.{offsets, joinedUp, blockOf}
-use Rattle.blocks.specs.Reading.{get32Of, payloadIn, payloadsIn, readBlock, ReadsBack}
+use Rattle.blocks.specs.Reading.{payloadIn, payloadsIn, readBlock, ReadsBack}
 use Rattle.blocks.proofs.Appending.{length-be16, length-be32, length-offsets, joinedUp-more}
 
 -- ---- numbers in bytes
@@ -59,13 +59,18 @@ parts : (ps : List (List ℕ)) (t : List ℕ) → blockOf ps ++ t ≡ be16 (leng
 unfolding blockOf
 parts ps t = simp append-assoc
 
-count : (ps : List (List ℕ)) (t : List ℕ) → get16Of (blockOf ps ++ t) 0 ≡ length ps
+pub count : (ps : List (List ℕ)) (t : List ℕ) → get16Of (blockOf ps ++ t) 0 ≡ length ps
 count ps t = rw (parts ps t) (get16-be16 (length ps) _)
 
-offset : (ps qs : List (List ℕ)) (t : List ℕ) → get32Of (blockOf (ps ++ qs) ++ t) (2 + 4 * length ps) ≡ 6 + 4 * length (ps ++ qs) + length (joinedUp ps)
+pub offset : (ps qs : List (List ℕ)) (t : List ℕ) → get32Of (blockOf (ps ++ qs) ++ t) (2 + 4 * length ps) ≡ 6 + 4 * length (ps ++ qs) + length (joinedUp ps)
 offset ps qs t =
     let e : 2 + 4 * length ps ≡ length (be16 (length (ps ++ qs))) + 4 * length ps = omega (arith, length-be16 (length (ps ++ qs))) in
     rw (parts (ps ++ qs) t, e, get32-append (be16 (length (ps ++ qs)))) (get32-offsets (6 + 4 * length (ps ++ qs)) ps qs (joinedUp (ps ++ qs) ++ t))
+
+-- the offset of what comes behind ps and p
+pub offset-next : (ps : List (List ℕ)) (p : List ℕ) (qs : List (List ℕ)) (t : List ℕ)
+    → get32Of (blockOf (ps ++ (p ∷ qs)) ++ t) (2 + 4 * (length ps + 1)) ≡ 6 + 4 * length (ps ++ (p ∷ qs)) + length (joinedUp ps ++ p)
+offset-next ps p qs t = rw (append-snoc ps p qs, length-append ps (p ∷ []), joinedUp-more ps p) at (offset (ps ++ (p ∷ [])) qs t)
 
 -- what stands from the offset of what comes behind ps on
 behind : (ps qs : List (List ℕ)) (t : List ℕ) → drop (6 + 4 * length (ps ++ qs) + length (joinedUp ps)) (blockOf (ps ++ qs) ++ t) ≡ joinedUp qs ++ t
@@ -81,10 +86,8 @@ payload : (ps : List (List ℕ)) (p : List ℕ) (qs : List (List ℕ)) (t : List
 unfolding payloadIn joinedUp
 payload ps p qs t =
     let a : get32Of (blockOf (ps ++ (p ∷ qs)) ++ t) (2 + 4 * length ps) ≡ 6 + 4 * length (ps ++ (p ∷ qs)) + length (joinedUp ps) = offset ps (p ∷ qs) t in
-    let b : get32Of (blockOf (ps ++ (p ∷ qs)) ++ t) (2 + 4 * (length ps + 1)) ≡ 6 + 4 * length (ps ++ (p ∷ qs)) + length (joinedUp ps ++ p) =
-    rw (append-snoc ps p qs, length-append ps (p ∷ []), joinedUp-more ps p) at (offset (ps ++ (p ∷ [])) qs t) in
     let n : get32Of (blockOf (ps ++ (p ∷ qs)) ++ t) (2 + 4 * (length ps + 1)) - get32Of (blockOf (ps ++ (p ∷ qs)) ++ t) (2 + 4 * length ps) ≡ length p =
-    omega (arith, a, b, length-append (joinedUp ps) p) in
+    omega (arith, a, offset-next ps p qs t, length-append (joinedUp ps) p) in
     rw (n, a, behind ps (p ∷ qs) t, append-assoc) (take-at p (joinedUp qs ++ t) (length p) refl)
 
 rest : (ps qs : List (List ℕ)) (t : List ℕ) → payloadsIn (blockOf (ps ++ qs) ++ t) (length ps) (length qs) ≡ qs

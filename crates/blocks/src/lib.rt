@@ -4,6 +4,7 @@
 // the payloads can be read out of the block again.
 // `put_one` asks a payload of at most 65,535 bytes, which is more than any frame carries.
 pub mod layout; // layout.rt: its numbers
+pub mod lent; // lent.rt: a block that was lent, read
 
 use slots::cell_of;
 use slots::cells;

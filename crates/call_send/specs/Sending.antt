@@ -77,13 +77,21 @@ abbrev pub sentNode : List ℕ → ℕ → Run → List ℕ
 sentNode ws i r =
     set (set ws (entryAt i + takenWord) (r .taken + 1)) (entryAt i + acceptedWord) (r .accepted .0 + 1)
 
+-- the next number waits, with a payload of n bytes [W2]
+abbrev pub laidBook : List ℕ → ℕ → EndPoint → ℕ → List ℕ
+laidBook b i e n = sentBook b (cell i (e .run .window) (nextNumber (e .run))) n
+
+-- the payload lies in its slot [S3, S5]
+abbrev pub laidStore : List ℕ → EndPoint → List ℕ → List ℕ
+laidStore s e p = sets s (spot (e .place) (e .entry .largest) (slotFor (e .run .window) (nextNumber (e .run)))) p
+
 -- the payload lies in its slot; its number waits [S3, S5, W2]
 abbrev pub sent : Lent → ℕ → EndPoint → List ℕ → Lent
 sent x i e p =
     record {
       node = sentNode (x .node) i (e .run);
-      book = sentBook (x .book) (cell i (e .run .window) (nextNumber (e .run))) (length p);
-      store = sets (x .store) (spot (e .place) (e .entry .largest) (slotFor (e .run .window) (nextNumber (e .run)))) p;
+      book = laidBook (x .book) i e (length p);
+      store = laidStore (x .store) e p;
       out = x .out;
     }
 

@@ -2,7 +2,7 @@
 // handed out.
 // Proved: which answer is given, and what the node, the book and the store hold afterwards, for every memory and
 // every payload; a refused call alters nothing. specs/Sending.antt states both calls.
-mod judging; // judging.rt: which of the two calls are refused
+pub mod judging; // judging.rt: which of the two calls are refused
 
 use end_points::EndPoint;
 use end_points::Run;
@@ -31,11 +31,12 @@ use window::Window;
 use window::advance;
 ghost use mathlib.Core.Path.{_≡_};
 ghost use Prim.Native.Nat.{_<_};
+ghost use lib.ListN.{length};
 ghost use Rattle.end_points.specs.Ends.{endOf};
 ghost use Rattle.slots.specs.Slots.{cell};
 ghost use Rattle.end_points.specs.Lent.{stored};
 ghost use Rattle.call_send.specs.Sending.{sendAnswer, sendAfter, sentNode, sentBook, urgentAnswer, urgentAfter};
-ghost use Rattle.call_send.specs.Sending.{urgentRun};
+ghost use Rattle.call_send.specs.Sending.{laidBook, laidStore, urgentRun};
 
 // End point i as `load` reads it. It has one caller, so that the compiler reads there what the caller uses and no more:
 // `load` has many, and hands over the whole by way of memory.
@@ -77,13 +78,8 @@ pub fn send(
     let e = read_end(node, index);
     let v = judge_send(e, payload.len(), store.len(), heads::need(node));
     let Verdict::Refused(why) = v else {
-        let run = e.run;
-        let window = run.window;
-        let s = advance(window.start, run.taken);
-        wait_as_data(book, index as u8, window, s, payload.len() as u16);
-        let at = spot_of(e.place, e.entry.largest, slot_for(window, s));
-        put_all(store, at, payload);
-        put_sent(node, index, run);
+        lay(book, store, index as u8, e, payload);
+        put_sent(node, index, e.run);
         return Verdict::Passed;
     };
     Verdict::Refused(why)
@@ -124,6 +120,19 @@ pub fn urgent(
         return Verdict::Passed;
     };
     Verdict::Refused(why)
+}
+
+// A payload lies in the slot of the next number, which waits as data.
+pub fn lay(book: &mut [u16], store: &mut [u8], i: u8, e: EndPoint, payload: &[u8])
+    requires { ⌜ length (now payload) < 65536 ⌝ }
+    ensures book { λ _. ⌜ now (book .exit) ≡ laidBook (now (book .entry)) i e (length (now (payload .entry))) ⌝ }
+    ensures store { λ _. ⌜ now (store .exit) ≡ laidStore (now (store .entry)) e (now (payload .entry)) ⌝ }
+{
+    let window = e.run.window;
+    let s = advance(window.start, e.run.taken);
+    wait_as_data(book, i, window, s, payload.len() as u16);
+    let at = spot_of(e.place, e.entry.largest, slot_for(window, s));
+    put_all(store, at, payload)
 }
 
 // One payload more is taken and accepted: of the run's words two alter, and no other is written.

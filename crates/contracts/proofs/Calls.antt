@@ -8,20 +8,22 @@ use Rattle.node.proofs.open.Reads as node-open
 use Rattle.node.proofs.close.Reads as node-close
 use Rattle.node.proofs.counts.Reads as node-counts
 use Rattle.node.proofs.send.Reads as node-send
+use Rattle.node.proofs.plan.Reads as node-plan
 use Rattle.node.proofs.urgent.Reads as node-urgent
 use Rattle.node.proofs.arrival.Reads as node-arrival
 use Rattle.node.proofs.hand_out.Reads as node-hand-out
 use Rattle.node.proofs.report.Reads as node-report
 use Rattle.node.proofs.tick.Reads as node-tick
 use Rattle.end_points.specs.Lent as lent
-use Rattle.end_points.specs.Answers.{answerOf, countedOf, arrivedOf, handedOf}
+use Rattle.end_points.specs.Answers.{answerOf, countedOf, plannedOf, arrivedOf, handedOf}
 use Rattle.call_open.specs.Setup.{setupAfter}
 use Rattle.call_open.specs.Opening.{openAfter, closeAfter}
 use Rattle.call_send.specs.Sending.{sendAfter, urgentAfter}
+use Rattle.call_plan.specs.Planning.{planAfter}
 use Rattle.call_hand_out.specs.Handing.{handOutAfter}
 use Rattle.call_report.specs.Reporting.{reportAfter}
 use Rattle.good.specs.Calls.{kept, keptBare, answer, after}
-use Rattle.machine.specs.Calls.{opens, closes, counts, sends, urges, arrives, hands-out, reports, ticks}
+use Rattle.machine.specs.Calls.{opens, closes, counts, sends, urges, plans, arrives, hands-out, reports, ticks}
 use Rattle.contracts.specs.Gives.{memory, plain, Gives, SetsUp}
 
 -- a setup that passed; node and book have the lengths of their types, and a table's bytes are bytes
@@ -88,6 +90,17 @@ urgent-gives u a r e p f =
       fed = f;
       answered = cc (p .0);
       left = ap kept (p .1 ∙ ap (urgentAfter x (a .1 .1 .1 .0) (now (a .1 .1 .1 .1 .0))) (p .0));
+    }
+
+pub plan-gives : Gives node-plan.Post (λ a. plans (a .1 .1 .1 .0) (now (a .1 .1 .1 .1 .0))) (λ r e. plain (plannedOf r))
+    (λ a. memory (a .0) (a .1 .0) (now (a .1 .1 .0))) (λ a e. memory (e .0) (e .1 .0) (now (e .1 .1 .0)))
+unfolding answer after
+plan-gives u a r e p f =
+    let x = lent.stored (now (a .0)) (now (a .1 .0)) (now (a .1 .1 .0)) in
+    record {
+      fed = f;
+      answered = cc (p .0);
+      left = ap kept (p .1 ∙ ap (planAfter x (a .1 .1 .1 .0) (now (a .1 .1 .1 .1 .0))) (p .0));
     }
 
 -- the answer of an arrival has the block afterwards, that of handing out the frame buffer

@@ -13,6 +13,7 @@ use Rattle.firmware.proofs.nodes.shelugvar_open.Reads as shelugvar-open
 use Rattle.firmware.proofs.nodes.shelugvar_close.Reads as shelugvar-close
 use Rattle.firmware.proofs.nodes.shelugvar_counts.Reads as shelugvar-counts
 use Rattle.firmware.proofs.nodes.shelugvar_send.Reads as shelugvar-send
+use Rattle.firmware.proofs.nodes.shelugvar_plan.Reads as shelugvar-plan
 use Rattle.firmware.proofs.nodes.shelugvar_urgent.Reads as shelugvar-urgent
 use Rattle.firmware.proofs.nodes.shelugvar_arrival.Reads as shelugvar-arrival
 use Rattle.firmware.proofs.nodes.shelugvar_hand_out.Reads as shelugvar-hand-out
@@ -33,6 +34,7 @@ use Rattle.lines.proofs.refused_all.Reads as lines-refused-all
 use Rattle.lines.proofs.answers.done.Reads as lines-done
 use Rattle.lines.proofs.answers.verdict.Reads as lines-verdict
 use Rattle.lines.proofs.answers.counted.Reads as lines-counted
+use Rattle.lines.proofs.answers.planned.Reads as lines-planned
 use Rattle.lines.proofs.answers.handed.Reads as lines-handed
 use Rattle.lines.proofs.answers.arrived.Reads as lines-arrived
 use Rattle.end_points.specs.Lent.{Lent, bare, stored, whole}
@@ -67,6 +69,10 @@ shelugvar-counts-one u v a r₁ r₂ e₁ e₂ p q = (cc (p .0, q .0), cc (p .1,
 
 pub shelugvar-send-one : One shelugvar-send.Post (λ e. stored (now (e .0)) (now (e .1 .0)) (now (e .1 .1 .0)))
 shelugvar-send-one u v a r₁ r₂ e₁ e₂ p q = (cc (p .0, q .0), cc (p .1, q .1))
+
+pub shelugvar-plan-one : One {M = Lent × List ℕ} shelugvar-plan.Post
+    (λ e. (stored (now (e .0)) (now (e .1 .0)) (now (e .1 .1 .0)), now (e .1 .1 .1 .1 .1 .0)))
+shelugvar-plan-one u v a r₁ r₂ e₁ e₂ p q = (cc (p .0, q .0), cc (p .1 .0, q .1 .0, p .1 .1, q .1 .1))
 
 pub shelugvar-urgent-one : One shelugvar-urgent.Post (λ e. stored (now (e .0)) (now (e .1 .0)) (now (e .1 .1 .0)))
 shelugvar-urgent-one u v a r₁ r₂ e₁ e₂ p q = (cc (p .0, q .0), cc (p .1, q .1))
@@ -135,6 +141,9 @@ lines-verdict-one u v a r₁ r₂ e₁ e₂ p q = (cc (p .0, q .0), cc (p .1, q 
 
 pub lines-counted-one : One lines-counted.Post (λ e. now (e .0))
 lines-counted-one u v a r₁ r₂ e₁ e₂ p q = (cc (p .0, q .0), cc (p .1, q .1))
+
+pub lines-planned-one : One lines-planned.Post (λ e. now (e .0))
+lines-planned-one u v a r₁ r₂ e₁ e₂ p q = (cc (p .0, q .0), cc (p .1, q .1))
 
 pub lines-handed-one : One lines-handed.Post (λ e. now (e .0))
 lines-handed-one u v a r₁ r₂ e₁ e₂ p q = (cc (p .0, q .0), cc (p .1, q .1))

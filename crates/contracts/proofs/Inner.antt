@@ -14,10 +14,18 @@ use Rattle.call_open.proofs.store_need.Reads as call-open-store-need
 use Rattle.call_open.proofs.setup.Reads as call-open-setup
 use Rattle.call_send.proofs.send.Reads as call-send-send
 use Rattle.call_send.proofs.urgent.Reads as call-send-urgent
+use Rattle.call_send.proofs.judging.judge_send.Reads as call-send-judge-send
+use Rattle.call_send.proofs.judging.judge_urgent.Reads as call-send-judge-urgent
+use Rattle.call_send.proofs.lay.Reads as call-send-lay
+use Rattle.call_plan.proofs.plan.Reads as call-plan-plan
 use Rattle.arrive_ack.proofs.acknowledge.Reads as arrive-ack-acknowledge
 use Rattle.blocks.proofs.put_block.Reads as blocks-put-block
 use Rattle.blocks.proofs.put_none.Reads as blocks-put-none
 use Rattle.blocks.proofs.put_one.Reads as blocks-put-one
+use Rattle.blocks.proofs.lent.count.Reads as blocks-count
+use Rattle.blocks.proofs.lent.offset.Reads as blocks-offset
+use Rattle.blocks.proofs.lent.between.Reads as blocks-between
+use Rattle.blocks.proofs.lent.is_plan.Reads as blocks-is-plan
 use Rattle.arrive_data.proofs.take_reset.Reads as arrive-data-take-reset
 use Rattle.arrive_data.proofs.take_data.Reads as arrive-data-take-data
 use Rattle.arrive_data.proofs.take_urgent.Reads as arrive-data-take-urgent
@@ -65,6 +73,20 @@ call-send-send-one u v a r₁ r₂ e₁ e₂ p q = (cc (p .0, q .0), cc (p .0, q
 pub call-send-urgent-one : One call-send-urgent.Post (λ e. stored (now (e .0)) (now (e .1 .0)) (now (e .1 .1 .0)))
 call-send-urgent-one u v a r₁ r₂ e₁ e₂ p q = (cc (p .0, q .0), cc (p .0, q .0, p .1, q .1))
 
+pub call-send-judge-send-one : OneAnswer call-send-judge-send.Post (λ r. r)
+call-send-judge-send-one u v a r₁ r₂ e₁ e₂ p q = cc
+
+pub call-send-judge-urgent-one : OneAnswer call-send-judge-urgent.Post (λ r. r)
+call-send-judge-urgent-one u v a r₁ r₂ e₁ e₂ p q = cc
+
+pub call-send-lay-one : OneAfter {M = List ℕ × List ℕ} call-send-lay.Post (λ e. (now (e .0), now (e .1 .0)))
+call-send-lay-one u v a r₁ r₂ e₁ e₂ p q = cc (p .0, q .0, p .1, q .1)
+
+-- ---- call_plan
+
+pub call-plan-plan-one : One call-plan-plan.Post (λ e. stored (now (e .0)) (now (e .1 .0)) (now (e .1 .1 .0)))
+call-plan-plan-one u v a r₁ r₂ e₁ e₂ p q = (cc (p .0, q .0), cc (p .0, q .0, p .1, q .1))
+
 -- ---- arrive_ack
 
 pub arrive-ack-acknowledge-one : One arrive-ack-acknowledge.Post (λ e. bare (now (e .0)) (now (e .1 .0)))
@@ -80,6 +102,18 @@ blocks-put-none-one u v a r₁ r₂ e₁ e₂ p q = (cc (p .0, q .0), cc (p .1, 
 
 pub blocks-put-one-one : One blocks-put-one.Post (λ e. now (e .0))
 blocks-put-one-one u v a r₁ r₂ e₁ e₂ p q = (cc (p .0, q .0), cc (p .1, q .1))
+
+pub blocks-count-one : OneAnswer blocks-count.Post (λ r. r)
+blocks-count-one u v a r₁ r₂ e₁ e₂ p q = cc
+
+pub blocks-offset-one : OneAnswer blocks-offset.Post (λ r. r)
+blocks-offset-one u v a r₁ r₂ e₁ e₂ p q = cc
+
+pub blocks-between-one : OneAnswer blocks-between.Post (λ r. now r)
+blocks-between-one u v a r₁ r₂ e₁ e₂ p q = cc
+
+pub blocks-is-plan-one : OneAnswer blocks-is-plan.Post (λ r. r)
+blocks-is-plan-one u v a r₁ r₂ e₁ e₂ p q = cc
 
 -- ---- arrive_data
 

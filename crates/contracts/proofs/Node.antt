@@ -10,6 +10,7 @@ use Rattle.node.proofs.counts.Reads as node-counts
 use Rattle.node.proofs.state.Reads as node-state
 use Rattle.node.proofs.store_need.Reads as node-store-need
 use Rattle.node.proofs.send.Reads as node-send
+use Rattle.node.proofs.plan.Reads as node-plan
 use Rattle.node.proofs.urgent.Reads as node-urgent
 use Rattle.node.proofs.arrival.Reads as node-arrival
 use Rattle.node.proofs.hand_out.Reads as node-hand-out
@@ -41,6 +42,9 @@ node-counts-one u v a r₁ r₂ e₁ e₂ p q = cc
 
 pub node-send-one : One node-send.Post (λ e. stored (now (e .0)) (now (e .1 .0)) (now (e .1 .1 .0)))
 node-send-one u v a r₁ r₂ e₁ e₂ p q = (cc (p .0, q .0), cc (p .0, q .0, p .1, q .1))
+
+pub node-plan-one : One node-plan.Post (λ e. stored (now (e .0)) (now (e .1 .0)) (now (e .1 .1 .0)))
+node-plan-one u v a r₁ r₂ e₁ e₂ p q = (cc (p .0, q .0), cc (p .0, q .0, p .1, q .1))
 
 pub node-urgent-one : One node-urgent.Post (λ e. stored (now (e .0)) (now (e .1 .0)) (now (e .1 .1 .0)))
 node-urgent-one u v a r₁ r₂ e₁ e₂ p q = (cc (p .0, q .0), cc (p .0, q .0, p .1, q .1))

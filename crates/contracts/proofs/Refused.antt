@@ -20,8 +20,10 @@ use Rattle.frame.specs.declared.Fields.{Fields}
 use Rattle.frame.specs.declared.Read.{Read}
 use Rattle.frame.specs.declared.Read.the-variants as read
 use Rattle.frame.specs.declared.Written.the-variants as written
-use Rattle.end_points.specs.Answers.{answerOf, countedOf, arrivedOf, handedOf, statedOf, neededOf}
+use Rattle.end_points.specs.Answers.{answerOf, countedOf, plannedOf, arrivedOf, handedOf, statedOf, neededOf}
 use Rattle.end_points.specs.Lent.{Lent, bare, stored, whole}
+use Rattle.end_points.specs.declared.answers.Planned.{Planned}
+use Rattle.end_points.specs.declared.answers.Planned.the-variants as planned
 use Rattle.end_points.specs.declared.answers.Arrived.{Arrived}
 use Rattle.end_points.specs.declared.answers.Arrived.the-variants as arrived
 use Rattle.end_points.specs.declared.answers.HandedOut.{HandedOut}
@@ -29,16 +31,18 @@ use Rattle.end_points.specs.declared.answers.HandedOut.the-variants as handed
 use Rattle.call_open.specs.Opening.{openAnswer, openAfter, closeAnswer, closeAfter, countsAnswer, stateAnswer}
 use Rattle.call_open.specs.Setup.{needAnswer, setupAnswer, setupAfter}
 use Rattle.call_send.specs.Sending.{sendAnswer, sendAfter, urgentAnswer, urgentAfter}
+use Rattle.call_plan.specs.Planning.{planAnswer, planAfter}
 use Rattle.call_arrive.specs.Arriving.{frameTests, entryOf, entryVerdict, answerAs, afterAs, entryAnswer}
 use Rattle.call_arrive.specs.Arriving.{entryAfter, readAnswer, readAfter, arrivalAnswer, arrivalAfter}
 use Rattle.call_hand_out.specs.Handing.{handOutAnswer, handOutAfter}
 use Rattle.call_report.specs.Reporting.{reportAnswer, reportAfter}
 use Rattle.firmware.specs.Firmware.{readNumber, readFields, fieldsIn, writeNumber}
-use Rattle.firmware.specs.Nodes.{refusalIn, valueIn, countsIn, arrivedIn}
+use Rattle.firmware.specs.Nodes.{refusalIn, valueIn, pairIn, arrivedIn}
 use Rattle.node.proofs.setup.Reads as node-setup
 use Rattle.node.proofs.open.Reads as node-open
 use Rattle.node.proofs.close.Reads as node-close
 use Rattle.node.proofs.send.Reads as node-send
+use Rattle.node.proofs.plan.Reads as node-plan
 use Rattle.node.proofs.urgent.Reads as node-urgent
 use Rattle.node.proofs.arrival.Reads as node-arrival
 use Rattle.node.proofs.hand_out.Reads as node-hand-out
@@ -48,6 +52,7 @@ use Rattle.call_open.proofs.open.Reads as call-open-open
 use Rattle.call_open.proofs.close.Reads as call-open-close
 use Rattle.call_send.proofs.send.Reads as call-send-send
 use Rattle.call_send.proofs.urgent.Reads as call-send-urgent
+use Rattle.call_plan.proofs.plan.Reads as call-plan-plan
 use Rattle.call_arrive.proofs.arrive.Reads as call-arrive-arrive
 use Rattle.call_hand_out.proofs.hand_out.Reads as call-hand-out-hand-out
 use Rattle.call_report.proofs.report.Reads as call-report-report
@@ -61,6 +66,7 @@ use Rattle.firmware.proofs.nodes.shelugvar_counts.Reads as shelugvar-counts
 use Rattle.firmware.proofs.nodes.shelugvar_entry_state.Reads as shelugvar-entry-state
 use Rattle.firmware.proofs.nodes.shelugvar_store_need.Reads as shelugvar-store-need
 use Rattle.firmware.proofs.nodes.shelugvar_send.Reads as shelugvar-send
+use Rattle.firmware.proofs.nodes.shelugvar_plan.Reads as shelugvar-plan
 use Rattle.firmware.proofs.nodes.shelugvar_urgent.Reads as shelugvar-urgent
 use Rattle.firmware.proofs.nodes.shelugvar_arrival.Reads as shelugvar-arrival
 use Rattle.firmware.proofs.nodes.shelugvar_hand_out.Reads as shelugvar-hand-out
@@ -86,6 +92,11 @@ pub node-send-refused : Spares node-send.Post (IsRefused verdicts.Refused)
     (λ e. stored (now (e .0)) (now (e .1 .0)) (now (e .1 .1 .0)))
 unfolding sendAfter
 node-send-refused u a r e p w = cc (p .1, w .1)
+
+pub node-plan-refused : Spares node-plan.Post (IsRefused planned.Refused)
+    (λ e. stored (now (e .0)) (now (e .1 .0)) (now (e .1 .1 .0)))
+unfolding planAfter
+node-plan-refused u a r e p w = cc (p .1, w .1)
 
 pub node-urgent-refused : Spares node-urgent.Post (IsRefused verdicts.Refused)
     (λ e. stored (now (e .0)) (now (e .1 .0)) (now (e .1 .1 .0)))
@@ -147,6 +158,11 @@ pub call-send-send-refused : Spares call-send-send.Post (IsRefused verdicts.Refu
     (λ e. stored (now (e .0)) (now (e .1 .0)) (now (e .1 .1 .0)))
 unfolding sendAfter
 call-send-send-refused u a r e p w = cc (p .1, w .1)
+
+pub call-plan-plan-refused : Spares call-plan-plan.Post (IsRefused planned.Refused)
+    (λ e. stored (now (e .0)) (now (e .1 .0)) (now (e .1 .1 .0)))
+unfolding planAfter
+call-plan-plan-refused u a r e p w = cc (p .1, w .1)
 
 pub call-send-urgent-refused : Spares call-send-urgent.Post (IsRefused verdicts.Refused)
     (λ e. stored (now (e .0)) (now (e .1 .0)) (now (e .1 .1 .0)))
@@ -250,14 +266,14 @@ pub shelugvar-report-refused : Spares shelugvar-report.Post NotZero (λ e. bare 
 shelugvar-report-refused u a r e p z =
     let x = bare (now (a .0)) (now (a .1 .0)) in p .1 ∙ report-told x (subst NotZero (p .0) z)
 
--- the place of a value, of a sender's counts and of what an arrival was
+-- the place of a value, of two and of what an arrival was
 value-spared : (a : List ℕ) (old : ℕ) → NotZero (refusalIn a) → valueIn a old ≡ old
 unfolding valueIn
 value-spared a old z = rw (ne-eqb (refusalIn a) 0 z)
 
-counts-spared : (a old : List ℕ) → NotZero (refusalIn a) → countsIn a old ≡ old
-unfolding countsIn
-counts-spared a old z = rw (ne-eqb (refusalIn a) 0 z)
+pair-spared : (a old : List ℕ) → NotZero (refusalIn a) → pairIn a old ≡ old
+unfolding pairIn
+pair-spared a old z = rw (ne-eqb (refusalIn a) 0 z)
 
 arrived-spared : (a old : List ℕ) → NotZero (refusalIn a) → arrivedIn a old ≡ old
 unfolding arrivedIn
@@ -265,7 +281,7 @@ arrived-spared a old z = rw (ne-eqb (refusalIn a) 0 z)
 
 pub shelugvar-counts-refused : Spares shelugvar-counts.Post NotZero (λ e. now (e .1 .1 .0))
 shelugvar-counts-refused u a r e p z =
-    p .1 ∙ counts-spared (countedOf (countsAnswer (now (a .0)) (a .1 .0))) (now (a .1 .1 .0)) (subst NotZero (p .0) z)
+    p .1 ∙ pair-spared (countedOf (countsAnswer (now (a .0)) (a .1 .0))) (now (a .1 .1 .0)) (subst NotZero (p .0) z)
 
 pub shelugvar-entry-state-refused : Spares shelugvar-entry-state.Post NotZero (λ e. now (e .1 .1 .0))
 shelugvar-entry-state-refused u a r e p z =
@@ -274,6 +290,21 @@ shelugvar-entry-state-refused u a r e p z =
 pub shelugvar-store-need-refused : Spares shelugvar-store-need.Post NotZero (λ e. now (e .1 .0))
 shelugvar-store-need-refused u a r e p z =
     p .1 ∙ value-spared (neededOf (needAnswer (now (a .0)))) (now (a .1 .0)) (subst NotZero (p .0) z)
+
+plan-told : (x : Lent) (i : ℕ) (block : List ℕ) (a : Planned) → NotZero (refusalIn (plannedOf a)) → planAfter x i block a ≡ x
+unfolding planAfter
+plan-told x i block (planned.Accepted n stop) z = absurd (z refl)
+plan-told x i block (planned.Refused w) z = refl
+
+pub shelugvar-plan-refused : Spares {M = Lent × List ℕ} shelugvar-plan.Post NotZero
+    (λ e. (stored (now (e .0)) (now (e .1 .0)) (now (e .1 .1 .0)), now (e .1 .1 .1 .1 .1 .0)))
+shelugvar-plan-refused u a r e p z =
+    let x = stored (now (a .0)) (now (a .1 .0)) (now (a .1 .1 .0)) in
+    let i = a .1 .1 .1 .0 in
+    let block = now (a .1 .1 .1 .1 .0) in
+    let k = subst NotZero (p .0) z in
+    let v = pair-spared (plannedOf (planAnswer x i block)) (now (a .1 .1 .1 .1 .1 .0)) k in
+    cc (p .1 .0, p .1 .1, plan-told x i block (planAnswer x i block) k, v)
 
 arrival-told : (x : Lent) (f : List ℕ) (a : Arrived) → arrivalAnswer x f ≡ a → NotZero (refusalIn (arrivedOf a))
     → arrivalAfter x f ≡ x

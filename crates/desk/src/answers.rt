@@ -4,6 +4,7 @@ use end_points::answers::Arrived;
 use end_points::answers::HandedOut;
 use end_points::answers::Was;
 use lines::answers::counted;
+use lines::answers::planned;
 use lines::number;
 use lines::text;
 use lines::value;
@@ -49,6 +50,27 @@ fn counts_line(out: &mut [u8], at: usize, count: u64, node: &Node, index: u8) ->
     text(out, next, b"\n")
 }
 
+// A plan: how many payloads were accepted, and what refused the next.
+fn plan_line(
+    out: &mut [u8],
+    at: usize,
+    count: u64,
+    node: &mut Node,
+    book: &mut Book,
+    store: &mut [u8],
+    index: u8,
+    block: &[u8],
+) -> usize {
+    let mut next = number(out, at, count);
+    next = value(out, next, kinds::PLAN as u64);
+    next = planned(
+        out,
+        next,
+        node::plan(node, book, store, index as usize, block),
+    );
+    text(out, next, b"\n")
+}
+
 // A record's line.
 pub fn line(
     out: &mut [u8],
@@ -64,6 +86,9 @@ pub fn line(
 ) -> usize {
     if kind == kinds::COUNTS {
         return counts_line(out, at, count, node, index);
+    }
+    if kind == kinds::PLAN {
+        return plan_line(out, at, count, node, book, store, index, bytes);
     }
     let t = trace_step::call(node, book, store, buffer, kind, index, bytes);
     let mut next = trace_lines::begun(out, at, count, kind, t);

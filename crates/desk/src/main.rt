@@ -1,8 +1,8 @@
 // The node at a desk: runs the calls that the records on standard input name, on a node that starts as zeros.
-// A record is its kind (1 table, 2 open, 3 close, 4 send, 5 urgent, 6 arrival, 7 tick, 8 hand out, 9 report or
-// 20 counts), an index byte, a length (2 bytes, high byte first) and that many bytes. Each gives one line: its number
-// from 1, its kind, the refusal's number or 0, then what came back, in decimal; behind 15 to 18 the number of the byte
-// at fault. Store, block and frame buffer are always long enough.
+// A record is its kind (1 table, 2 open, 3 close, 4 send, 5 urgent, 6 arrival, 7 tick, 8 hand out, 9 report, 10 plan
+// or 20 counts), an index byte, a length (2 bytes, high byte first) and that many bytes. Each gives one line: its
+// number from 1, its kind, the refusal's number or 0, then what came back, in decimal; behind 15 to 18 the number of
+// the byte at fault. Store, block and frame buffer are always long enough.
 // The input is at most 65,536 bytes; a longer one gives only the line `too long`. A record that is cut short ends the
 // run with `torn N`, a whole one of another kind with `unknown N`.
 use lines::text;

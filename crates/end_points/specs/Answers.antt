@@ -7,6 +7,8 @@ use Rattle.units.specs.declared.refusals.Verdict.the-variants as verdicts
 use Rattle.frame.specs.Faults.{refusedOf}
 use Rattle.end_points.specs.declared.answers.Counted.{Counted}
 use Rattle.end_points.specs.declared.answers.Counted.the-variants as counted
+use Rattle.end_points.specs.declared.answers.Planned.{Planned}
+use Rattle.end_points.specs.declared.answers.Planned.the-variants as planned
 use Rattle.end_points.specs.declared.State.{State}
 use Rattle.end_points.specs.declared.State.the-variants.{Closed, Enabled, Open, Failing}
 use Rattle.end_points.specs.declared.answers.Stated.{Stated}
@@ -29,6 +31,11 @@ answerOf (verdicts.Refused w) = refusedOf w
 abbrev pub countedOf : Counted → List ℕ
 countedOf (counted.Counts a c) = 0 ∷ a .0 ∷ c .0 ∷ []
 countedOf (counted.Refused w) = refusedOf w
+
+-- a plan: how many payloads were accepted, and what the next one's send answered, 0 where there was none [O3, O10]
+abbrev pub plannedOf : Planned → List ℕ
+plannedOf (planned.Accepted n stop) = 0 ∷ n ∷ answerOf stop
+plannedOf (planned.Refused w) = refusedOf w
 
 -- a state's number [E1]
 abbrev pub stateNumber : State → ℕ

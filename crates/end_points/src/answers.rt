@@ -2,6 +2,7 @@
 use crate::State;
 use units::Unfolded;
 use units::refusals::Refusal;
+use units::refusals::Verdict;
 ghost use mathlib.Core.Path.{_≡_};
 ghost use lib.ListN.{getD};
 ghost use Rattle.end_points.specs.Answers.{stateNumber, whatOf, valueOf};
@@ -9,6 +10,12 @@ ghost use Rattle.end_points.specs.Answers.{stateNumber, whatOf, valueOf}
 // A sender's counts: accepted and confirmed.
 pub enum Counted {
     Counts(Unfolded, Unfolded),
+    Refused(Refusal),
+}
+
+// A plan: how many of its payloads were accepted, and what the next was refused with. [O3, O10]
+pub enum Planned {
+    Accepted(u8, Verdict),
     Refused(Refusal),
 }
 

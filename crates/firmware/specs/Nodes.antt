@@ -19,9 +19,9 @@ ifDone a new old = pick (eqb (refusalIn a) 0) new old
 unfoldable pub valueIn : List ℕ → ℕ → ℕ
 valueIn a old = ifDone a (getD a 1 0) old
 
--- of two, a sender's counts [E17, R44]
-unfoldable pub countsIn : List ℕ → List ℕ → List ℕ
-countsIn a old = ifDone a (sets old 0 (getD a 1 0 ∷ getD a 2 0 ∷ [])) old
+-- of two: a sender's counts; of a plan how many were accepted, and what refused the next [E17, R44, O10]
+unfoldable pub pairIn : List ℕ → List ℕ → List ℕ
+pairIn a old = ifDone a (sets old 0 (getD a 1 0 ∷ getD a 2 0 ∷ [])) old
 
 -- of three, an arrival's: what it was, its entry, and its value, 0 where it has none [R44, O3, O8]
 unfoldable pub arrivedIn : List ℕ → List ℕ → List ℕ

@@ -7,23 +7,25 @@ use end_points::answers::Arrived;
 use end_points::answers::Counted;
 use end_points::answers::HandedOut;
 use end_points::answers::Needed;
+use end_points::answers::Planned;
 use end_points::answers::Stated;
 use node::Book;
 use node::Node;
 use units::refusals::Verdict;
 use units::refusals::number;
 ghost use mathlib.Core.Path.{_≡_};
-ghost use Rattle.end_points.specs.Answers.{answerOf, countedOf, arrivedOf, handedOf, statedOf, neededOf};
+ghost use Rattle.end_points.specs.Answers.{answerOf, countedOf, plannedOf, arrivedOf, handedOf, statedOf, neededOf};
 ghost use Rattle.end_points.specs.Lent.{bare, stored, whole};
 ghost use Rattle.call_open.specs.Setup.{needAnswer, setupAnswer, setupAfter};
 ghost use Rattle.call_open.specs.Opening.{openAnswer, openAfter, closeAnswer, closeAfter, countsAnswer};
 ghost use Rattle.call_open.specs.Opening.{stateAnswer};
 ghost use Rattle.call_send.specs.Sending.{sendAnswer, sendAfter, urgentAnswer, urgentAfter};
+ghost use Rattle.call_plan.specs.Planning.{planAnswer, planAfter};
 ghost use Rattle.call_arrive.specs.Arriving.{arrivalAnswer, arrivalAfter};
 ghost use Rattle.call_hand_out.specs.Handing.{handOutAnswer, handOutAfter};
 ghost use Rattle.call_report.specs.Reporting.{reportAnswer, reportAfter};
 ghost use Rattle.call_tick.specs.Ticking.{tickAnswer, tickAfter};
-ghost use Rattle.firmware.specs.Nodes.{refusalIn, valueIn, countsIn, arrivedIn, versionOf};
+ghost use Rattle.firmware.specs.Nodes.{refusalIn, valueIn, pairIn, arrivedIn, versionOf};
 
 // A verdict's number.
 fn told(v: Verdict) -> u8
@@ -85,7 +87,7 @@ pub extern "C" fn shelugvar_close(node: &mut Node, book: &mut Book, index: usize
 pub extern "C" fn shelugvar_counts(node: &Node, index: usize, values: &mut [u32; 2]) -> u8
     ensures answer { λ r. ⌜ r ≡ refusalIn (countedOf (countsAnswer (now (node .entry)) index)) ⌝ }
     ensures after { λ _. ⌜ now (values .exit)
-        ≡ countsIn (countedOf (countsAnswer (now (node .entry)) index)) (now (values .entry)) ⌝ }
+        ≡ pairIn (countedOf (countsAnswer (now (node .entry)) index)) (now (values .entry)) ⌝ }
 {
     match node::counts(node, index) {
         Counted::Counts(accepted, confirmed) => {
@@ -135,6 +137,38 @@ pub extern "C" fn shelugvar_urgent(
         ≡ urgentAfter x index (now (payload .entry)) (urgentAnswer x index (now (payload .entry))) ⌝ }
 {
     told(node::urgent(node, book, store, index, payload))
+}
+
+// The payloads of a block are sent in order, up to and including the first that is refused: how many were accepted,
+// and what refused the next, 0 where none was. Refuses 22.
+#[no_mangle]
+pub extern "C" fn shelugvar_plan(
+    node: &mut Node,
+    book: &mut Book,
+    store: &mut [u8],
+    index: usize,
+    block: &[u8],
+    values: &mut [u8; 2],
+) -> u8
+    ensures answer { λ r.
+        let x = stored (now (node .entry)) (now (book .entry)) (now (store .entry)) in
+        ⌜ r ≡ refusalIn (plannedOf (planAnswer x index (now (block .entry)))) ⌝ }
+    ensures after { λ _.
+        let x = stored (now (node .entry)) (now (book .entry)) (now (store .entry)) in
+        ⌜ stored (now (node .exit)) (now (book .exit)) (now (store .exit))
+        ≡ planAfter x index (now (block .entry)) (planAnswer x index (now (block .entry))) ⌝ }
+    ensures values { λ _.
+        let x = stored (now (node .entry)) (now (book .entry)) (now (store .entry)) in
+        ⌜ now (values .exit) ≡ pairIn (plannedOf (planAnswer x index (now (block .entry)))) (now (values .entry)) ⌝ }
+{
+    match node::plan(node, book, store, index, block) {
+        Planned::Accepted(n, stop) => {
+            values[0] = n;
+            values[1] = told(stop);
+            0
+        }
+        Planned::Refused(w) => number(w),
+    }
 }
 
 // An arrival in numbers: what it was, its entry, and its value, 0 where it has none.
@@ -267,12 +301,12 @@ const MAJOR: u32 = 0;
 
 const MINOR: u32 = 4;
 
-const PATCH: u32 = 0;
+const PATCH: u32 = 1;
 
 // The version of this archive, a byte a number.
 #[no_mangle]
 pub extern "C" fn shelugvar_version() -> u32
-    ensures { λ r. ⌜ r ≡ versionOf 0 4 0 ⌝ }
+    ensures { λ r. ⌜ r ≡ versionOf 0 4 1 ⌝ }
 {
     (MAJOR * 256 + MINOR) * 256 + PATCH
 }

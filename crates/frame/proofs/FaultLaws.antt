@@ -37,6 +37,7 @@ bytes-agree refusal.WrongSequence = refl
 bytes-agree refusal.UnderWay = refl
 bytes-agree refusal.NoneUnderWay = refl
 bytes-agree refusal.BadTrace = refl
+bytes-agree refusal.BadBlock = refl
 
 -- the first number that has a byte
 abbrev pub least : ℕ

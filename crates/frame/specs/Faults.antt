@@ -34,6 +34,7 @@ byteIn refusal.WrongSequence = sequenceByte ∷ []
 byteIn refusal.UnderWay = []
 byteIn refusal.NoneUnderWay = []
 byteIn refusal.BadTrace = []
+byteIn refusal.BadBlock = []
 
 -- a refusal in the paper's numbers: its own, then the byte's [R47, O3]
 abbrev pub refusedOf : Refusal → List ℕ

@@ -33,6 +33,7 @@ pub mod TickTimers
 pub mod TickEntry
 pub mod Timely
 pub mod TickKeeps
+pub mod Planned
 pub mod ReachGood
 pub mod ShortStores
 pub mod NoCorners

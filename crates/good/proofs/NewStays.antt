@@ -24,8 +24,9 @@ use Rattle.call_tick.specs.Ticking.{tickAfter, tickBoth, stillAfter, scanAfter,
 use Rattle.call_hand_out.specs.Handing.{handOutAnswer, handOutAfter, nextOut, outNode, outBook}
 use Rattle.call_hand_out.specs.declared.Next.the-variants as next
 use Rattle.good.specs.Calls.{Memory, lent, bare, kept, keptBare, after}
-use Rattle.machine.specs.Calls.{Call, opens, closes, counts, sends, urges, arrives, hands-out, reports, ticks}
+use Rattle.machine.specs.Calls.{Call, opens, closes, counts, sends, urges, plans, arrives, hands-out, reports, ticks}
 use Rattle.good.specs.NewNode.{newAt, newAfter, NewStays}
+use Rattle.good.proofs.Planned.{by-plan}
 use Rattle.good.proofs.ReportKeeps.{report-refused}
 use Rattle.good.proofs.OpenKeeps.{open-refused}
 use Rattle.good.proofs.CloseKeeps.{close-refused}
@@ -91,13 +92,20 @@ module _ (store : List ℕ) (c q : ℕ) where
       sides true = scan-new (later c 1)
       sides false = still-new (later c 1)
 
+pub send-same : (store : List ℕ) (c q i : ℕ) (p : List ℕ) → after (newAt store c q) (sends i p) ≡ newAt store c q
+unfolding after
+send-same store c q i p = ap kept (send-refused (lent (newAt store c q) []) i p (none store c q i))
+
 stays : (store : List ℕ) (c q : ℕ) → c ≤ 65535 → (k : Call) → after (newAt store c q) k ≡ newAfter store c q k
 unfolding after
 stays store c q small (opens i) = ap (keptBare (newAt store c q)) (open-refused (bare (newAt store c q)) i (none store c q i))
 stays store c q small (closes i) = ap (keptBare (newAt store c q)) (close-refused (bare (newAt store c q)) i (none store c q i))
 stays store c q small (counts i) = refl
-stays store c q small (sends i p) = ap kept (send-refused (lent (newAt store c q) []) i p (none store c q i))
+stays store c q small (sends i p) = send-same store c q i p
 stays store c q small (urges i p) = ap kept (urgent-refused (lent (newAt store c q) []) i p (none store c q i))
+stays store c q small (plans i block) =
+    by-plan (λ n m. n ≡ newAt store c q → m ≡ newAt store c q) i (λ n e. e)
+    (λ n p m s e. s (ap (λ (k : Memory). after k (sends i p)) e ∙ send-same store c q i p)) (newAt store c q) block refl
 stays store c q small (arrives block f) = arrive-same store c q block f (comes (lent (newAt store c q) block) (new-index store c q) f)
 stays store c q small (hands-out buffer) = hand-same store c q buffer (handOutAnswer (lent (newAt store c q) buffer))
 stays store c q small reports = ap (keptBare (newAt store c q)) (report-refused (bare (newAt store c q)) (getD-replicate bookHalves underAt 0 0 (omega arith)))

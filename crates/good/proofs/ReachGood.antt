@@ -30,7 +30,7 @@ use Rattle.units.specs.Refusals.{pick}
 use Rattle.call_arrive.specs.Arriving.{takenInAfter}
 use Rattle.good.specs.Good.{Lists, Good}
 use Rattle.good.specs.Calls.{Memory, lent, bare, after, SetUp, at-setup, by-call, by-store}
-use Rattle.machine.specs.Calls.{Call, opens, closes, counts, sends, urges, arrives, hands-out, reports, ticks}
+use Rattle.machine.specs.Calls.{Call, opens, closes, counts, sends, urges, plans, arrives, hands-out, reports, ticks}
 use Rattle.machine.specs.Calls.{Fed}
 use Rattle.good.specs.Reaching.{ReachIsGood}
 use Rattle.good.proofs.SetupGood.{setup-good}
@@ -41,6 +41,7 @@ use Rattle.good.proofs.UrgentKeeps.{urgent-keeps, urgent-refused}
 use Rattle.good.proofs.Arrivals.{Taken, Refused as Turned, arrives as comes}
 use Rattle.good.proofs.ArriveKeeps.{arrive-keeps}
 use Rattle.good.proofs.HandKeeps.{hand-keeps}
+use Rattle.good.proofs.Planned.{by-plan}
 use Rattle.good.proofs.ReportKeeps.{report-refused, report-keeps}
 use Rattle.waiting.specs.Port.{underIn}
 use Rattle.good.proofs.TickKeeps.{tick-keeps}
@@ -157,6 +158,9 @@ call-holds t n (closes i) f h = close-holds t n (h .0) (h .1) (h .2) i (decLt i 
 call-holds t n (counts i) f h = h
 call-holds t n (sends i p) f h = send-holds t n (h .0) (h .1) (h .2) i p (decLt i (countIn (n .node)))
 call-holds t n (urges i p) f h = urgent-holds t n (h .0) (h .1) (h .2) i p (decLt i (countIn (n .node)))
+call-holds t n (plans i block) f h =
+    by-plan (λ k m. Holds t k → Holds t m) i (λ k g. g)
+    (λ k p m s g. s (send-holds t k (g .0) (g .1) (g .2) i p (decLt i (countIn (k .node))))) n block h
 call-holds t n (arrives block f) b h = arrive-holds t n (h .0) (h .1) (h .2) block f b (comes (lent n block) (h .1 .tabled .index) f)
 call-holds t n (hands-out buffer) f h = hand-holds t n (h .0) (h .1) (h .2) buffer
 call-holds t n reports f h = report-holds t n (h .0) (h .1) (h .2) (ℕ-discrete (underIn (n .book)) 0)

@@ -32,13 +32,14 @@ use Rattle.end_points.specs.declared.answers.Arrived.{Arrived}
 use Rattle.end_points.specs.declared.answers.Arrived.the-variants as arrived
 use Rattle.end_points.specs.declared.answers.HandedOut.the-variants as handed
 use Rattle.call_send.specs.Sending.{senderTests, sendAnswer, sendAfter, urgentAnswer, urgentAfter}
+use Rattle.call_plan.specs.Planning.{InOrder, sentInOrder, sentBlock, planAnswer, planAfter}
 use Rattle.call_arrive.specs.Arriving.{entryOf, entryVerdict, answerAs, afterAs, blockRoom}
 use Rattle.call_arrive.specs.Arriving.{entryAnswer, entryAfter, readAnswer, readAfter, frameTests, arrivalAnswer, arrivalAfter}
 use Rattle.call_hand_out.specs.Handing.{frameOut, nextOut, handOutAnswer, handOutAfter}
-use Rattle.machine.specs.Calls.{Call, opens, closes, counts, sends, urges, arrives, hands-out, reports, ticks}
+use Rattle.machine.specs.Calls.{Call, opens, closes, counts, sends, urges, plans, arrives, hands-out, reports, ticks}
 use Rattle.good.specs.Good.{Lists, Good}
-use Rattle.good.specs.Calls.{Memory, lent, answer, after, relent}
-use Rattle.good.specs.Reaching.{Stored, shortened, Declined, ReachIsGood, ShortIsRefused}
+use Rattle.good.specs.Calls.{Memory, lent, kept, answer, after, relent}
+use Rattle.good.specs.Reaching.{Stored, shortened, Declined, ReachIsGood, ShortIsRefused, ShortStopsPlans}
 use Rattle.good.proofs.ReachGood.{reach-is-good}
 
 -- ---- a verdict with the longer store, and with the shorter one
@@ -211,6 +212,7 @@ module _ (t : List ℕ) (n : Memory) (l : Lists) (g : Good t (n .node) (n .book)
   declined (counts i) f = absurd f
   declined (sends i p) f = send-declined i p (sendAnswer (lent n []) i p) refl
   declined (urges i p) f = urgent-declined i p (urgentAnswer (lent n []) i p) refl
+  declined (plans i block) f = absurd f
   declined (arrives block b) f = arrive-declined block b (arrivalAnswer (lent n block) b) refl
   declined (hands-out buffer) f = hand-declined buffer
   declined reports f = absurd f
@@ -219,3 +221,31 @@ module _ (t : List ℕ) (n : Memory) (l : Lists) (g : Good t (n .node) (n .book)
 pub short-is-refused : ShortIsRefused
 unfolding ShortIsRefused ReachIsGood
 short-is-refused t n r s short c f = let h = reach-is-good t n r in declined t n (h .0) (h .1) (h .2) s short c f
+
+-- ---- a plan
+
+-- its first send is refused, and so it is the last
+stops : (n : Memory) (i : ℕ) (p : List ℕ) (ps : List (List ℕ)) (w : Refusal) → sendAnswer (lent n []) i p ≡ Refused w
+    → sentInOrder (lent n []) i 0 (p ∷ ps) ≡ record { accepted = 0; stop = Refused w; left = lent n [] }
+unfolding sentInOrder sendAfter
+stops n i p ps w e = rw e
+
+pub short-stops-plans : ShortStopsPlans
+unfolding ShortStopsPlans ReachIsGood answer after planAnswer planAfter
+short-stops-plans t n r s short i block p ps plan read =
+    let h = reach-is-good t n r in
+    sides (sendAnswer (lent n []) i p) (send-tests t n (h .0) (h .1) (h .2) s short i p)
+  where
+    by : (w : Refusal) → sendAnswer (lent (relent s n) []) i p ≡ Refused w
+        → (answer (relent s n) (plans i block) .numbers ≡ 0 ∷ 0 ∷ answer (relent s n) (sends i p) .numbers)
+        × (after (relent s n) (plans i block) ≡ relent s n)
+    by w e =
+        let o = stops (relent s n) i p ps w e in
+        let b : sentBlock (lent (relent s n) []) i block ≡ record { accepted = 0; stop = Refused w; left = lent (relent s n) [] } = rw read o in
+        (rw (plan, b, e), rw plan (ap (λ (x : InOrder). kept (x .left)) b))
+
+    sides : (v : Verdict) → sendAnswer (lent (relent s n) []) i p ≡ orShort v
+        → (answer (relent s n) (plans i block) .numbers ≡ 0 ∷ 0 ∷ answer (relent s n) (sends i p) .numbers)
+        × (after (relent s n) (plans i block) ≡ relent s n)
+    sides Passed e = by refusal.TooShort e
+    sides (Refused w) e = by w e

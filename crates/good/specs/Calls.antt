@@ -10,15 +10,16 @@ use Rattle.memory.specs.Layout.{nodeWords, bookHalves}
 use Rattle.table.specs.Areas.{storeOf}
 use Rattle.end_points.specs.Lent.{Lent}
 use Rattle.end_points.specs.Lent as lending
-use Rattle.end_points.specs.Answers.{answerOf, countedOf, arrivedOf, handedOf}
+use Rattle.end_points.specs.Answers.{answerOf, countedOf, plannedOf, arrivedOf, handedOf}
 use Rattle.call_open.specs.Setup.{setupAnswer, setupAfter}
 use Rattle.call_open.specs.Opening.{openAnswer, openAfter, closeAnswer, closeAfter, countsAnswer}
 use Rattle.call_send.specs.Sending.{sendAnswer, sendAfter, urgentAnswer, urgentAfter}
+use Rattle.call_plan.specs.Planning.{planAnswer, planAfter}
 use Rattle.call_arrive.specs.Arriving.{arrivalAnswer, arrivalAfter}
 use Rattle.call_hand_out.specs.Handing.{handOutAnswer, handOutAfter}
 use Rattle.call_report.specs.Reporting.{reportAnswer, reportAfter}
 use Rattle.call_tick.specs.Ticking.{tickAnswer, tickAfter}
-use Rattle.machine.specs.Calls.{Call, opens, closes, counts, sends, urges, arrives, hands-out, reports, ticks}
+use Rattle.machine.specs.Calls.{Call, opens, closes, counts, sends, urges, plans, arrives, hands-out, reports, ticks}
 use Rattle.machine.specs.Calls.{Answer, Bytes, Fed}
 
 -- ---- the calls
@@ -50,6 +51,7 @@ answer n (closes i) = record { numbers = answerOf (closeAnswer (bare n) i); out 
 answer n (counts i) = record { numbers = countedOf (countsAnswer (n .node) i); out = [] }
 answer n (sends i p) = record { numbers = answerOf (sendAnswer (lent n []) i p); out = [] }
 answer n (urges i p) = record { numbers = answerOf (urgentAnswer (lent n []) i p); out = [] }
+answer n (plans i block) = record { numbers = plannedOf (planAnswer (lent n []) i block); out = [] }
 answer n (arrives block f) =
     record {
       numbers = arrivedOf (arrivalAnswer (lent n block) f);
@@ -70,6 +72,7 @@ after n (closes i) = keptBare n (closeAfter (bare n) i (closeAnswer (bare n) i))
 after n (counts i) = n
 after n (sends i p) = kept (sendAfter (lent n []) i p (sendAnswer (lent n []) i p))
 after n (urges i p) = kept (urgentAfter (lent n []) i p (urgentAnswer (lent n []) i p))
+after n (plans i block) = kept (planAfter (lent n []) i block (planAnswer (lent n []) i block))
 after n (arrives block f) = kept (arrivalAfter (lent n block) f)
 after n (hands-out buffer) = kept (handOutAfter (lent n buffer) (handOutAnswer (lent n buffer)))
 after n reports = keptBare n (reportAfter (bare n) (reportAnswer (bare n)))

@@ -9,7 +9,7 @@ use Rattle.units.specs.Refusals.{pick}
 use Rattle.memory.specs.Layout.{nodeWords, bookHalves}
 use Rattle.timing.specs.Timing.{round, later, passed}
 use Rattle.good.specs.Calls.{Memory, after}
-use Rattle.machine.specs.Calls.{Call, opens, closes, counts, sends, urges, arrives, hands-out, reports, ticks}
+use Rattle.machine.specs.Calls.{Call, opens, closes, counts, sends, urges, plans, arrives, hands-out, reports, ticks}
 
 -- a new node: all zeros [N1]
 abbrev pub newNode : List ℕ → Memory
@@ -27,6 +27,7 @@ newAfter store c q (closes i) = newAt store c q
 newAfter store c q (counts i) = newAt store c q
 newAfter store c q (sends i p) = newAt store c q
 newAfter store c q (urges i p) = newAt store c q
+newAfter store c q (plans i block) = newAt store c q
 newAfter store c q (arrives block f) = newAt store c q
 newAfter store c q (hands-out buffer) = newAt store c q
 newAfter store c q reports = newAt store c q

@@ -4,12 +4,13 @@ use crate::value;
 use end_points::answers::Arrived;
 use end_points::answers::Counted;
 use end_points::answers::HandedOut;
+use end_points::answers::Planned;
 use end_points::answers::Was;
 use end_points::answers::what;
 use units::refusals::Verdict;
 ghost use mathlib.Core.Path.{_≡_};
 ghost use mathlib.Core.List.{[], _∷_};
-ghost use Rattle.end_points.specs.Answers.{answerOf, countedOf, whatOf, valueOf, arrivedOf, handedOf};
+ghost use Rattle.end_points.specs.Answers.{answerOf, countedOf, plannedOf, whatOf, valueOf, arrivedOf, handedOf};
 ghost use Rattle.lines.specs.Lines.{page, valuedAll};
 
 // 0, and a number.
@@ -43,6 +44,20 @@ pub fn counted(out: &mut [u8], at: usize, c: Counted) -> usize
             value(out, next, confirmed.0 as u64)
         }
         Counted::Refused(why) => refused(out, at, why),
+    }
+}
+
+// A plan: how many payloads were accepted, and what refused the next.
+pub fn planned(out: &mut [u8], at: usize, p: Planned) -> usize
+    ensures answer { λ r. ⌜ r ≡ valuedAll (page (now (out .entry)) at) (plannedOf p) .taken ⌝ }
+    ensures after { λ _. ⌜ now (out .exit) ≡ valuedAll (page (now (out .entry)) at) (plannedOf p) .bytes ⌝ }
+{
+    match p {
+        Planned::Accepted(n, stop) => {
+            let next = done(out, at, n as u64);
+            verdict(out, next, stop)
+        }
+        Planned::Refused(why) => refused(out, at, why),
     }
 }
 

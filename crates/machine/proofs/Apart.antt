@@ -15,8 +15,9 @@ use Rattle.units.specs.declared.refusals.Refusal.the-variants as refusal
 use Rattle.frame.specs.Faults.{refusedOf}
 use Rattle.frame.specs.Layout.{payloadOf}
 use Rattle.frame.specs.Reading.{headerOf}
-use Rattle.machine.specs.Calls.{opens, closes, counts, sends, urges, arrives, hands-out, reports, ticks}
-use Rattle.machine.specs.Machine.{End, Item, Sort, acks, resets, urgents, resends, datas, Out, Machine, Outcome, port, rank, answers, sendTests, handed, entryFor, goingOut, inOrder, opening, closing, counting, sending, urgentSending, reading, arriving, handingOut, reporting, isOf, step, without}
+use Rattle.blocks.specs.Reading.{readBlock}
+use Rattle.machine.specs.Calls.{opens, closes, counts, sends, urges, plans, arrives, hands-out, reports, ticks}
+use Rattle.machine.specs.Machine.{End, Item, Sort, acks, resets, urgents, resends, datas, Out, Machine, Outcome, port, rank, answers, sendTests, handed, entryFor, goingOut, inOrder, opening, closing, counting, sending, urgentSending, sendingAll, planning, reading, arriving, handingOut, reporting, isOf, step, without}
 use Rattle.machine.specs.Sound.{Sound}
 use Rattle.machine.specs.Laws.{answer, item, shareOf, Next, RefusedStays, Untouched, OthersStay}
 use Rattle.machine.specs.LawsHanding.{NextOrNone}
@@ -24,6 +25,7 @@ use Rattle.machine.proofs.Entries.{elem-set-other}
 use Rattle.machine.proofs.Items.{rank-is, without-append, share-kept, share-other}
 use Rattle.machine.proofs.Judged.{by-entry, by-verdict}
 use Rattle.machine.proofs.Touching.{Touched, as-was, turns, waited, silenced, stopped, enabled-touches, closed-touches, sent-touches, urged-touches, by-read, arrivalTests, by-done, by-reported}
+use Rattle.machine.proofs.Planning.{planTests, by-plan, first-zero}
 use Rattle.machine.proofs.Hosting.{openTests, opened, closeTests, closed, countTests, counts-of, sent, urgentTests, urged}
 use Rattle.machine.proofs.Handing.{outTests, roomTests, gone, goes, next-or-none, under-is, goes-is, none-is, owner}
 
@@ -54,12 +56,15 @@ module _ (m : Machine) (out : List ℕ) where
   order-keeps (q ∷ qs) = going-keeps q (m .waiting q) (inOrder m out qs) (order-keeps qs)
 
 pub refused-stays : RefusedStays
-unfolding RefusedStays step opening closing counting sending urgentSending arriving handingOut reporting
+unfolding RefusedStays step opening closing counting sending urgentSending planning arriving handingOut reporting
 refused-stays m (opens i) d = by-done (Keeps m []) m i openTests (opened m i) (kept m []) (λ e h. passed)
 refused-stays m (closes i) d = by-done (Keeps m []) m i closeTests (closed m i) (kept m []) (λ e h. passed)
 refused-stays m (counts i) d = by-done (Keeps m []) m i countTests (counts-of m) (kept m []) (λ e h. passed)
 refused-stays m (sends i p) d = by-done (Keeps m []) m i (λ e. sendTests m e p) (sent m i p) (kept m []) (λ e h. passed)
 refused-stays m (urges i p) d = by-done (Keeps m []) m i (urgentTests m p) (urged m i p) (kept m []) (λ e h. passed)
+refused-stays m (plans i block) d =
+    by-verdict (Keeps m []) (planTests block) [] m (sendingAll m i 0 (readBlock block)) (kept m [])
+    (λ v r. absurd (r (first-zero m i 0 (readBlock block))))
 refused-stays m (arrives block f) d =
     by-verdict (Keeps m block) (arrivalTests m f) block m (reading m block (headerOf f) (payloadOf f)) (kept m block)
     (λ v. by-read (Keeps m block) m block (kept m block) (headerOf f) (payloadOf f) (λ h z m′ t ns out′ l. passed))
@@ -113,12 +118,12 @@ module _ (m : Machine) (q : Sort) (x : Item) (xs : List Item) (n : Next m q x xs
         share = λ r. rest-leaves r (eqb (rank r) (rank q)) refl;
       }
 
+all-left : (m : Machine) (j : ℕ) → Untouched m m j
+all-left m j = record { end = refl; share = λ q. refl }
+
 module _ (t : List ℕ) (m : Machine) (S : Sound t m) (j : ℕ) where
   abbrev Leaves : Outcome → Type 0
   Leaves o = Untouched m (o .machine) j
-
-  all-left : Untouched m m j
-  all-left = record { end = refl; share = λ q. refl }
 
   out-leaves : (buffer : List ℕ) → (((q : Sort) × (x : Item) × (xs : List Item) × Next m q x xs × (x .entry ≡ j)) → ⊥) → Leaves (step m (hands-out buffer))
   unfolding NextOrNone
@@ -128,34 +133,50 @@ module _ (t : List ℕ) (m : Machine) (S : Sound t m) (j : ℕ) where
       sides under (inl (q, x, xs, n)) =
           let o = owner t m S q x xs n in
           subst Leaves (sym (goes-is t m S under q x xs n (o .end) (o .there) buffer))
-          (by-verdict Leaves (roomTests m buffer q x (o .end)) buffer m (gone m buffer q x (o .end)) (λ w. all-left)
+          (by-verdict Leaves (roomTests m buffer q x (o .end)) buffer m (gone m buffer q x (o .end)) (λ w. all-left m j)
           (λ v. gone-leaves m q x xs n j (λ z. other (q, x, xs, n, z)) buffer (o .end)))
-      sides under (inr h) = subst Leaves (sym (none-is t m S under h buffer)) all-left
+      sides under (inr h) = subst Leaves (sym (none-is t m S under h buffer)) (all-left m j)
 
       way : (u : Option Out) → m .under ≡ u → Leaves (step m (hands-out buffer))
       way none under = sides under (next-or-none m)
-      way (some f) under = subst Leaves (sym (under-is m f under buffer)) all-left
+      way (some f) under = subst Leaves (sym (under-is m f under buffer)) (all-left m j)
 
   -- the end of a frame is its owner's
   report-leaves : (isOf j (m .under) ≡ true → ⊥) → Leaves (reporting m)
   unfolding reporting
   report-leaves other =
-      by-reported Leaves m (m .under) all-left
+      by-reported Leaves m (m .under) (all-left m j)
       (λ f z m′ a. ends (touched-leaves m (f .1 .entry) j (λ y. other (ap (isOf j) z ∙ eq-eqb (f .1 .entry) j y)) a))
     where
       ends : {m′ : Machine} → Untouched m m′ j → Untouched m (port none m′) j
       ends u = record { end = u .end; share = u .share }
 
+-- a send leaves what is not its own, and so does a plan, send after send
+module _ (i j : ℕ) (d : i ≢ j) where
+  sent-leaves : (m : Machine) (p : List ℕ) → Untouched m (sending m i p .machine) j
+  unfolding sending
+  sent-leaves m p =
+      by-done (λ o. Untouched m (o .machine) j) m i (λ e. sendTests m e p) (sent m i p) (λ w. all-left m j)
+      (λ e h. touched-leaves m i j d (sent-touches m i e p h))
+
+  plan-leaves : (m : Machine) (block : List ℕ) → Untouched m (planning m i block .machine) j
+  plan-leaves =
+      by-plan (λ m o. Untouched m (o .machine) j) i (λ m ns. all-left m j) (λ m p o u. then (sent-leaves m p) u) (λ m w. all-left m j)
+    where
+      then : {m k l : Machine} → Untouched m k j → Untouched k l j → Untouched m l j
+      then u v = record { end = v .end ∙ u .end; share = λ q. v .share q ∙ u .share q }
+
 pub others-stay : OthersStay
 unfolding OthersStay step opening closing counting sending urgentSending arriving
-others-stay t m S (opens i) j d = by-done (Leaves t m S j) m i openTests (opened m i) (λ w. all-left t m S j) (λ e h. touched-leaves m i j d (enabled-touches m i e h))
-others-stay t m S (closes i) j d = by-done (Leaves t m S j) m i closeTests (closed m i) (λ w. all-left t m S j) (λ e h. touched-leaves m i j d (closed-touches m i e h))
-others-stay t m S (counts i) j d = by-done (Leaves t m S j) m i countTests (counts-of m) (λ w. all-left t m S j) (λ e h. all-left t m S j)
-others-stay t m S (sends i p) j d = by-done (Leaves t m S j) m i (λ e. sendTests m e p) (sent m i p) (λ w. all-left t m S j) (λ e h. touched-leaves m i j d (sent-touches m i e p h))
-others-stay t m S (urges i p) j d = by-done (Leaves t m S j) m i (urgentTests m p) (urged m i p) (λ w. all-left t m S j) (λ e h. touched-leaves m i j d (urged-touches m i e p h))
+others-stay t m S (opens i) j d = by-done (Leaves t m S j) m i openTests (opened m i) (λ w. all-left m j) (λ e h. touched-leaves m i j d (enabled-touches m i e h))
+others-stay t m S (closes i) j d = by-done (Leaves t m S j) m i closeTests (closed m i) (λ w. all-left m j) (λ e h. touched-leaves m i j d (closed-touches m i e h))
+others-stay t m S (counts i) j d = by-done (Leaves t m S j) m i countTests (counts-of m) (λ w. all-left m j) (λ e h. all-left m j)
+others-stay t m S (sends i p) j d = sent-leaves i j d m p
+others-stay t m S (urges i p) j d = by-done (Leaves t m S j) m i (urgentTests m p) (urged m i p) (λ w. all-left m j) (λ e h. touched-leaves m i j d (urged-touches m i e p h))
+others-stay t m S (plans i block) j d = plan-leaves i j d m block
 others-stay t m S (arrives block f) j d =
-    by-verdict (Leaves t m S j) (arrivalTests m f) block m (reading m block (headerOf f) (payloadOf f)) (λ w. all-left t m S j)
-    (λ v. by-read (Leaves t m S j) m block (λ w. all-left t m S j) (headerOf f) (payloadOf f)
+    by-verdict (Leaves t m S j) (arrivalTests m f) block m (reading m block (headerOf f) (payloadOf f)) (λ w. all-left m j)
+    (λ v. by-read (Leaves t m S j) m block (λ w. all-left m j) (headerOf f) (payloadOf f)
     (λ h z m′ a ns out′ l. touched-leaves m (entryFor m h) j (λ y. d (h, z, y)) a))
 others-stay t m S (hands-out buffer) j d = out-leaves t m S j buffer d
 others-stay t m S reports j d = report-leaves t m S j d

@@ -1,10 +1,11 @@
 -- Of the store's length a call asks only whether it is enough: with another store that is, it answers the same and leaves
 -- the same machine, lent that store. Assumes nothing.
-use Prim.Native.Nat.{ℕ, zero, suc, _≤_}
+use Prim.Native.Nat.{ℕ, zero, suc, _+_, _≤_}
 use mathlib.Core.Path.{_≡_, refl, ap, _∙_}
 use mathlib.Core.Bool.{Bool, true, false, not, _&&_}
 use mathlib.Core.Option.{Option, none, some}
 use mathlib.Core.List.{List, [], _∷_}
+use native.Mathlib.Omega.{arith}
 use lib.ListN.{length, getElem?}
 use lib.Dec.{eqb}
 use borrow.Author.Tests.{le-ltb}
@@ -15,6 +16,7 @@ use Rattle.units.specs.declared.refusals.Verdict.{Verdict}
 use Rattle.units.specs.declared.refusals.Verdict.the-variants.{Passed, Refused}
 use Rattle.frame.specs.Layout.{payloadOf}
 use Rattle.frame.specs.Reading.{soundOf, headerOf}
+use Rattle.blocks.specs.Reading.{readBlock}
 use Rattle.frame.specs.declared.Header.{Header}
 use Rattle.frame.specs.declared.FrameType.{FrameType}
 use Rattle.frame.specs.declared.FrameType.the-variants as type
@@ -24,16 +26,19 @@ use Rattle.end_points.specs.Answers.{answerOf}
 use Rattle.end_points.specs.States.{isSends}
 use Rattle.end_points.specs.declared.State.{State}
 use Rattle.end_points.specs.declared.State.the-variants.{Closed, Enabled, Open, Failing}
-use Rattle.machine.specs.Calls.{opens, closes, counts, sends, urges, arrives, hands-out, reports, ticks}
+use Rattle.machine.specs.Calls.{opens, closes, counts, sends, urges, plans, arrives, hands-out, reports, ticks}
 use Rattle.machine.specs.Machine.{Number, End, Item, Sort, acks, resets, urgents, resends, datas, Machine, Outcome}
 use Rattle.machine.specs.Machine.{port, lending, found, at, answers, judged, unless, onEntry, done, turned, waits, enabled}
 use Rattle.machine.specs.Machine.{numberAt, isNew, anySpent, isOurs}
-use Rattle.machine.specs.Machine.{opening, closing, counting, sendTests, sending, urgentSending, acking, receiving}
+use Rattle.machine.specs.Machine.{opening, closing, counting, sendTests, sending, urgentSending, accepts, sendingAll}
+use Rattle.machine.specs.Machine.{planning, acking, receiving}
 use Rattle.machine.specs.Machine.{resetting, takenIn, entryTests, entryFor, reading, arriving, frameOf, goingOut}
 use Rattle.machine.specs.Machine.{inOrder, handingOut, againFrom, past, each, ticked, mayRecover, recovered, ticking, step}
 use Rattle.machine.specs.Machine.{Out, ended, reported, reporting}
-use Rattle.machine.specs.Laws.{relent, RoomIdle}
+use Rattle.machine.specs.Laws.{TableStays, relent, RoomIdle}
 use Rattle.machine.proofs.Hosting.{openTests, opened, closeTests, closed, countTests, counts-of, sent, urgentTests, urged}
+use Rattle.machine.proofs.Planning.{planTests}
+use Rattle.machine.proofs.Standing.{table-stays}
 use Rattle.machine.proofs.Handing.{outTests, roomTests, gone, goes}
 
 module _ (room : ℕ) where
@@ -187,8 +192,34 @@ module _ (room : ℕ) where
     order-lent out [] = refl
     order-lent out (q ∷ qs) = going-lent out q (m .waiting q) (inOrder m out qs) (order-lent out qs)
 
+-- a send, and then send after send
+sending-lent : (room : ℕ) (m : Machine) (i : ℕ) (p : List ℕ) → m .need ≤ m .room → m .need ≤ room
+    → sending (lending room m) i p ≡ relent room (sending m i p)
+unfolding sending
+sending-lent room m i p h k =
+    entry-lent room m i (λ e. sendTests (lending room m) e p) (λ e. sendTests m e p) (sent (lending room m) i p) (sent m i p)
+    (λ e. rw (le-ltb room (m .need) k, le-ltb (m .room) (m .need) h) refl) (λ e. refl)
+
+all-lent : (room : ℕ) (m : Machine) (i n : ℕ) (ps : List (List ℕ)) → m .need ≤ m .room → m .need ≤ room
+    → sendingAll (lending room m) i n ps ≡ relent room (sendingAll m i n ps)
+unfolding sendingAll TableStays step
+all-lent room m i n [] h k = refl
+all-lent room m i n (p ∷ ps) h k =
+    let o = sending m i p in
+    let s = table-stays m (sends i p) .head in
+    let a : o .machine .need ≡ m .need = ap (λ (x : Machine). x .need) s in
+    let b : o .machine .room ≡ m .room = ap (λ (x : Machine). x .room) s in
+    rw (sending-lent room m i p h k) (sides (accepts o) (all-lent room (o .machine) i (n + 1) ps (omega arith) (omega arith)))
+  where
+    sides : (b : Bool) → let o = sending m i p in
+        sendingAll (lending room (o .machine)) i (n + 1) ps ≡ relent room (sendingAll (o .machine) i (n + 1) ps)
+        → pick b (sendingAll (lending room (o .machine)) i (n + 1) ps) (answers (0 ∷ n ∷ o .answer .numbers) [] (lending room (o .machine)))
+        ≡ relent room (pick b (sendingAll (o .machine) i (n + 1) ps) (answers (0 ∷ n ∷ o .answer .numbers) [] (o .machine)))
+    sides true e = e
+    sides false e = refl
+
 pub room-idle : RoomIdle
-unfolding RoomIdle step opening closing counting sending urgentSending arriving handingOut reporting
+unfolding RoomIdle step opening closing counting urgentSending planning arriving handingOut reporting
 room-idle m room (opens i) h k =
     entry-lent room m i openTests openTests (opened (lending room m) i) (opened m i) (λ e. refl)
     (λ e. ap done (enabled-lent room i e m))
@@ -196,12 +227,13 @@ room-idle m room (closes i) h k =
     entry-lent room m i closeTests closeTests (closed (lending room m) i) (closed m i) (λ e. refl) (λ e. refl)
 room-idle m room (counts i) h k =
     entry-lent room m i countTests countTests (counts-of (lending room m)) (counts-of m) (λ e. refl) (λ e. refl)
-room-idle m room (sends i p) h k =
-    entry-lent room m i (λ e. sendTests (lending room m) e p) (λ e. sendTests m e p) (sent (lending room m) i p) (sent m i p)
-    (λ e. rw (le-ltb room (m .need) k, le-ltb (m .room) (m .need) h) refl) (λ e. refl)
+room-idle m room (sends i p) h k = sending-lent room m i p h k
 room-idle m room (urges i p) h k =
     entry-lent room m i (urgentTests (lending room m) p) (urgentTests m p) (urged (lending room m) i p) (urged m i p)
     (λ e. rw (le-ltb room (m .need) k, le-ltb (m .room) (m .need) h) refl) (λ e. refl)
+room-idle m room (plans i block) h k =
+    judged-lent room (verdict (planTests block)) refl [] m (sendingAll m i 0 (readBlock block))
+    (all-lent room m i 0 (readBlock block) h k)
 room-idle m room (arrives block f) h k =
     judged-lent room (verdict ((not (soundOf f), refusal.BadFrame) ∷ (not (isOurs m f), refusal.NotOurs) ∷ [])) refl block m
     (reading m block (headerOf f) (payloadOf f)) (reading-lent room m h k block (headerOf f) (payloadOf f))

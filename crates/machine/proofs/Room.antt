@@ -32,8 +32,9 @@ use Rattle.table.specs.declared.Kind.the-variants.{Sends, Receives}
 use Rattle.table.proofs.Good.{good-entry, store-fits}
 use Rattle.table.proofs.Places.{areas-inside}
 use Rattle.blocks.specs.Blocks.{offsetBytes}
-use Rattle.machine.specs.Calls.{opens, closes, counts, sends, urges, arrives, hands-out, reports, ticks}
-use Rattle.machine.specs.Machine.{End, Item, Sort, acks, resets, urgents, resends, datas, Out, Machine, Outcome, judged, unless, onEntry, sendTests, blockRoom, entryTests, entryFor, carried, frameOf, goingOut, inOrder, opening, closing, counting, sending, urgentSending, reading, arriving, handingOut, reporting, ticking, step, offset, numberAt}
+use Rattle.blocks.specs.Reading.{readBlock}
+use Rattle.machine.specs.Calls.{opens, closes, counts, sends, urges, plans, arrives, hands-out, reports, ticks}
+use Rattle.machine.specs.Machine.{End, Item, Sort, acks, resets, urgents, resends, datas, Out, Machine, Outcome, judged, unless, onEntry, sendTests, sendingAll, planning, blockRoom, entryTests, entryFor, carried, frameOf, goingOut, inOrder, opening, closing, counting, sending, urgentSending, reading, arriving, handingOut, reporting, ticking, step, offset, numberAt}
 use Rattle.machine.specs.Sound.{Sized, WaitsData, Waits, Sound}
 use Rattle.machine.specs.Laws.{Is, answer, Next}
 use Rattle.machine.specs.LawsHanding.{NextOrNone}
@@ -42,6 +43,7 @@ use Rattle.machine.proofs.Entries.{elem-lt, elem-in, getD-elem}
 use Rattle.machine.proofs.Judged.{by-entry, by-verdict}
 use Rattle.machine.proofs.Touching.{by-taken, by-read, arrivalTests, by-done, by-reported}
 use Rattle.machine.proofs.Hosting.{openTests, opened, closeTests, closed, countTests, counts-of, sent, urgentTests, urged}
+use Rattle.machine.proofs.Planning.{planTests, by-plan, first-zero}
 use Rattle.machine.proofs.Handing.{fieldsOut, outTests, roomTests, gone, goes, next-or-none, owned-waits, owner, under-is, goes-is, none-is}
 
 -- ---- no test for 6 fits
@@ -179,7 +181,7 @@ module _ (t : List ℕ) (m : Machine) (S : Sound t m) where
       way (some f) under = subst Roomed (sym (under-is m f under buffer)) (λ z. omega arith)
 
 pub never-short : NeverShort
-unfolding NeverShort step opening closing counting sending urgentSending reporting
+unfolding NeverShort step opening closing counting sending urgentSending planning reporting
 never-short t m S (opens i) d r = host-roomed m i openTests (opened m i) (λ e. ((λ _ z. omega arith), tt)) (λ e. done-roomed)
 never-short t m S (closes i) d r = host-roomed m i closeTests (closed m i) (λ e. ((λ _ z. omega arith), tt)) (λ e. done-roomed)
 never-short t m S (counts i) d r = host-roomed m i countTests (counts-of m) (λ e. ((λ _ z. omega arith), tt)) (λ e. done-roomed)
@@ -191,6 +193,9 @@ never-short t m S (urges i p) d r =
     host-roomed m i (urgentTests m p) (urged m i p)
     (λ e. ((λ _ z. omega arith), ((λ _ z. omega arith), ((λ _ z. omega arith), ((λ _ z. omega arith), ((λ _ z. omega arith), (unmet _ (store-room t m S), tt)))))))
     (λ e. done-roomed)
+never-short t m S (plans i block) d r =
+    roomed (planTests block) ((λ _ z. omega arith), tt) [] m (sendingAll m i 0 (readBlock block))
+    (λ z. omega (arith, first-zero m i 0 (readBlock block)))
 never-short t m S (arrives block f) d r = arrive-roomed t m S block r f
 never-short t m S (hands-out buffer) d r = out-roomed t m S buffer r
 never-short t m S reports d r = by-reported Roomed m (m .under) (λ z. omega arith) (λ f z m′ a. done-roomed)
@@ -221,6 +226,7 @@ buffers-stay m (closes i) = by-done (Long m []) m i closeTests (closed m i) (λ 
 buffers-stay m (counts i) = by-done (Long m []) m i countTests (counts-of m) (λ w. refl) (λ e h. refl)
 buffers-stay m (sends i p) = by-done (Long m []) m i (λ e. sendTests m e p) (sent m i p) (λ w. refl) (λ e h. refl)
 buffers-stay m (urges i p) = by-done (Long m []) m i (urgentTests m p) (urged m i p) (λ w. refl) (λ e h. refl)
+buffers-stay m (plans i block) = by-plan (λ k o. length (o .answer .out) ≡ 0) i (λ k ns. refl) (λ k p o h. h) (λ k w. refl) m block
 buffers-stay m (arrives block f) =
     by-verdict (Long m block) (arrivalTests m f) block m (reading m block (headerOf f) (payloadOf f)) (λ w. refl)
     (λ v. by-read (Long m block) m block (λ w. refl) (headerOf f) (payloadOf f) (λ h z m′ t ns out′ l. l))

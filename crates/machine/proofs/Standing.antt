@@ -17,8 +17,8 @@ use Rattle.frame.specs.Reading.{headerOf}
 use Rattle.end_points.specs.States.{isOver}
 use Rattle.end_points.specs.declared.State.{State}
 use Rattle.end_points.specs.declared.State.the-variants.{Closed, Enabled, Open, Failing}
-use Rattle.machine.specs.Calls.{Call, opens, closes, counts, sends, urges, arrives, hands-out, reports, ticks}
-use Rattle.machine.specs.Machine.{End, Item, Sort, acks, resets, urgents, resends, datas, Out, Machine, Outcome, node, port, turned, anew, unless, onEntry, listed, first, begun, sendTests, entryFor, opening, closing, counting, sending, urgentSending, reading, arriving, handed, goingOut, typeOf, inOrder, handingOut, reporting, anySpent, each, isOf, recovered, step}
+use Rattle.machine.specs.Calls.{Call, opens, closes, counts, sends, urges, plans, arrives, hands-out, reports, ticks}
+use Rattle.machine.specs.Machine.{End, Item, Sort, acks, resets, urgents, resends, datas, Out, Machine, Outcome, node, port, turned, anew, unless, onEntry, listed, first, begun, sendTests, entryFor, opening, closing, counting, sending, urgentSending, planning, reading, arriving, handed, goingOut, typeOf, inOrder, handingOut, reporting, anySpent, each, isOf, recovered, step}
 use Rattle.machine.specs.Laws.{Is, after, Free, AllFree, Standing, TableStays, UnderWayStays, StartStaysFree}
 use Rattle.machine.specs.LawsTick.{timers, fails, due}
 use Rattle.machine.proofs.Entries.{elem-there, elem-lt, elem-in, elem-set-same, elem-set-other}
@@ -27,6 +27,7 @@ use Rattle.machine.proofs.Timers.{fell, timed, due-own}
 use Rattle.machine.proofs.Recovering.{again, againBy, addsBy, over-own, recovered-is}
 use Rattle.machine.proofs.Ticking.{tickOne, tick-is, timers-under, after-is}
 use Rattle.machine.proofs.Judged.{by-entry, by-verdict}
+use Rattle.machine.proofs.Planning.{by-plan}
 use Rattle.machine.proofs.Hosting.{openTests, opened, closeTests, closed, countTests, counts-of, sent, urgentTests, urged}
 use Rattle.machine.proofs.Handing.{outTests, roomTests, gone, goes}
 use Rattle.machine.proofs.Touching.{Follows, same-follows, anew-follows, none-held, Touched, as-was, turns, waited, silenced, stopped, enabled-touches, closed-touches, sent-touches, urged-touches, by-read, arrivalTests, by-done, by-reported}
@@ -226,6 +227,30 @@ module _ (m : Machine) where
       by-reported (Leaves m) m (m .under) (as-was-stands m)
       (λ f z m′ t. port-stands m m′ (touched-stands m (f .1 .entry) t) none)
 
+-- what is altered once, and then again
+then-stands : {m k l : Machine} → Stands m k → Stands k l → Stands m l
+then-stands {m} {k} {l} a b =
+    record {
+      standing = record {
+        head = ap (λ (x : Machine). port (m .under) (node x (m .ends) (m .waiting))) (b .standing .head) ∙ a .standing .head;
+        count = b .standing .count ∙ a .standing .count;
+        entry = λ i e d h g. between i e d h g;
+      };
+      free = λ f. b .free (a .free f);
+    }
+  where
+    between : (i : ℕ) (e d : End) → Is m i e → Is l i d → d .entry ≡ e .entry
+    between i e d h g =
+        let n = a .standing .count in
+        let low = elem-lt (m .ends) i h in
+        let c = elem-there (k .ends) i (omega arith) in
+        b .standing .entry i (c .0) d (c .1) g ∙ a .standing .entry i e (c .0) h (c .1)
+
+plan-stands : (m : Machine) (i : ℕ) (block : List ℕ) → Leaves m (planning m i block)
+plan-stands m i block =
+    by-plan (λ k o. Stands k (o .machine)) i (λ k ns. as-was-stands k) (λ k p o s. then-stands (send-stands k i p) s)
+    (λ k w. as-was-stands k) m block
+
 call-stands : (m : Machine) (c : Call) → Leaves m (step m c)
 unfolding step
 call-stands m (opens i) = open-stands m i
@@ -233,6 +258,7 @@ call-stands m (closes i) = close-stands m i
 call-stands m (counts i) = counts-stand m i
 call-stands m (sends i p) = send-stands m i p
 call-stands m (urges i p) = urgent-stands m i p
+call-stands m (plans i block) = plan-stands m i block
 call-stands m (arrives block f) = arrive-stands m block f
 call-stands m (hands-out buffer) = hand-stands m buffer
 call-stands m reports = report-stands m
@@ -279,6 +305,11 @@ under-way-stays m (closes i) a = host-same m i closeTests (closed m i) (closed-t
 under-way-stays m (counts i) a = host-same m i countTests (counts-of m) (λ e h. as-was)
 under-way-stays m (sends i p) a = host-same m i (λ e. sendTests m e p) (sent m i p) (λ e. sent-touches m i e p)
 under-way-stays m (urges i p) a = host-same m i (urgentTests m p) (urged m i p) (λ e. urged-touches m i e p)
+under-way-stays m (plans i block) a =
+    by-plan (λ k o. o .machine .under ≡ k .under) i (λ k ns. refl) (λ k p o h. h ∙ sent-same k p) (λ k w. refl) m block
+  where
+    sent-same : (k : Machine) (p : List ℕ) → sending k i p .machine .under ≡ k .under
+    sent-same k p = host-same k i (λ e. sendTests k e p) (sent k i p) (λ e. sent-touches k i e p)
 under-way-stays m (arrives block f) a = arrive-same m block f
 under-way-stays m (hands-out buffer) a = absurd a
 under-way-stays m reports a = absurd a

@@ -7,7 +7,7 @@ use mathlib.Core.Path.{_≡_, refl}
 use mathlib.Core.List.{List, [], _∷_, _++_}
 use lib.ListN.{getD, take, replicate}
 use lib.Dec.{leb}
-use Rattle.units.specs.Bytes.{get16Of, be32}
+use Rattle.units.specs.Bytes.{get16Of, get32Of, be32}
 use Rattle.units.specs.Refusals.{pick}
 use Rattle.units.specs.Sizes.{defaultSize}
 use Rattle.check8.specs.Polynomial.{timesX, timesXs, stepByte, checkFrom}
@@ -17,8 +17,9 @@ use Rattle.frame.specs.Layout.{payloadOf, headBytes, bodyBytes, frameBytes}
 use Rattle.frame.specs.Reading.{soundOf, headerOf}
 use Rattle.arrive_lookup.specs.Fitting.{fits}
 use Rattle.blocks.specs.Blocks.{offsets, joinedUp, blockOf}
-use Rattle.machine.specs.Calls.{Call, opens, closes, counts, sends, urges, arrives, hands-out, reports, ticks}
-use Rattle.machine.specs.Calls.{Answer}
+use Rattle.blocks.specs.Reading.{payloadIn, payloadsIn, readBlock, neverFall, isBlock, isPlan}
+use Rattle.machine.specs.Calls.{Call, opens, closes, counts, sends, urges, plans, arrives, hands-out, reports}
+use Rattle.machine.specs.Calls.{ticks, Answer}
 use Rattle.machine.specs.Machine as machine
 use Rattle.machine.specs.Machine.{Machine, begun, step}
 
@@ -385,6 +386,53 @@ vectors =
     ∷ (ticks, 0 ∷ 0 ∷ [])
     ∷ (ticks, 0 ∷ 4 ∷ [])
     ∷ (reports, 0 ∷ [])
+    -- plans: payload after payload is sent, up to and including the first that is refused; 22 before everything
+    ∷ (plans 4 (0 ∷ 1 ∷ 0 ∷ 0 ∷ 0 ∷ 10 ∷ 0 ∷ 0 ∷ 0 ∷ 11 ∷ 1 ∷ []), 0 ∷ 0 ∷ 4 ∷ [])
+    ∷ (plans 3 (0 ∷ 1 ∷ 0 ∷ 0 ∷ 0 ∷ 10 ∷ 0 ∷ 0 ∷ 0 ∷ 11 ∷ 1 ∷ []), 0 ∷ 0 ∷ 3 ∷ [])
+    ∷ (plans 5 (0 ∷ 1 ∷ 0 ∷ 0 ∷ 0 ∷ 10 ∷ 0 ∷ 0 ∷ 0 ∷ 11 ∷ 1 ∷ []), 0 ∷ 0 ∷ 2 ∷ [])
+    ∷ (plans 4 (0 ∷ 0 ∷ 0 ∷ 0 ∷ 0 ∷ 6 ∷ []), 0 ∷ 0 ∷ 0 ∷ [])
+    ∷ (plans 5 (0 ∷ 0 ∷ 0 ∷ 0 ∷ 0 ∷ 6 ∷ []), 0 ∷ 0 ∷ 0 ∷ [])
+    ∷ (plans 5 (0 ∷ 2 ∷ 0 ∷ 0 ∷ 0 ∷ []), 22 ∷ [])
+    ∷ (plans 5 (0 ∷ 2 ∷ 0 ∷ 0 ∷ 0 ∷ 14 ∷ 0 ∷ 0 ∷ 0 ∷ 15 ∷ 0 ∷ 0 ∷ 0 ∷ []), 22 ∷ [])
+    ∷ (plans 5 (0 ∷ 2 ∷ 0 ∷ 0 ∷ 0 ∷ 13 ∷ 0 ∷ 0 ∷ 0 ∷ 15 ∷ 0 ∷ 0 ∷ 0 ∷ 16 ∷ 1 ∷ 2 ∷ []), 22 ∷ [])
+    ∷ (plans 5 (0 ∷ 2 ∷ 0 ∷ 0 ∷ 0 ∷ 15 ∷ 0 ∷ 0 ∷ 0 ∷ 15 ∷ 0 ∷ 0 ∷ 0 ∷ 16 ∷ 1 ∷ 2 ∷ []), 22 ∷ [])
+    ∷ (plans 5 (0 ∷ 2 ∷ 0 ∷ 0 ∷ 0 ∷ 14 ∷ 0 ∷ 0 ∷ 0 ∷ 13 ∷ 0 ∷ 0 ∷ 0 ∷ 16 ∷ 1 ∷ 2 ∷ []), 22 ∷ [])
+    ∷ (plans 5 (0 ∷ 2 ∷ 0 ∷ 0 ∷ 0 ∷ 14 ∷ 0 ∷ 0 ∷ 0 ∷ 17 ∷ 0 ∷ 0 ∷ 0 ∷ 16 ∷ 1 ∷ 2 ∷ []), 22 ∷ [])
+    ∷ (plans 5 (0 ∷ 2 ∷ 0 ∷ 0 ∷ 0 ∷ 14 ∷ 0 ∷ 0 ∷ 0 ∷ 15 ∷ 0 ∷ 0 ∷ 0 ∷ 16 ∷ 1 ∷ []), 22 ∷ [])
+    ∷ (plans 5 (0 ∷ 2 ∷ 0 ∷ 0 ∷ 0 ∷ 14 ∷ 0 ∷ 0 ∷ 0 ∷ 15 ∷ 0 ∷ 0 ∷ 0 ∷ 16 ∷ 1 ∷ 2 ∷ 0 ∷ []), 22 ∷ [])
+    ∷ (hands-out (lent 9), 0 ∷ 9 ∷ 66 ∷ 238 ∷ 64 ∷ 2 ∷ 0 ∷ 0 ∷ 7 ∷ 0 ∷ 176 ∷ [])
+    ∷ (reports, 0 ∷ [])
+    ∷ (opens 4, 0 ∷ [])
+    ∷ (hands-out (lent 9), 0 ∷ 9 ∷ 66 ∷ 238 ∷ 64 ∷ 2 ∷ 0 ∷ 0 ∷ 8 ∷ 0 ∷ 115 ∷ [])
+    ∷ (reports, 0 ∷ [])
+    ∷ (arrives (lent 0) (64 ∷ 238 ∷ 66 ∷ 1 ∷ 0 ∷ 0 ∷ 8 ∷ 0 ∷ 161 ∷ []), 0 ∷ 2 ∷ 4 ∷ [])
+    ∷ (plans 4 (0 ∷ 2 ∷ 0 ∷ 0 ∷ 0 ∷ 14 ∷ 0 ∷ 0 ∷ 0 ∷ 14 ∷ 0 ∷ 0 ∷ 0 ∷ 15 ∷ 1 ∷ []), 0 ∷ 0 ∷ 5 ∷ [])
+    ∷ (plans 4 (0 ∷ 3 ∷ 0 ∷ 0 ∷ 0 ∷ 18 ∷ 0 ∷ 0 ∷ 0 ∷ 19 ∷ 0 ∷ 0 ∷ 0 ∷ 19 ∷ 0 ∷ 0 ∷ 0 ∷ 20 ∷ 1 ∷ 2 ∷ []), 0 ∷ 1 ∷ 5 ∷ [])
+    ∷ (hands-out (lent 10), 0 ∷ 10 ∷ 66 ∷ 238 ∷ 64 ∷ 0 ∷ 0 ∷ 1 ∷ 8 ∷ 1 ∷ 1 ∷ 8 ∷ [])
+    ∷ (plans 4 (0 ∷ 1 ∷ 0 ∷ 0 ∷ 0 ∷ 10 ∷ 0 ∷ 0 ∷ 0 ∷ 11 ∷ 2 ∷ []), 0 ∷ 1 ∷ 0 ∷ [])
+    ∷ (reports, 0 ∷ [])
+    ∷ (plans 4 (0 ∷ 1 ∷ 0 ∷ 0 ∷ 0 ∷ 10 ∷ 0 ∷ 0 ∷ 0 ∷ 11 ∷ 3 ∷ []), 0 ∷ 0 ∷ 7 ∷ [])
+    ∷ (hands-out (lent 10), 0 ∷ 10 ∷ 66 ∷ 238 ∷ 64 ∷ 0 ∷ 0 ∷ 1 ∷ 8 ∷ 2 ∷ 2 ∷ 62 ∷ [])
+    ∷ (reports, 0 ∷ [])
+    ∷ (arrives (lent 0) (64 ∷ 238 ∷ 66 ∷ 1 ∷ 0 ∷ 0 ∷ 8 ∷ 1 ∷ 166 ∷ []), 0 ∷ 1 ∷ 4 ∷ 1 ∷ [])
+    ∷ (plans 4 (0 ∷ 3 ∷ 0 ∷ 0 ∷ 0 ∷ 18 ∷ 0 ∷ 0 ∷ 0 ∷ 19 ∷ 0 ∷ 0 ∷ 0 ∷ 20 ∷ 0 ∷ 0 ∷ 0 ∷ 21 ∷ 3 ∷ 4 ∷ 5 ∷ []), 0 ∷ 1 ∷ 7 ∷ [])
+    ∷ (hands-out (lent 10), 0 ∷ 10 ∷ 66 ∷ 238 ∷ 64 ∷ 0 ∷ 0 ∷ 1 ∷ 8 ∷ 3 ∷ 3 ∷ 44 ∷ [])
+    ∷ (reports, 0 ∷ [])
+    ∷ (arrives (lent 0) (64 ∷ 238 ∷ 66 ∷ 1 ∷ 0 ∷ 0 ∷ 8 ∷ 3 ∷ 168 ∷ []), 0 ∷ 1 ∷ 4 ∷ 0 ∷ [])
+    ∷ (arrives (lent 0) (64 ∷ 238 ∷ 66 ∷ 1 ∷ 0 ∷ 0 ∷ 8 ∷ 2 ∷ 175 ∷ []), 0 ∷ 1 ∷ 4 ∷ 2 ∷ [])
+    ∷ (plans 4 (0 ∷ 2 ∷ 0 ∷ 0 ∷ 0 ∷ 14 ∷ 0 ∷ 0 ∷ 0 ∷ 15 ∷ 0 ∷ 0 ∷ 0 ∷ 17 ∷ 4 ∷ 5 ∷ 5 ∷ []), 0 ∷ 1 ∷ 5 ∷ [])
+    ∷ (hands-out (lent 10), 0 ∷ 10 ∷ 66 ∷ 238 ∷ 64 ∷ 0 ∷ 0 ∷ 1 ∷ 8 ∷ 4 ∷ 4 ∷ 82 ∷ [])
+    ∷ (reports, 0 ∷ [])
+    ∷ (arrives (lent 0) (64 ∷ 238 ∷ 66 ∷ 1 ∷ 0 ∷ 0 ∷ 8 ∷ 4 ∷ 189 ∷ []), 0 ∷ 1 ∷ 4 ∷ 1 ∷ [])
+    ∷ (plans 4 (0 ∷ 2 ∷ 0 ∷ 0 ∷ 0 ∷ 14 ∷ 0 ∷ 0 ∷ 0 ∷ 15 ∷ 0 ∷ 0 ∷ 0 ∷ 16 ∷ 5 ∷ 6 ∷ []), 0 ∷ 2 ∷ 0 ∷ [])
+    ∷ (hands-out (lent 10), 0 ∷ 10 ∷ 66 ∷ 238 ∷ 64 ∷ 0 ∷ 0 ∷ 1 ∷ 8 ∷ 5 ∷ 5 ∷ 64 ∷ [])
+    ∷ (reports, 0 ∷ [])
+    ∷ (hands-out (lent 10), 0 ∷ 10 ∷ 66 ∷ 238 ∷ 64 ∷ 0 ∷ 0 ∷ 1 ∷ 8 ∷ 6 ∷ 6 ∷ 118 ∷ [])
+    ∷ (reports, 0 ∷ [])
+    ∷ (arrives (lent 0) (64 ∷ 238 ∷ 66 ∷ 1 ∷ 0 ∷ 0 ∷ 8 ∷ 5 ∷ 186 ∷ []), 0 ∷ 1 ∷ 4 ∷ 1 ∷ [])
+    ∷ (arrives (lent 0) (64 ∷ 238 ∷ 66 ∷ 1 ∷ 0 ∷ 0 ∷ 8 ∷ 6 ∷ 179 ∷ []), 0 ∷ 1 ∷ 4 ∷ 1 ∷ [])
+    ∷ (plans 4 (0 ∷ 3 ∷ 0 ∷ 0 ∷ 0 ∷ 18 ∷ 0 ∷ 0 ∷ 0 ∷ 19 ∷ 0 ∷ 0 ∷ 0 ∷ 20 ∷ 0 ∷ 0 ∷ 0 ∷ 21 ∷ 7 ∷ 8 ∷ 9 ∷ []), 0 ∷ 2 ∷ 7 ∷ [])
+    ∷ (counts 4, 0 ∷ 8 ∷ 6 ∷ [])
     ∷ []
 
 -- ---- the desk's line on a call, from what the machine answers
@@ -403,6 +451,7 @@ lineOf (closes i) a = a .numbers
 lineOf (counts i) a = a .numbers
 lineOf (sends i p) a = a .numbers
 lineOf (urges i p) a = a .numbers
+lineOf (plans i block) a = a .numbers
 lineOf (arrives block f) a = a .numbers ++ take (blockLength (a .numbers)) (a .out)
 lineOf (hands-out buffer) a = a .numbers ++ take (frameLength (a .numbers)) (a .out)
 lineOf reports a = a .numbers
@@ -421,13 +470,14 @@ peers (v ∷ vs) = v .1 ∷ peers vs
 
 -- what the machine computes with
 computes : Unit {0}
-unfolding get16Of be32 defaultSize timesX timesXs stepByte checkFrom entryOf entryFrom areas.areaOf areas.placeOf
-    areas.storeOf payloadOf headBytes bodyBytes frameBytes soundOf headerOf fits offsets joinedUp blockOf begun step
-    machine.without machine.enabled machine.listed machine.opening machine.closing machine.counting machine.sending
-    machine.urgentSending machine.ackedRun machine.running machine.acking machine.heldCount machine.heldRun
-    machine.receiving machine.resetting machine.takenIn machine.placeOf machine.reading machine.arriving machine.frameOf
-    machine.goingOut machine.inOrder machine.handingOut machine.reported machine.reporting machine.tickedAll
-    machine.anySpent machine.againFrom machine.ticked machine.each machine.bitsFrom machine.ticking
+unfolding get16Of get32Of be32 defaultSize timesX timesXs stepByte checkFrom entryOf entryFrom areas.areaOf
+    areas.placeOf areas.storeOf payloadOf headBytes bodyBytes frameBytes soundOf headerOf fits offsets joinedUp blockOf
+    payloadIn payloadsIn readBlock neverFall isBlock isPlan begun step machine.without machine.enabled machine.listed
+    machine.opening machine.closing machine.counting machine.sending machine.urgentSending machine.sendingAll
+    machine.planning machine.ackedRun machine.running machine.acking machine.heldCount machine.heldRun machine.receiving
+    machine.resetting machine.takenIn machine.placeOf machine.reading machine.arriving machine.frameOf machine.goingOut
+    machine.inOrder machine.handingOut machine.reported machine.reporting machine.tickedAll machine.anySpent
+    machine.againFrom machine.ticked machine.each machine.bitsFrom machine.ticking
 computes = tt
 
 pub vectors-agree : machines (begun table room) vectors ≡ peers vectors

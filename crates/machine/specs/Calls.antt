@@ -11,6 +11,7 @@ pub data Call : Type 0 where
   counts : (index : ℕ) → Call
   sends : (index : ℕ) (payload : List ℕ) → Call
   urges : (index : ℕ) (payload : List ℕ) → Call
+  plans : (index : ℕ) (block : List ℕ) → Call
   arrives : (block frame : List ℕ) → Call
   hands-out : (buffer : List ℕ) → Call
   reports : Call  -- the end of the frame under way
@@ -32,6 +33,7 @@ Fed (closes i) = Unit {0}
 Fed (counts i) = Unit {0}
 Fed (sends i p) = Unit {0}
 Fed (urges i p) = Unit {0}
+Fed (plans i block) = Unit {0}
 Fed (arrives block f) = Bytes f
 Fed (hands-out buffer) = Unit {0}
 Fed reports = Unit {0}

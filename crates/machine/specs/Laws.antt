@@ -14,8 +14,8 @@ use Rattle.end_points.specs.declared.State.{State}
 use Rattle.frame.specs.Reading.{headerOf}
 use Rattle.frame.specs.declared.Header.{Header}
 use Rattle.frame.specs.declared.Read.the-variants as read
-use Rattle.machine.specs.Calls.{Call, opens, closes, counts, sends, urges, arrives, hands-out, reports, ticks}
-use Rattle.machine.specs.Calls.{Answer}
+use Rattle.machine.specs.Calls.{Call, opens, closes, counts, sends, urges, plans, arrives, hands-out, reports}
+use Rattle.machine.specs.Calls.{ticks, Answer}
 use Rattle.machine.specs.Machine.{End, Item, Sort, Machine, Outcome, node, port, lending, rank, without, past}
 use Rattle.machine.specs.Machine.{offset, begun, entryFor, isOf, step}
 use Rattle.machine.specs.Sound.{Sound}
@@ -104,6 +104,7 @@ Aside (closes i) = Unit {0}
 Aside (counts i) = Unit {0}
 Aside (sends i p) = Unit {0}
 Aside (urges i p) = Unit {0}
+Aside (plans i block) = Unit {0}
 Aside (arrives block f) = Unit {0}
 Aside (hands-out buffer) = ⊥
 Aside reports = ⊥
@@ -139,6 +140,7 @@ lent (closes i) = []
 lent (counts i) = []
 lent (sends i p) = []
 lent (urges i p) = []
+lent (plans i block) = []
 lent (arrives block f) = block
 lent (hands-out buffer) = buffer
 lent reports = []
@@ -160,6 +162,7 @@ On m (closes j) i = j ≡ i
 On m (counts j) i = j ≡ i
 On m (sends j p) i = j ≡ i
 On m (urges j p) i = j ≡ i
+On m (plans j block) i = j ≡ i
 On m (arrives block f) i = (h : Header) × (headerOf f ≡ read.Frame h) × (entryFor m h ≡ i)
 On m (hands-out buffer) i = (q : Sort) × (x : Item) × (xs : List Item) × Next m q x xs × (x .entry ≡ i)
 On m reports i = isOf i (m .under) ≡ true

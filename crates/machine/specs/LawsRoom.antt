@@ -9,7 +9,8 @@ use Rattle.units.specs.Limits.{mostStore, mostWindow}
 use Rattle.units.specs.Refusals.{numberOf}
 use Rattle.units.specs.declared.refusals.Refusal.the-variants as refusal
 use Rattle.blocks.specs.Blocks.{empty, offsetBytes}
-use Rattle.machine.specs.Calls.{Call, opens, closes, counts, sends, urges, arrives, hands-out, reports, ticks}
+use Rattle.machine.specs.Calls.{Call, opens, closes, counts, sends, urges, plans, arrives, hands-out, reports}
+use Rattle.machine.specs.Calls.{ticks}
 use Rattle.machine.specs.Machine.{Machine}
 use Rattle.machine.specs.Sound.{Sound}
 use Rattle.machine.specs.Laws.{answer, lent}
@@ -26,6 +27,7 @@ Roomy (closes i) = Unit {0}
 Roomy (counts i) = Unit {0}
 Roomy (sends i p) = Unit {0}
 Roomy (urges i p) = Unit {0}
+Roomy (plans i block) = Unit {0}
 Roomy (arrives block f) = mostOut ≤ length block
 Roomy (hands-out buffer) = mostOut ≤ length buffer
 Roomy reports = Unit {0}

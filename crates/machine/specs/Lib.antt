@@ -2,6 +2,7 @@ pub mod Calls
 pub mod Laws
 pub mod LawsArriving
 pub mod LawsCalls
+pub mod LawsPlan
 pub mod LawsHanding
 pub mod LawsReporting
 pub mod LawsTick

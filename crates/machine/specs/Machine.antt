@@ -31,17 +31,20 @@ use Rattle.frame.specs.declared.Read.the-variants as read
 use Rattle.frame.specs.declared.FrameType.{FrameType}
 use Rattle.frame.specs.declared.FrameType.the-variants as type
 use Rattle.end_points.specs.States.{isSends, isClosed, isOpen, isOver}
-use Rattle.end_points.specs.Answers.{stateNumber, answerOf, countedOf, arrivedOf, handedOf}
+use Rattle.end_points.specs.Answers.{stateNumber, answerOf, countedOf, plannedOf, arrivedOf, handedOf}
 use Rattle.end_points.specs.declared.State.{State}
 use Rattle.end_points.specs.declared.State.the-variants.{Closed, Enabled, Open, Failing}
 use Rattle.end_points.specs.declared.answers.Counted.the-variants.{Counts}
+use Rattle.end_points.specs.declared.answers.Planned.the-variants.{Accepted}
 use Rattle.end_points.specs.declared.answers.Was.{Was}
 use Rattle.end_points.specs.declared.answers.Was.the-variants as was
 use Rattle.end_points.specs.declared.answers.Arrived.the-variants as arrived
 use Rattle.end_points.specs.declared.answers.HandedOut.the-variants.{Length}
 use Rattle.arrive_lookup.specs.Fitting.{fits}
 use Rattle.blocks.specs.Blocks.{empty, offsetBytes, blockOf}
-use Rattle.machine.specs.Calls.{Call, opens, closes, counts, sends, urges, arrives, hands-out, reports, ticks}
+use Rattle.blocks.specs.Reading.{readBlock, isPlan}
+use Rattle.machine.specs.Calls.{Call, opens, closes, counts, sends, urges, plans, arrives, hands-out, reports}
+use Rattle.machine.specs.Calls.{ticks}
 use Rattle.machine.specs.Calls.{Answer, Bytes}
 
 -- ---- what a node is made of
@@ -364,6 +367,24 @@ urgentSending m i p =
     onEntry m i λ e.
     unless (senderTests e p ++ (isSome (e .urgent), refusal.UrgentWaits) ∷ tooShort m ∷ []) [] m
     (done (waits urgents i 0 (turned i (urging (some p) e) m)))
+
+-- ---- a plan: a block of payloads, each sent as though alone
+
+-- whether what a send came to was no refusal [E18]
+abbrev pub accepts : Outcome → Bool
+accepts o = eqb (getD (o .answer .numbers) 0 0) 0
+
+-- payloads sent in order, up to and including the first that is refused, n being accepted before them: it answers how
+-- many were accepted, and what the last send answered if it was refused, or 0 [E18, O10]
+unfoldable pub sendingAll : Machine → ℕ → ℕ → List (List ℕ) → Outcome
+sendingAll m i n [] = answers (plannedOf (Accepted n Passed)) [] m
+sendingAll m i n (p ∷ ps) =
+    let o = sending m i p in
+    pick (accepts o) (sendingAll (o .machine) i (n + 1) ps) (answers (0 ∷ n ∷ o .answer .numbers) [] (o .machine))
+
+-- 22 before everything; then the payloads of the block [B5, R22, R50]
+unfoldable pub planning : Machine → ℕ → List ℕ → Outcome
+planning m i block = unless ((not (isPlan block), refusal.BadBlock) ∷ []) [] m (sendingAll m i 0 (readBlock block))
 
 -- ---- an acknowledgement
 
@@ -704,6 +725,7 @@ step m (closes i) = closing m i
 step m (counts i) = counting m i
 step m (sends i p) = sending m i p
 step m (urges i p) = urgentSending m i p
+step m (plans i block) = planning m i block
 step m (arrives block f) = arriving m block f
 step m (hands-out buffer) = handingOut m buffer
 step m reports = reporting m

@@ -8,6 +8,7 @@ use end_points::answers::Arrived;
 use end_points::answers::Counted;
 use end_points::answers::HandedOut;
 use end_points::answers::Needed;
+use end_points::answers::Planned;
 use end_points::answers::Stated;
 use memory::layout;
 use units::refusals::Verdict;
@@ -17,6 +18,7 @@ ghost use Rattle.call_open.specs.Setup.{needAnswer, setupAnswer, setupAfter};
 ghost use Rattle.call_open.specs.Opening.{openAnswer, openAfter, closeAnswer, closeAfter, countsAnswer};
 ghost use Rattle.call_open.specs.Opening.{stateAnswer};
 ghost use Rattle.call_send.specs.Sending.{sendAnswer, sendAfter, urgentAnswer, urgentAfter};
+ghost use Rattle.call_plan.specs.Planning.{planAnswer, planAfter};
 ghost use Rattle.call_arrive.specs.Arriving.{arrivalAnswer, arrivalAfter};
 ghost use Rattle.call_hand_out.specs.Handing.{handOutAnswer, handOutAfter};
 ghost use Rattle.call_report.specs.Reporting.{reportAnswer, reportAfter};
@@ -116,6 +118,26 @@ pub fn urgent(
         ≡ urgentAfter x index (now (payload .entry)) r ⌝ }
 {
     call_send::urgent(node, book, store, index, payload)
+}
+
+// The payloads of a block are sent in order, up to and including the first that is refused. Refuses 22; answers how
+// many were accepted, and what refused the next. [E18, R50, O10]
+pub fn plan(
+    node: &mut Node,
+    book: &mut Book,
+    store: &mut [u8],
+    index: usize,
+    block: &[u8],
+) -> Planned
+    ensures answer { λ r.
+        let x = stored (now (node .entry)) (now (book .entry)) (now (store .entry)) in
+        ⌜ r ≡ planAnswer x index (now (block .entry)) ⌝ }
+    ensures after { λ r.
+        let x = stored (now (node .entry)) (now (book .entry)) (now (store .entry)) in
+        ⌜ stored (now (node .exit)) (now (book .exit)) (now (store .exit))
+        ≡ planAfter x index (now (block .entry)) r ⌝ }
+{
+    call_plan::plan(node, book, store, index, block)
 }
 
 // A frame has arrived. Data and Urgent write the host's block. Refuses 10, 11, 15, 16, 17, 18, 13, 5, 14, 6.

@@ -192,7 +192,7 @@ abbrev pub with-receiver : Recv → Channel → Channel
 with-receiver r g = record { sender = g .sender; receiver = r; hist = g .hist }
 
 abbrev pub g-send : Channel → Pay → Channel
-g-send g p = record { sender = s-send (g .sender) p; receiver = g .receiver; hist = s-note 0 (s-accepts p) (g .hist) }
+g-send g p = record { sender = s-send (g .sender) p; receiver = g .receiver; hist = s-note 0 (s-accepts (p ∷ [])) (g .hist) }
 
 abbrev pub g-hand : Send → Sent → Channel → Channel
 g-hand s f g = record {

@@ -11,13 +11,19 @@ use Rattle.promise.proofs.Channel.{Send, s-send, s-state, s-hand, s-ack
 
 -- ---- the steps of an end point
 
+-- payloads accepted one after the other, each with the next number, at most W from the start on
+pub data Accepts (W : ℕ) : Send → List Pay → Send → Type 0 where
+  accepts-none : (s : Send) → Accepts W s [] s
+  accepts-one : (s t : Send) (p : Pay) (ps : List Pay) → s .state ≡ s-open → s .taken < W → Accepts W (s-send s p) ps t
+      → Accepts W s (p ∷ ps) t
+
 -- what a call makes of the sending end point, by what was seen of it
 pub data SNext (W : ℕ) : Send → SSeen → Send → Type 0 where
   -- nothing alters, or a timer came to its end after M retries
   sn-same : (s : Send) → SNext W s s-quiet s
   sn-fail : (s : Send) → s .state ≡ s-open → SNext W s s-quiet (s-state s-failing s)
-  -- the payload has the next number, at most W from the start on
-  sn-accept : (s : Send) (p : Pay) → s .state ≡ s-open → s .taken < W → SNext W s (s-accepts p) (s-send s p)
+  -- send, or a plan
+  sn-accept : (s t : Send) (ps : List Pay) → Accepts W s ps t → SNext W s (s-accepts ps) t
   -- handing out: a Reset at Enabled; at Open the payload of a number that is taken, the first time or again
   sn-reset : (s : Send) (asked : Bool) → s .state ≡ s-enabled asked → SNext W s s-resets (s-state (s-enabled true) s)
   sn-send : (s : Send) (i : ℕ) → s .state ≡ s-open → i < s .taken

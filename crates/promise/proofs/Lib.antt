@@ -16,6 +16,7 @@ pub mod Owing
 pub mod Watched
 pub mod SenderView
 pub mod SenderCalls
+pub mod SenderPlans
 pub mod Arrivals
 pub mod SenderArrives
 pub mod Handing

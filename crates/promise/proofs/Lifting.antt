@@ -3,17 +3,18 @@
 use Prim.Native.Nat.{ℕ, _+_}
 use mathlib.Core.Path.{_≡_, refl, ap, sym, subst, _∙_}
 use mathlib.Core.Bool.{Bool, true, false}
-use mathlib.Core.List.{List, [], _∷_, map}
+use mathlib.Core.List.{List, [], _∷_, map, append-nil}
 use native.Mathlib.Omega.{arith}
+use lib.Seq.{append-snoc}
 use Rattle.units.specs.Sizes.{isSize}
 use Rattle.window.specs.Numbers.{distanceOf, byteOf}
 use Rattle.window.proofs.Sizes.{size-le}
-use Rattle.promise.specs.History.{Pay, s-enabled, Live, Sent, data!, Tag, old, new, Hist, SSeen, s-hears, RSeen, r-acks, r-resets, r-takes, SOwn, ROwn, s-note, popped, answered, r-note}
+use Rattle.promise.specs.History.{Pay, s-enabled, Live, Sent, data!, Tag, old, new, Hist, SSeen, s-accepts, s-hears, RSeen, r-acks, r-resets, r-takes, SOwn, ROwn, s-note, popped, answered, r-note}
 use Rattle.promise.specs.Promise.{SSide, RSide, AsPromised, Sys, begin, Move, at-sender, at-receiver, ack-comes, reset-comes, data-comes, old-ack-comes, old-reset-comes, old-data-comes, Moves, no-move, and-then, Demand3}
-use Rattle.promise.proofs.Channel.{Send, s-hand, s-ack, Recv, r-open, Up, r-wait, r-reset, r-data, Channel, tag-byte, g-hand, send, reset-out, data-out, fail, close-receiver, open-receiver, ack-out, reset-in, data-in, ack-in, old-reset-in, old-data-in, old-ack-in}
+use Rattle.promise.proofs.Channel.{Send, s-send, s-hand, s-ack, Recv, r-open, Up, r-wait, r-reset, r-data, Channel, tag-byte, g-hand, send, reset-out, data-out, fail, close-receiver, open-receiver, ack-out, reset-in, data-in, ack-in, old-reset-in, old-data-in, old-ack-in}
 use Rattle.promise.proofs.Invariant.{Inv, fresh, resetting, running, at-open, kept}
 use Rattle.promise.proofs.OneChannel.{step-keeps, starts}
-use Rattle.promise.proofs.Laws.{SNext, sn-same, sn-fail, sn-accept, sn-reset, sn-send, sn-hear, sn-end, RNext, rn-same, rn-open, rn-ack, rn-reset, rn-data, rn-close, SLaws, RLaws, s-viewed, r-viewed}
+use Rattle.promise.proofs.Laws.{Accepts, accepts-none, accepts-one, SNext, sn-same, sn-fail, sn-accept, sn-reset, sn-send, sn-hear, sn-end, RNext, rn-same, rn-open, rn-ack, rn-reset, rn-data, rn-close, SLaws, RLaws, s-viewed, r-viewed}
 
 -- the channel of two views
 abbrev whole : Send → Recv → Hist → Channel
@@ -22,11 +23,19 @@ whole s r h = record { sender = s; receiver = r; hist = h }
 module _ (W : ℕ) (w : isSize W ≡ true) where
   -- ---- a call of the node's own is a step of the channel
 
+  -- payloads that were accepted are so many sends
+  accepts-own : (s t : Send) (ps : List Pay) (r : Recv) (h : Hist) → Accepts W s ps t → Inv W (whole s r h)
+      → Inv W (whole t r (s-note 0 (s-accepts ps) h))
+  accepts-own s t ps r h (accepts-none _) i = rw (append-nil (h .accepted)) i
+  accepts-own s t ps r h (accepts-one _ _ p qs q l a) i =
+      rw (append-snoc (h .accepted) p qs)
+      at (accepts-own (s-send s p) t qs r (s-note 0 (s-accepts (p ∷ [])) h) a (step-keeps W w (whole s r h) _ (send _ p q l) i))
+
   sender-own : (s t : Send) (e : SSeen) (r : Recv) (h : Hist) → SNext W s e t → SOwn e → Inv W (whole s r h)
       → Inv W (whole t r (s-note (s .confirmed) e h))
   sender-own s t e r h (sn-same _) o i = i
   sender-own s t e r h (sn-fail _ q) o i = step-keeps W w (whole s r h) _ (fail _ q) i
-  sender-own s t e r h (sn-accept _ p q l) o i = step-keeps W w (whole s r h) _ (send _ p q l) i
+  sender-own s t e r h (sn-accept _ _ ps a) o i = accepts-own s t ps r h a i
   sender-own s t e r h (sn-reset _ asked q) o i = step-keeps W w (whole s r h) _ (reset-out _ asked q) i
   sender-own s t e r h (sn-send _ k q l) o i =
       subst (λ (x : ℕ). Inv W (g-hand (s-hand k s) (numbered x) (whole s r h))) (sym same) (step-keeps W w (whole s r h) _ (data-out _ k q l) i)

@@ -26,7 +26,7 @@ use Rattle.end_points.specs.States.{isSends}
 use Rattle.call_open.specs.Setup.{setupAfter}
 use Rattle.good.specs.Calls.{Memory, kept, answer, after, relent}
 use Rattle.good.specs.Calls as nodes
-use Rattle.machine.specs.Calls.{Call, opens, closes, counts, sends, urges, arrives, hands-out, reports, ticks, Fed}
+use Rattle.machine.specs.Calls.{Call, opens, closes, counts, sends, urges, plans, arrives, hands-out, reports, ticks, Fed}
 use Rattle.machine.specs.Machine.{Number, End, Machine, lending, first, begun, step, SetUp}
 use Rattle.machine.specs.Sound.{Sound}
 use Rattle.refinement.specs.Standing.{Reading, standsFor, stateFor, readAt, endFor, endAt, ackItem, waitingFor, Stands, Follows, SetupAnswers, Begins, Refines, Relends, StandsSound}
@@ -46,10 +46,11 @@ use Rattle.promise.proofs.Lifting.{demand-3-nodes}
 use Rattle.promise.proofs.Entries.{some-same, entry-is, receiver-runs}
 use Rattle.promise.proofs.Watched.{Watch, owed, Step}
 use Rattle.promise.proofs.SenderCalls.{s-watch, SStep, s-opens, s-closes, s-sends, s-urges, s-counts, s-reports}
+use Rattle.promise.proofs.SenderPlans.{s-plans}
 use Rattle.promise.proofs.SenderArrives.{s-arrives}
 use Rattle.promise.proofs.SenderHands.{s-hands}
 use Rattle.promise.proofs.SenderTicks.{s-ticks}
-use Rattle.promise.proofs.ReceiverCalls.{r-watch, RStep, r-opens, r-closes-it, r-sends, r-urges, r-counts, r-reports}
+use Rattle.promise.proofs.ReceiverCalls.{r-watch, RStep, r-opens, r-closes-it, r-sends, r-urges, r-plans, r-counts, r-reports}
 use Rattle.promise.proofs.ReceiverArrives.{r-arrives}
 use Rattle.promise.proofs.ReceiverHands.{r-hands}
 use Rattle.promise.proofs.ReceiverTicks.{r-ticks}
@@ -63,6 +64,7 @@ module _ (t : List ℕ) (m : Machine) (S : Sound t m) (i : ℕ) (e : End) (there
   s-step k (counts j) = s-counts t m S i e there j
   s-step k (sends j p) = s-sends t m S i e there j p
   s-step k (urges j p) = s-urges t m S i e there j p
+  s-step k (plans j block) = s-plans t m S i e there j block
   s-step k (arrives block f) = s-arrives t m S i e there k block f
   s-step k (hands-out buffer) = s-hands t m S i e there k buffer
   s-step k reports = s-reports t m S i e there
@@ -74,6 +76,7 @@ module _ (t : List ℕ) (m : Machine) (S : Sound t m) (i : ℕ) (e : End) (there
   r-step k (counts j) = r-counts t m S i e there k j
   r-step k (sends j p) = r-sends t m S i e there k j p
   r-step k (urges j p) = r-urges t m S i e there k j p
+  r-step k (plans j block) = r-plans t m S i e there k j block
   r-step k (arrives block f) = r-arrives t m S i e there k block f
   r-step k (hands-out buffer) = r-hands t m S i e there k buffer
   r-step k reports = r-reports t m S i e there k

@@ -4,10 +4,13 @@ use Prim.Native.Nat.{ℕ}
 use mathlib.Core.Path.{_≡_, refl, sym, ap, _∙_}
 use mathlib.Core.Bool.{false, true≢false, not}
 use mathlib.Core.Option.{some}
-use mathlib.Core.List.{List}
+use mathlib.Core.List.{List, [], _∷_}
+use native.Mathlib.Decide.{ℕ-discrete}
 use lib.ListN.{getElem?}
 use borrow.Author.Tests.{not-false}
 use Rattle.units.specs.Refusals.{pick}
+use Rattle.units.specs.declared.refusals.Refusal.the-variants as refusal
+use Rattle.frame.specs.Faults.{refusedOf}
 use Rattle.table.specs.Layout.{entryOf}
 use Rattle.table.specs.declared.Entry.{Entry}
 use Rattle.frame.specs.Layout.{payloadOf}
@@ -15,15 +18,17 @@ use Rattle.frame.specs.Reading.{readOf}
 use Rattle.end_points.specs.States.{isSends, isClosed}
 use Rattle.good.proofs.Known.{is-closed}
 use Rattle.blocks.specs.Reading.{readBlock}
-use Rattle.machine.specs.Calls.{Call, opens, closes, counts, sends, urges, arrives, hands-out, reports, Answer}
-use Rattle.machine.specs.Machine.{End, acks, Machine, Outcome, step}
+use Rattle.machine.specs.Calls.{Call, opens, closes, counts, sends, urges, plans, arrives, hands-out, reports, Answer}
+use Rattle.machine.specs.Machine.{End, acks, Machine, Outcome, answers, unless, sending, sendingAll, planning, step}
 use Rattle.machine.specs.Sound.{Sound}
+use Rattle.machine.proofs.Judged.{by-verdict}
+use Rattle.machine.proofs.Planning.{planTests}
 use Rattle.promise.specs.History.{RSeen, r-quiet, r-closes}
 use Rattle.promise.specs.Seen.{isDone, frameIn, r-in, r-out, r-seen}
 use Rattle.promise.proofs.Channel.{Recv}
 use Rattle.promise.proofs.Laws.{RNext, rn-same, rn-open, rn-close}
 use Rattle.promise.proofs.Owing.{owed-gone}
-use Rattle.promise.proofs.Watched.{Watch, owed, Step, counts-step, unseen, opens-step, closes-step, sends-step, urges-step, reports-step}
+use Rattle.promise.proofs.Watched.{Watch, owed, Step, still, untouched, elsewhere, counts-step, unseen, opens-step, closes-step, sends-step, urges-step, reports-step}
 use Rattle.promise.proofs.ReceiverView.{r-state-of, recvOf, ended-view}
 
 pub r-comes : (e : Entry) (j : ℕ) (block f : List ℕ) (a : Answer) → r-seen e j (arrives block f) a
@@ -92,6 +97,30 @@ module _ (t : List ℕ) (m : Machine) (S : Sound t m) (j : ℕ) (e : End) (there
   r-urges k p =
       urges-step K t m S j e there p r-quiet (unseen K t m S j e there (λ i. urges i p) (λ i a. refl))
       (λ c. no-sender (c .0)) k
+
+  -- no send of a plan goes through, so that all is as it was
+  send-refused : (p : List ℕ) → sending m j p ≡ answers (refusedOf refusal.OtherKind) [] m
+  unfolding sending
+  send-refused p = rw (there, receives)
+
+  all-refused : (n : ℕ) (ps : List (List ℕ)) → sendingAll m j n ps .machine ≡ m
+  unfolding sendingAll
+  all-refused n [] = refl
+  all-refused n (p ∷ ps) = rw (send-refused p)
+
+  pub r-plans : (k : ℕ) (block : List ℕ) → RStep t m j e (plans k block) (step m (plans k block))
+  unfolding r-seen step planning
+  r-plans k block = sides (ℕ-discrete k j)
+    where
+      here : RStep t m j e (plans j block) (unless (planTests block) [] m (sendingAll m j 0 (readBlock block)))
+      here =
+          by-verdict (Step K j m e (plans j block)) (planTests block) [] m (sendingAll m j 0 (readBlock block))
+          (λ w. still K j m e _ _ e there refl refl)
+          (λ v. untouched K j m e there _ _ (rw (all-refused 0 (readBlock block)) (record { end = refl; share = λ q. refl })) refl)
+
+      sides : Dec (k ≡ j) → RStep t m j e (plans k block) (step m (plans k block))
+      sides (yes q) = rw q here
+      sides (no d) = elsewhere K t m S j e there (plans k block) d refl
 
   -- the end of a frame: a timer starts at most
   pub r-reports : RStep t m j e reports (step m reports)

@@ -2,7 +2,7 @@
 use Prim.Native.Nat.{ℕ, _<_}
 use mathlib.Core.Path.{_≡_, refl, sym, ap, subst}
 use mathlib.Core.Option.{some}
-use mathlib.Core.List.{List}
+use mathlib.Core.List.{List, [], _∷_}
 use lib.ListN.{length, getElem?}
 use Rattle.units.specs.Refusals.{pick}
 use Rattle.units.proofs.Judging.{Clear}
@@ -17,7 +17,7 @@ use Rattle.machine.proofs.Hosting.{clear-send}
 use Rattle.promise.specs.History.{SSeen, s-quiet, s-accepts, s-ends}
 use Rattle.promise.specs.Seen.{isDone, frameIn, s-in, s-out, s-seen, s-state-of}
 use Rattle.promise.proofs.Channel.{Send}
-use Rattle.promise.proofs.Laws.{SNext, sn-same, sn-accept, sn-end}
+use Rattle.promise.proofs.Laws.{Accepts, accepts-none, accepts-one, SNext, sn-same, sn-accept, sn-end}
 use Rattle.promise.proofs.Entries.{entry-is}
 use Rattle.promise.proofs.Watched.{Watch, Step, counts-step, unseen, opens-step, closes-step, sends-step, urges-step, reports-step}
 use Rattle.promise.proofs.SenderView.{sendOf, sent-view, ended-view}
@@ -53,6 +53,16 @@ s-watch t i =
 abbrev pub SStep : List ℕ → Machine → ℕ → End → Call → Outcome → Type 0
 SStep t m i = Step (s-watch t i) i m
 
+-- a send that no test refuses, where the end is of the entry x, and what is accepted behind it
+pub accepts : (x : Entry) (m : Machine) (i : ℕ) (e : End) → getElem? (m .ends) i ≡ some e → e .entry ≡ x
+    → (p : List ℕ) → Clear (sendTests m e p) → (ps : List (List ℕ)) (d : End)
+    → Accepts (x .window) (sendOf (taking p e)) ps (sendOf d) → Accepts (x .window) (sendOf e) (p ∷ ps) (sendOf d)
+accepts x m i e there same p c ps d others =
+    let y = clear-send m i e p there c in
+    accepts-one (sendOf e) (sendOf d) p ps (ap s-state-of (y .opened))
+    (subst (λ (x : Entry). length (e .numbers) < x .window) same (y .room))
+    (subst (λ (s : Send). Accepts (x .window) s ps (sendOf d)) (sent-view e p) others)
+
 module _ (t : List ℕ) (m : Machine) (S : Sound t m) (i : ℕ) (e : End) (there : getElem? (m .ends) i ≡ some e) where
   abbrev K : Watch
   K = s-watch t i
@@ -69,17 +79,11 @@ module _ (t : List ℕ) (m : Machine) (S : Sound t m) (i : ℕ) (e : End) (there
   unfolding s-seen
   s-counts j = counts-step K t m S i e there j refl
 
-  accepts : (p : List ℕ) → Clear (sendTests m e p)
-      → SNext (entryOf t i .window) (sendOf e) (s-accepts p) (sendOf (taking p e))
-  accepts p c =
-      let y = clear-send m i e p there c in
-      subst (SNext (entryOf t i .window) (sendOf e) (s-accepts p)) (sym (sent-view e p))
-      (sn-accept (sendOf e) p (ap s-state-of (y .opened))
-      (subst (λ (x : Entry). length (e .numbers) < x .window) (entry-is t m S i e there) (y .room)))
-
   pub s-sends : (j : ℕ) (p : List ℕ) → SStep t m i e (sends j p) (step m (sends j p))
   unfolding s-seen
-  s-sends j p = sends-step K t m S i e there p (s-accepts p) (λ k a. refl) (accepts p) j
+  s-sends j p =
+      sends-step K t m S i e there p (s-accepts (p ∷ [])) (λ k a. refl)
+      (λ c. sn-accept _ _ (p ∷ []) (accepts (entryOf t i) m i e there (entry-is t m S i e there) p c [] (taking p e) (accepts-none _))) j
 
   pub s-urges : (j : ℕ) (p : List ℕ) → SStep t m i e (urges j p) (step m (urges j p))
   unfolding s-seen

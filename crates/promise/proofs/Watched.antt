@@ -95,7 +95,7 @@ pub refused-done : (w : Refusal) → isDone (refusedOf w) ≡ false
 refused-done w = refused-not-zero w
 
 -- what is not done is not seen
-never : {A : Type 0} (b : Bool) (own quiet : A) → pick (b && false) own quiet ≡ quiet
+pub never : {A : Type 0} (b : Bool) (own quiet : A) → pick (b && false) own quiet ≡ quiet
 never true own quiet = refl
 never false own quiet = refl
 

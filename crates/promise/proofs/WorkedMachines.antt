@@ -11,7 +11,7 @@ use lib.Seq.{sets}
 use lib.Count.{ones}
 use lib.Dec.{T, leb, leb→le}
 use lib.Pow.{areBytes}
-use Rattle.units.specs.Bytes.{get16Of, be16, be32}
+use Rattle.units.specs.Bytes.{get16Of, get32Of, be16, be32}
 use Rattle.units.specs.Sizes.{defaultSize}
 use Rattle.check8.specs.Polynomial.{timesX, timesXs, stepByte, checkFrom}
 use Rattle.table.specs.Layout.{entryOf, entryFrom}
@@ -22,8 +22,8 @@ use Rattle.frame.specs.Reading.{soundOf, headerOf, readOf}
 use Rattle.frame.proofs.Parts.{byte}
 use Rattle.arrive_lookup.specs.Fitting as fitting
 use Rattle.blocks.specs.Blocks.{offsets, joinedUp, blockOf}
-use Rattle.blocks.specs.Reading.{get32Of, payloadIn, payloadsIn, readBlock}
-use Rattle.machine.specs.Calls.{Call, opens, sends, arrives, hands-out, reports, ticks, Answer, Fed}
+use Rattle.blocks.specs.Reading.{payloadIn, payloadsIn, readBlock, neverFall, isBlock, isPlan}
+use Rattle.machine.specs.Calls.{Call, opens, sends, plans, arrives, hands-out, reports, ticks, Answer, Fed}
 use Rattle.machine.specs.Machine as machine
 use Rattle.machine.specs.Machine.{Machine, begun, step, SetUp}
 use Rattle.promise.specs.History.{Pay, SState, s-enabled, s-open, s-first, reset, data!, Tag, old, new, ack, SSeen, s-quiet, s-accepts, s-resets, s-sends, s-hears, RSeen, r-quiet, r-acks, r-resets, r-takes, SOwn, ROwn, s-note, r-note}
@@ -42,11 +42,11 @@ unfolding defaultSize ones entryOf entryFrom areaOf placeOf storeOf goodTable he
 tables = tt
 
 blocks : Unit {0}
-unfolding offsets joinedUp blockOf get32Of payloadIn payloadsIn readBlock
+unfolding offsets joinedUp blockOf get32Of payloadIn payloadsIn readBlock neverFall isBlock isPlan
 blocks = tt
 
 calls : Unit {0}
-unfolding machine.without machine.enabled machine.listed machine.begun machine.opening machine.sending machine.handingOut machine.inOrder machine.goingOut machine.frameOf machine.reporting machine.reported machine.ticking machine.each machine.ticked machine.tickedAll machine.anySpent machine.againFrom machine.running machine.bitsFrom machine.step
+unfolding machine.without machine.enabled machine.listed machine.begun machine.opening machine.sending machine.sendingAll machine.planning machine.handingOut machine.inOrder machine.goingOut machine.frameOf machine.reporting machine.reported machine.ticking machine.each machine.ticked machine.tickedAll machine.anySpent machine.againFrom machine.running machine.bitsFrom machine.step
 calls = tt
 
 coming : Unit {0}
@@ -246,6 +246,10 @@ p2 = 8 ∷ 9 ∷ []
 abbrev p3 : Pay
 p3 = 10 ∷ []
 
+-- a plan of the first and of an empty payload, which stops it
+abbrev plan! : List ℕ
+plan! = 0 ∷ 2 ∷ 0 ∷ 0 ∷ 0 ∷ 14 ∷ 0 ∷ 0 ∷ 0 ∷ 15 ∷ 0 ∷ 0 ∷ 0 ∷ 15 ∷ 7 ∷ []
+
 -- what arrives is, byte for byte, what an earlier move handed out
 abbrev reset! : List ℕ
 reset! = 65 ∷ 238 ∷ 64 ∷ 2 ∷ 0 ∷ 0 ∷ 7 ∷ 0 ∷ 133 ∷ []
@@ -318,12 +322,12 @@ starts =
     (r-own g7 reports (says (0 ∷ [])) r-quiet tt refl refl tt))
     (ack-in g8 ack0 (says (0 ∷ 2 ∷ 0 ∷ [])) 1 0 tt refl refl (List·Memᴰ·head refl) tt)
 
--- two payloads are handed out; the first is lost; the second arrives, and once more: it is held
+-- two payloads are accepted, the first of a plan that stops behind it, and handed out; the first is lost; the second arrives, and once more: it is held
 abbrev g10 : Sys A B
-g10 = s-does g9 (sends 0 p1) 0 (s-accepts p1)
+g10 = s-does g9 (plans 0 plan!) 0 (s-accepts (p1 ∷ []))
 
 abbrev g11 : Sys A B
-g11 = s-does g10 (sends 0 p2) 0 (s-accepts p2)
+g11 = s-does g10 (sends 0 p2) 0 (s-accepts (p2 ∷ []))
 
 abbrev g12 : Sys A B
 g12 = s-does g11 (hands-out buffer) 0 (s-sends 1 p1)
@@ -347,8 +351,8 @@ holds : Moves W A B g0 g17
 unfolding computes
 holds =
     and-then (and-then (and-then (and-then (and-then (and-then (and-then (and-then starts
-    (s-own g9 (sends 0 p1) (says (0 ∷ [])) 0 (s-accepts p1) tt refl refl tt))
-    (s-own g10 (sends 0 p2) (says (0 ∷ [])) 0 (s-accepts p2) tt refl refl tt))
+    (s-own g9 (plans 0 plan!) (says (0 ∷ 1 ∷ 5 ∷ [])) 0 (s-accepts (p1 ∷ [])) tt refl refl tt))
+    (s-own g10 (sends 0 p2) (says (0 ∷ [])) 0 (s-accepts (p2 ∷ [])) tt refl refl tt))
     (s-own g11 (hands-out buffer) (went data1) 0 (s-sends 1 p1) tt refl refl tt))
     (s-own g12 reports (says (0 ∷ [])) 0 s-quiet tt refl refl tt))
     (s-own g13 (hands-out buffer) (went data2) 0 (s-sends 2 p2) tt refl refl tt))
@@ -414,7 +418,7 @@ confirms =
 
 -- there is room for a third payload; the second, which still waits, goes out before it and arrives after it, when it is passed
 abbrev g29 : Sys A B
-g29 = s-does g28 (sends 0 p3) 1 (s-accepts p3)
+g29 = s-does g28 (sends 0 p3) 1 (s-accepts (p3 ∷ []))
 
 abbrev g30 : Sys A B
 g30 = s-does g29 (hands-out buffer) 1 (s-sends 2 p2)
@@ -438,7 +442,7 @@ passes : Moves W A B g0 g35
 unfolding computes
 passes =
     and-then (and-then (and-then (and-then (and-then (and-then (and-then confirms
-    (s-own g28 (sends 0 p3) (says (0 ∷ [])) 1 (s-accepts p3) tt refl refl tt))
+    (s-own g28 (sends 0 p3) (says (0 ∷ [])) 1 (s-accepts (p3 ∷ [])) tt refl refl tt))
     (s-own g29 (hands-out buffer) (went data2) 1 (s-sends 2 p2) tt refl refl tt))
     (s-own g30 reports (says (0 ∷ [])) 1 s-quiet tt refl refl tt))
     (s-own g31 (hands-out buffer) (went data3) 1 (s-sends 3 p3) tt refl refl tt))

@@ -74,7 +74,7 @@ blank delivered tags =
 -- what one call on the sender's node was for its entry, read from the call and its answer alone [P1, P2]
 pub data SSeen : Type 0 where
   s-quiet : SSeen  -- refused; another entry's; counts; Urgent; a report; a tick that does not answer the entry's bit
-  s-accepts : (p : Pay) → SSeen  -- send, not refused
+  s-accepts : (ps : List Pay) → SSeen  -- send, not refused, or a plan: those accepted, in order
   s-resets : SSeen  -- a Reset of the entry was handed out
   s-sends : (b : ℕ) (p : Pay) → SSeen  -- Data of the entry was handed out, with its sequence byte and its payload
   s-hears : (b : ℕ) → SSeen  -- an Acknowledge for the entry came in and was not refused
@@ -92,7 +92,7 @@ pub data RSeen : Type 0 where
 -- the sender's) [P1, P10]
 abbrev pub SOwn : SSeen → Type 0
 SOwn s-quiet = Unit {0}
-SOwn (s-accepts p) = Unit {0}
+SOwn (s-accepts ps) = Unit {0}
 SOwn s-resets = Unit {0}
 SOwn (s-sends b p) = Unit {0}
 SOwn (s-hears b) = ⊥
@@ -112,9 +112,9 @@ ROwn r-closes = Unit {0}
 -- the call [P2, P4]
 abbrev pub s-note : ℕ → SSeen → Hist → Hist
 s-note confirmed s-quiet h = h
-s-note confirmed (s-accepts p) h =
+s-note confirmed (s-accepts ps) h =
     record {
-      accepted = h .accepted ++ (p ∷ []);
+      accepted = h .accepted ++ ps;
       delivered = h .delivered;
       sent = h .sent;
       tags = h .tags;

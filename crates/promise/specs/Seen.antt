@@ -17,7 +17,7 @@ use Rattle.frame.specs.declared.FrameType.the-variants as type
 use Rattle.end_points.specs.declared.State.{State}
 use Rattle.end_points.specs.declared.State.the-variants as state
 use Rattle.blocks.specs.Reading.{readBlock}
-use Rattle.machine.specs.Calls.{Call, opens, closes, counts, sends, urges, arrives, hands-out, reports, ticks}
+use Rattle.machine.specs.Calls.{Call, opens, closes, counts, sends, urges, plans, arrives, hands-out, reports, ticks}
 use Rattle.machine.specs.Calls.{Answer}
 use Rattle.promise.specs.History.{Pay, SState, s-closed, s-enabled, s-open, s-failing}
 use Rattle.promise.specs.History.{SSeen, s-quiet, s-accepts, s-resets, s-sends, s-hears, s-ends}
@@ -41,6 +41,10 @@ names e address channel = eqb (e .remote .0) address && eqb (e .channel .0) chan
 -- the frame that was handed out: as many bytes of the buffer as was answered
 abbrev pub frameIn : Answer → List ℕ
 frameIn a = take (getD (a .numbers) 1 0) (a .out)
+
+-- the payloads of a plan that were accepted: as many of its first as was answered [E18, O10]
+abbrev pub acceptedIn : List ℕ → Answer → List Pay
+acceptedIn block a = take (getD (a .numbers) 1 0) (readBlock block)
 
 -- bit i of a tick's answer
 abbrev pub bitOf : ℕ → ℕ → Bool
@@ -73,8 +77,9 @@ unfoldable pub s-seen : Entry → ℕ → Call → Answer → SSeen
 s-seen e i (opens j) a = pick (isDone (a .numbers) && eqb j i) s-ends s-quiet
 s-seen e i (closes j) a = pick (isDone (a .numbers) && eqb j i) s-ends s-quiet
 s-seen e i (counts j) a = s-quiet
-s-seen e i (sends j p) a = pick (isDone (a .numbers) && eqb j i) (s-accepts p) s-quiet
+s-seen e i (sends j p) a = pick (isDone (a .numbers) && eqb j i) (s-accepts (p ∷ [])) s-quiet
 s-seen e i (urges j p) a = s-quiet
+s-seen e i (plans j block) a = pick (isDone (a .numbers) && eqb j i) (s-accepts (acceptedIn block a)) s-quiet
 s-seen e i (arrives block f) a = pick (isDone (a .numbers)) (s-in e (readOf f)) s-quiet
 s-seen e i (hands-out buffer) a =
     pick (isDone (a .numbers)) (s-out e (readOf (frameIn a)) (payloadOf (frameIn a))) s-quiet
@@ -110,6 +115,7 @@ r-seen e j (closes i) a = pick (isDone (a .numbers) && eqb i j) r-closes r-quiet
 r-seen e j (counts i) a = r-quiet
 r-seen e j (sends i p) a = r-quiet
 r-seen e j (urges i p) a = r-quiet
+r-seen e j (plans i block) a = r-quiet
 r-seen e j (arrives block f) a =
     pick (isDone (a .numbers)) (r-in e (readOf f) (payloadOf f) (readBlock (a .out))) r-quiet
 r-seen e j (hands-out buffer) a = pick (isDone (a .numbers)) (r-out e (readOf (frameIn a))) r-quiet

@@ -18,6 +18,7 @@ pub mod TickNumbers
 pub mod TickStands
 pub mod TickQuiet
 pub mod TickAllStands
+pub mod PlanStands
 pub mod Refining
 pub mod Relending
 pub mod Sounding

@@ -27,9 +27,11 @@ use Rattle.timing.specs.Timing.{clockIn, later}
 use Rattle.call_tick.specs.Ticking.{tickAnswer, tickBoth, scanAfter, scanBoth, stillAfter, recoverAll, tickEntries}
 use Rattle.good.specs.Calls.{Memory, lent, bare, answer}
 use Rattle.good.specs.NewNode.{newAt}
-use Rattle.machine.specs.Calls.{Call, opens, closes, counts, sends, urges, arrives, hands-out, reports, ticks, Answer}
+use Rattle.good.proofs.NewStays.{send-same}
+use Rattle.machine.specs.Calls.{Call, opens, closes, counts, sends, urges, plans, arrives, hands-out, reports, ticks, Answer}
 use Rattle.machine.specs.Machine.{Machine, Outcome, blank, opening, closing, counting, sending, urgentSending, reading, arriving, goingOut, inOrder, handingOut, reported, reporting, each, bitsFrom, ticking, judged, step}
 use Rattle.refinement.specs.Standing.{NewIsBlank}
+use Rattle.refinement.proofs.PlanStands.{Does, plans-do}
 
 module _ (store : List ℕ) (c q : ℕ) where
   abbrev M : Machine
@@ -64,6 +66,17 @@ module _ (store : List ℕ) (c q : ℕ) where
   urges-same : (i : ℕ) (p : List ℕ) → same (urges i p)
   unfolding answer step urgentSending urgentAnswer
   urges-same i p = (rw (none i), refl)
+
+  -- a plan is sends, each of which leaves all as it was
+  plans-same : (i : ℕ) (block : List ℕ) → same (plans i block)
+  plans-same i block =
+      let d = plans-do (λ n m. (n ≡ new) × (m ≡ M)) i one new M block (refl, refl) in
+      (d .0, d .1 .1)
+    where
+      one : (n : Memory) (m : Machine) (p : List ℕ) → (n ≡ new) × (m ≡ M) → Does (λ n m. (n ≡ new) × (m ≡ M)) i n m (sends i p)
+      one n m p (e, f) =
+          let s = sends-same i p in
+          rw (e, f) (s .0, (send-same store c q i p, s .1))
 
   hands-same : (buffer : List ℕ) → same (hands-out buffer)
   unfolding answer step handingOut inOrder goingOut handOutAnswer handOutAfter nextOut frameOut outNode outBook
@@ -119,6 +132,7 @@ module _ (store : List ℕ) (c q : ℕ) where
   all-same (counts i) = counts-same i
   all-same (sends i p) = sends-same i p
   all-same (urges i p) = urges-same i p
+  all-same (plans i block) = plans-same i block
   all-same (arrives block f) = arrives-same block f
   all-same (hands-out buffer) = hands-same buffer
   all-same reports = reports-same

@@ -17,7 +17,7 @@ use Rattle.end_points.specs.declared.State.the-variants.{Closed, Enabled, Open,
 use Rattle.call_open.specs.Opening.{stateAnswer}
 use Rattle.good.specs.Good.{Lists, Good}
 use Rattle.good.specs.Calls.{Memory, relent, at-setup, by-call, by-store}
-use Rattle.machine.specs.Calls.{Call, Fed, opens, closes, counts, sends, urges, arrives, hands-out, reports, ticks}
+use Rattle.machine.specs.Calls.{Call, Fed, opens, closes, counts, sends, urges, plans, arrives, hands-out, reports, ticks}
 use Rattle.machine.specs.Machine.{Machine, begun, stating, step}
 use Rattle.machine.proofs.Listed.{elem-listed, elem-none}
 use Rattle.refinement.specs.Standing.{readAt, endFor, endAt}
@@ -26,10 +26,22 @@ use Rattle.refinement.proofs.Following.{stateIn}
 use Rattle.refinement.proofs.SetupStands.{begins}
 use Rattle.refinement.proofs.OpenStands.{open-follows, close-follows, counts-follow}
 use Rattle.refinement.proofs.SendStands.{send-follows, urgent-follows}
+use Rattle.refinement.proofs.PlanStands.{Does, plans-do}
 use Rattle.refinement.proofs.ArriveStands.{arrive-follows}
 use Rattle.refinement.proofs.HandStands.{hand-follows}
 use Rattle.refinement.proofs.ReportStands.{report-follows}
 use Rattle.refinement.proofs.TickAllStands.{tick-follows}
+
+-- a plan: each of its sends follows
+plan-follows : (t : List ℕ) (n : Memory) (m : Machine) → Stands t n m → (i : ℕ) (block : List ℕ) → Follows t n m (plans i block)
+plan-follows t n m S i block =
+    let d = plans-do (Stands t) i one n m block S in
+    record { answers = d .0; stands = d .1 }
+  where
+    one : (n : Memory) (m : Machine) (p : List ℕ) → Stands t n m → Does (Stands t) i n m (sends i p)
+    one n m p S =
+        let f = subst (λ (m : Machine). Follows t n m (sends i p)) (S .is) (send-follows t n (S .lists) (S .good) (S .room) i p) in
+        (f .answers, f .stands)
 
 -- of the machine that the memory stands for
 follows-at : (t : List ℕ) (n : Memory) (l : Lists) → Good t (n .node) (n .book) l → storeOf t ≤ length (n .store) → (c : Call) → Fed c
@@ -39,6 +51,8 @@ follows-at t n l g room (closes i) f = close-follows t n l g room i
 follows-at t n l g room (counts i) f = counts-follow t n l g room i
 follows-at t n l g room (sends i p) f = send-follows t n l g room i p
 follows-at t n l g room (urges i p) f = urgent-follows t n l g room i p
+follows-at t n l g room (plans i block) f =
+    plan-follows t n (standsFor t n l) (record { lists = l; good = g; room = room; is = refl }) i block
 follows-at t n l g room (arrives block frame) f = arrive-follows t n l g room block frame f
 follows-at t n l g room (hands-out buffer) f = hand-follows t n l g room buffer
 follows-at t n l g room reports f = report-follows t n l g room

@@ -23,7 +23,7 @@ use Rattle.trace.specs.Layout.{countOf, beginOf, headFrom, bytesFrom}
 use Rattle.trace_step.specs.Told.{toldOf}
 use Rattle.trace_step.specs.Steps.{Outcome, storedOf, stepOf}
 use Rattle.trace_step.specs.Replay.{stateAfter, toldAt, isRefused, madeOf}
-use Rattle.machine.specs.Calls.{Call, opens, closes, counts, sends, urges, arrives, hands-out, reports, ticks, Answer, Fed}
+use Rattle.machine.specs.Calls.{Call, opens, closes, counts, sends, urges, plans, arrives, hands-out, reports, ticks, Answer, Fed}
 use Rattle.machine.specs.Machine.{Machine, step}
 use Rattle.machine.specs.Sound.{Sound}
 use Rattle.machine.specs.LawsRoom.{mostOut, Roomy, NeverShort, BuffersStay}
@@ -42,6 +42,7 @@ Uses out (closes i) = Unit {0}
 Uses out (counts i) = Unit {0}
 Uses out (sends i p) = Unit {0}
 Uses out (urges i p) = Unit {0}
+Uses out (plans i block) = Unit {0}
 Uses out (arrives block f) = block ≡ out
 Uses out (hands-out buffer) = buffer ≡ out
 Uses out reports = Unit {0}
@@ -73,6 +74,7 @@ roomy out l (closes i) u = tt
 roomy out l (counts i) u = tt
 roomy out l (sends i p) u = tt
 roomy out l (urges i p) u = tt
+roomy out l (plans i block) u = tt
 roomy out l (arrives block f) u = rw u l
 roomy out l (hands-out buffer) u = rw u l
 roomy out l reports u = tt
@@ -87,6 +89,7 @@ kept-long y m (closes i) e u = refl
 kept-long y m (counts i) e u = refl
 kept-long y m (sends i p) e u = refl
 kept-long y m (urges i p) e u = refl
+kept-long y m (plans i block) e u = refl
 kept-long y m (arrives block f) e u = ap (λ (a : Answer). length (a .out)) e ∙ buffers-stay m (arrives block f) ∙ ap length u
 kept-long y m (hands-out buffer) e u = ap (λ (a : Answer). length (a .out)) e ∙ buffers-stay m (hands-out buffer) ∙ ap length u
 kept-long y m reports e u = refl
@@ -99,6 +102,7 @@ told-roomed (closes i) ns h = h (λ e. let z : _≡_ {A = ℕ} 0 1 = cc in omega
 told-roomed (counts i) ns h = h (λ e. let z : _≡_ {A = ℕ} 0 1 = cc in omega arith)
 told-roomed (sends i p) ns h = h (λ e. let z : _≡_ {A = ℕ} 0 1 = cc in omega arith)
 told-roomed (urges i p) ns h = h (λ e. let z : _≡_ {A = ℕ} 0 1 = cc in omega arith)
+told-roomed (plans i block) ns h = h (λ e. let z : _≡_ {A = ℕ} 0 1 = cc in omega arith)
 told-roomed (arrives block f) ns h = h (λ e. let z : _≡_ {A = ℕ} 0 1 = cc in omega arith)
 told-roomed (hands-out buffer) ns h = h (λ e. let z : _≡_ {A = ℕ} 0 1 = cc in omega arith)
 told-roomed reports ns h = h (λ e. let z : _≡_ {A = ℕ} 0 1 = cc in omega arith)

@@ -21,7 +21,7 @@ use Rattle.trace.specs.Rules.{goodTrace}
 use Rattle.trace_step.specs.Told.{toldOf}
 use Rattle.trace_step.specs.Steps.{storedOf}
 use Rattle.trace_step.specs.Replay.{stateAfter, toldAt, madeOf}
-use Rattle.machine.specs.Calls.{Call, opens, closes, counts, sends, urges, arrives, hands-out, reports, ticks}
+use Rattle.machine.specs.Calls.{Call, opens, closes, counts, sends, urges, plans, arrives, hands-out, reports, ticks}
 use Rattle.machine.specs.Calls.{Bytes, Fed}
 use Rattle.machine.specs.LawsRoom.{mostOut}
 use Rattle.good.specs.Calls.{kept, answer, after, SetUp, Reach}
@@ -60,6 +60,7 @@ bufferAfter (closes i) out new = out
 bufferAfter (counts i) out new = out
 bufferAfter (sends i p) out new = out
 bufferAfter (urges i p) out new = out
+bufferAfter (plans i block) out new = out
 bufferAfter (arrives block f) out new = new
 bufferAfter (hands-out buffer) out new = new
 bufferAfter reports out new = out
@@ -72,6 +73,7 @@ numbersTold (closes i) ns = ns
 numbersTold (counts i) ns = ns
 numbersTold (sends i p) ns = ns
 numbersTold (urges i p) ns = ns
+numbersTold (plans i block) ns = ns
 numbersTold (arrives block f) ns = ns
 numbersTold (hands-out buffer) ns = ns
 numbersTold reports ns = ns

@@ -53,6 +53,7 @@ refused-some refusal.WrongSequence = omega arith
 refused-some refusal.UnderWay = omega arith
 refused-some refusal.NoneUnderWay = omega arith
 refused-some refusal.BadTrace = omega arith
+refused-some refusal.BadBlock = omega arith
 
 pub refused-not-zero : (w : Refusal) → eqb (numberOf w) 0 ≡ false
 refused-not-zero w = ne-eqb (numberOf w) 0 (λ e. omega (arith, refused-some w))

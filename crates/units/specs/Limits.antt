@@ -13,6 +13,10 @@ mostWindow = 128
 abbrev pub mostStore : ℕ
 mostStore = 32768
 
+-- payloads of a plan [B5]
+abbrev pub mostPlanned : ℕ
+mostPlanned = 64
+
 -- payloads that one run accepts [R8]
 abbrev pub mostAccepted : ℕ
 mostAccepted = 4294967295

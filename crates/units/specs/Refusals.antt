@@ -8,7 +8,7 @@ use Rattle.units.specs.declared.refusals.Verdict.{Verdict}
 use Rattle.units.specs.declared.refusals.Verdict.the-variants.{Passed, Refused}
 
 -- the paper's number of each refusal
--- [R1, R2, R3, R4, R5, R6, R7, R8, R9, R10, R11, R13, R14, R15, R16, R17, R18, R19, R20, R21, O3]
+-- [R1, R2, R3, R4, R5, R6, R7, R8, R9, R10, R11, R13, R14, R15, R16, R17, R18, R19, R20, R21, R22, O3]
 abbrev pub numberOf : Refusal → ℕ
 numberOf refusal.BadTable = 1
 numberOf refusal.NoEntry = 2
@@ -30,6 +30,7 @@ numberOf refusal.WrongSequence = 18
 numberOf refusal.UnderWay = 19
 numberOf refusal.NoneUnderWay = 20
 numberOf refusal.BadTrace = 21
+numberOf refusal.BadBlock = 22
 
 -- the first where the test holds, else the second
 abbrev pub pick : {A : Type 0} → Bool → A → A → A

@@ -8,5 +8,7 @@ pub const WINDOW: u16 = 128;
 pub const STORE: usize = 32768;
 // Bytes of a payload, as far as the store goes.
 pub const PAYLOAD: u16 = 32768;
+// Payloads of a plan.
+pub const PLANNED: u16 = 64;
 // Payloads that one run accepts.
 pub const ACCEPTED: u32 = 4294967295;

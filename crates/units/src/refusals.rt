@@ -3,7 +3,7 @@ ghost use mathlib.Core.Path.{_≡_};
 ghost use Rattle.units.specs.Refusals.{numberOf};
 
 // The refusals, in the order of their numbers.
-// [R1, R2, R3, R4, R5, R6, R7, R8, R9, R10, R11, R13, R14, R15, R16, R17, R18, R19, R20, R21]
+// [R1, R2, R3, R4, R5, R6, R7, R8, R9, R10, R11, R13, R14, R15, R16, R17, R18, R19, R20, R21, R22]
 pub enum Refusal {
     BadTable,
     NoEntry,
@@ -25,6 +25,7 @@ pub enum Refusal {
     UnderWay,
     NoneUnderWay,
     BadTrace,
+    BadBlock,
 }
 
 // What an ordered list of tests comes to: the first that fits refuses.
@@ -67,5 +68,6 @@ pub fn number(r: Refusal) -> u8
         Refusal::UnderWay => 19,
         Refusal::NoneUnderWay => 20,
         Refusal::BadTrace => 21,
+        Refusal::BadBlock => 22,
     }
 }

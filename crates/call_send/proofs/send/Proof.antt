@@ -38,12 +38,6 @@ enum-known-v c = search needs
 enum-told : tie.Need-enum-told
 enum-told c = search needs
 
-advance-requires : tie.Need-advance-requires
-advance-requires c κs = search needs
-
-cast-wait-as-data : tie.Need-cast-wait-as-data
-cast-wait-as-data c = search needs
-
 -- what is known where no test fits
 passed : (c : tie.After-enum-told) → MaySend (c .before .before .before .before .before .read-end .result) (length (now (c .before .before .before .before .before .before .before .before .before .before .before .before .before .before .args .payload)))
 passed c =
@@ -51,29 +45,19 @@ passed c =
     let a = j .before .before .before .before .before .before .before .before .before .before .before .before .args in
     may-send (j .before .before .before .read-end .result) (length (now (a .payload))) (length (now (a .store))) (j .before .need .result) (j .judge-send .result) (j .judge-send .ensures) (c .enum-told .given .1)
 
-cast-wait-as-data-2 : tie.Need-cast-wait-as-data-2
-cast-wait-as-data-2 c =
-    let t = c .before .before .before .before in
+cast-lay : tie.Need-cast-lay
+cast-lay c = search needs
+
+lay-requires : tie.Need-lay-requires
+lay-requires c κs =
+    let t = c .before .before in
     omega (arith, passed t, t .before .before .before .before .before .read-end .ok)
-
-wait-as-data-requires : tie.Need-wait-as-data-requires
-wait-as-data-requires c κs = search needs
-
-slot-for-requires : tie.Need-slot-for-requires
-slot-for-requires c κs = search needs
-
-spot-of-requires : tie.Need-spot-of-requires
-spot-of-requires c κs = search needs
-
-put-all-requires : tie.Need-put-all-requires
-put-all-requires c κs = search needs
 
 put-sent-requires : tie.Need-put-sent-requires
 put-sent-requires c κs =
-    let t = c .before .before .before .before .before .before .before .before .before .before .before .before .before .before in
-    let u = c .before .before .before .before .before .before .before .before .before .before .before .before .before .before .before .before .before .before .before .before .before in
+    let t = c .before .before .before .before .before .before .before .before in
     let m = passed t in
-    (omega (arith, u .if1 .left, u .before .count .ok), omega (arith, m, t .before .before .before .before .before .read-end .ok), omega (arith, m, t .before .before .before .before .before .read-end .ok))
+    (omega (arith, c .before .before .before .before .before .before .before .before .before .before .before .before .before .before .before .if1 .left, c .before .before .before .before .before .before .before .before .before .before .before .before .before .before .before .before .count .ok), omega (arith, m, t .before .before .before .before .before .read-end .ok), omega (arith, m, t .before .before .before .before .before .read-end .ok))
 
 same-length-2 : tie.Need-same-length-2
 same-length-2 c = search needs
@@ -87,11 +71,11 @@ same-length-4 c = search needs
 returns-2 : tie.Need-returns-2
 unfolding sendAnswer sendAfter
 returns-2 c =
-    let t = c .before .before .before .before .before .before .before .before .before .before .before .before .before .before .before .before .before in
+    let t = c .before .before .before .before .before .before .before .before .before .before .before in
     let j = t .before .before in
     let l = j .before .before .before in (
       rw (lt-leb _ _ (rw (l .before .before .before .count .ensures) at (l .before .before .if1 .left)), ← l .read-end .ensures, ← j .before .need .ensures) (rw (t .enum-told .given .1) at (j .judge-send .ensures)),
-      rw (c .before .before .put-sent .ensures, c .before .before .before .before .before .before .put-all .ensures, c .before .before .before .before .before .before .before .before .spot-of .ensures, c .before .before .before .before .before .before .before .before .before .slot-for .ensures, c .before .before .before .before .before .before .before .before .before .before .before .before .wait-as-data .ensures, c .before .before .before .before .before .before .before .before .before .before .before .before .before .before .advance .ensures, ← l .read-end .ensures),
+      rw (c .before .before .put-sent .ensures, c .before .before .before .before .before .before .before .before .lay .ensures .0, c .before .before .before .before .before .before .before .before .lay .ensures .1, ← l .read-end .ensures),
     )
 
 same-length-5 : tie.Need-same-length-5
@@ -117,13 +101,8 @@ send-spec =
     judge-send-requires
     enum-known-v
     enum-told
-    advance-requires
-    cast-wait-as-data
-    cast-wait-as-data-2
-    wait-as-data-requires
-    slot-for-requires
-    spot-of-requires
-    put-all-requires
+    cast-lay
+    lay-requires
     put-sent-requires
     same-length-2
     same-length-3

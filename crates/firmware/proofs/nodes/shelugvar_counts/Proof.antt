@@ -1,7 +1,7 @@
 -- `firmware::nodes::shelugvar_counts` meets its contract. Assumes nothing.
 use mathlib.Core.Path.{sym, _∙_}
 use Rattle.units.proofs.Judging.{refused-not-zero}
-use Rattle.firmware.specs.Nodes.{countsIn}
+use Rattle.firmware.specs.Nodes.{pairIn}
 use borrow.Author.Needs.{needs}
 use Rattle.firmware.proofs.nodes.shelugvar_counts.Statement.{statement}
 use Rattle.firmware.proofs.nodes.shelugvar_counts.Tie as tie
@@ -25,13 +25,13 @@ number-requires : tie.Need-number-requires
 number-requires c κs = search needs
 
 returns : tie.Need-returns
-unfolding countsIn
+unfolding pairIn
 returns c =
     let q = sym (c .before .before .before .counts .ensures) ∙ c .before .accepted .given .1 in
     (rw q, rw q)
 
 returns-2 : tie.Need-returns-2
-unfolding countsIn
+unfolding pairIn
 returns-2 c =
     let q = sym (c .before .before .before .before .counts .ensures) ∙ c .before .before .w .given .1 in
     (rw q (c .number .ensures), rw (q, refused-not-zero))
