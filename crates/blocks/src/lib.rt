@@ -1,7 +1,7 @@
 // The host's block: how many payloads it has, where each begins and where the last ends, then the payloads.
 // Proved: what is written is `blockOf` of specs/Blocks.antt, from the first byte on, and the answer how many of its
 // bytes the lent block took: all of them, where it is long enough. Beyond its end nothing alters. specs/Reading.antt:
-// the payloads can be read out of the block again.
+// the payloads can be read out of the block again; which bytes are a block, and which of those a plan.
 // `put_one` asks a payload of at most 65,535 bytes, which is more than any frame carries.
 pub mod layout; // layout.rt: its numbers
 pub mod lent; // lent.rt: a block that was lent, read
