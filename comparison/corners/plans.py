@@ -3,6 +3,7 @@ payloads."""
 from comparison import history, model
 from comparison.blocks import broken_blocks, with_offset, written
 from comparison.corners.corner import Corner, Unexpected, corner, double, rx, tx
+from comparison.corners.failing import failing
 from comparison.corners.linked import handed_out, open_both, take_in
 from comparison.model import ACKNOWLEDGE, DATA, RESET, URGENT
 from comparison.tables import put
@@ -261,18 +262,14 @@ def plan_stopped_by_4(t: Corner) -> None:
 
 @corner
 def plan_at_failing(t: Corner) -> None:
-    t.given(tx(retries=0, timeout=2))
-    t.up(0)
-    t.send_out(0, 1)
-    t.ticks(1)
-    t.send_out(0, 2)
-    t.ticks(1)  # number 1 has failed, number 2 runs
+    t.given(tx(retries=0, timeout=3))
+    failing(t)
     t.stops(0, b"a", b"b", by=4)
     t.no(22, t.plan, 0, b"")
     t.plans(0)
-    t.ok(t.counts, 0, gives=[2, 0])
+    t.ok(t.counts, 0, gives=[4, 0])
     t.nothing()
-    t.ticks(1, last=1)
+    t.ticks(2, last=1)
     t.out(0, RESET, 0)
     t.nothing()
 
