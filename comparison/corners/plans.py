@@ -5,6 +5,7 @@ from comparison.blocks import broken_blocks, with_offset, written
 from comparison.corners.corner import Corner, Unexpected, corner, double, rx, tx
 from comparison.corners.failing import failing
 from comparison.corners.linked import handed_out, open_both, take_in
+from comparison.corners.sizes import LONG
 from comparison.model import ACKNOWLEDGE, DATA, RESET, URGENT
 from comparison.tables import put
 
@@ -655,7 +656,7 @@ def plan_of_many_lengths_in_its_slots(t: Corner) -> None:
             t.passes(0, sequence, 1)
 
 
-LONG = bytes(k * 7 % 253 for k in range(16384))
+HALF = LONG[:16384]  # of the most that a store can have
 
 
 @corner
@@ -663,8 +664,8 @@ def plan_of_the_longest_payloads(t: Corner) -> None:
     """Half a store each: offsets above 255 and above 32,767."""
     t.given(tx(window=1, largest=16384))
     t.up(0)
-    t.stops(0, LONG, LONG[::-1], LONG, by=7, after=1)
-    t.out(0, DATA, 1, LONG)
+    t.stops(0, HALF, HALF[::-1], HALF, by=7, after=1)
+    t.out(0, DATA, 1, HALF)
     t.nothing()
 
 
@@ -672,7 +673,7 @@ def plan_of_the_longest_payloads(t: Corner) -> None:
 def plan_of_a_payload_and_a_byte(t: Corner) -> None:
     t.given(tx(window=1, largest=16384))
     t.up(0)
-    t.stops(0, LONG + b"x", LONG, by=5)
+    t.stops(0, HALF + b"x", HALF, by=5)
     t.nothing()
 
 
