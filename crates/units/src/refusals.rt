@@ -4,7 +4,7 @@ ghost use Rattle.units.specs.Refusals.{number_of};
 
 // The refusals, in the order of their numbers.
 // [R1, R2, R3, R4, R5, R6, R7, R8, R9, R10, R11, R13, R14, R15, R16, R17, R18, R19, R20, R21, R22]
-#[derive(Drop)]
+#[derive(Clone, Copy)]
 pub enum Refusal {
     BadTable,
     NoEntry,
@@ -30,7 +30,7 @@ pub enum Refusal {
 }
 
 // What an ordered list of tests comes to: the first that fits refuses.
-#[derive(Drop)]
+#[derive(Clone, Copy)]
 pub enum Verdict {
     Passed,
     Refused(Refusal),
