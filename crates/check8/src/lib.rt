@@ -1,6 +1,8 @@
 // The check byte of a frame: polynomial x^8 + x^2 + x + 1, highest bit first, start value all ones, no final change.
 // Proved: `check` is the check byte that specs/Polynomial.antt works out from the polynomial, for every slice; bytes
 // followed by their check byte come to 0, and with no other last byte do they (specs/Laws.antt).
+#![tactic(auto)]
+
 ghost use Rattle.std.specs.Prelude.{◌≡◌};
 ghost use Rattle.check8.specs.Polynomial.{times_x, step_byte, check_of};
 
