@@ -2,6 +2,8 @@
 // Every step takes the window by value and gives it back as it stands afterwards.
 // Proved: each function is the definition of specs/ that it cites, for every input; none asks anything of its
 // caller. specs/Law.antt has the window law, once over W; proofs/ what callers cite of the steps.
+#![tactic(auto)]
+
 ghost use Rattle.std.specs.Prelude.{◌≡◌, ◌+◌};
 ghost use Rattle.window.specs.Numbers.{distance_of, seq_of};
 ghost use Rattle.window.specs.Windows.{inside_of, held, held_count, new_of, accept_of, pass_of, reset_of};
@@ -11,11 +13,11 @@ use units::Seq;
 mod words; // words.rt: marks in two words
 
 // Marks for 128 offsets from a window's start, the low word first.
-#[derive(Drop)]
+#[derive(Clone, Copy)]
 pub struct Marks(pub u64, pub u64);
 
 // The numbers from start on, as many as size says. Mark k is set where the number k places after start is held.
-#[derive(Drop)]
+#[derive(Clone, Copy)]
 pub struct Window {
     pub start: Seq,
     pub size: u8,
@@ -23,20 +25,20 @@ pub struct Window {
 }
 
 // What is found of a number that is offered.
-#[derive(Drop)]
+#[derive(Clone, Copy)]
 pub enum Found {
     New,
     Held,
     Outside,
 }
 
-#[derive(Drop)]
+#[derive(Clone, Copy)]
 pub struct Accepted {
     pub window: Window,
     pub found: Found,
 }
 
-#[derive(Drop)]
+#[derive(Clone, Copy)]
 pub struct Passed {
     pub window: Window,
     pub run: u8,
