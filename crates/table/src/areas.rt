@@ -24,6 +24,7 @@ pub fn area(e: Entry) -> usize
 }
 
 // How many bytes of the store all entries take.
+#[tactic(auto, unfolding(crate::specs::Areas::place_of, crate::specs::Areas::store_of))]
 pub fn store_need(table: &[u8]) -> usize
     ensures { result ≡ store_of table.now }
 {

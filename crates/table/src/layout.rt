@@ -1,6 +1,7 @@
 // The table's bytes, high bytes first. A byte past the end counts as 0.
 ghost use Rattle.std.specs.Prelude.{◌≡◌, ◌+◌, ◌^◌, ◌<◌};
-ghost use Rattle.table.specs.Layout.{entry_size, count_of, first_of, own_of, protocol_of, head_zeros_of, byte_of, kind_of};
+ghost use Rattle.table.specs.Layout.{entry_size, count_of, first_of, own_of, protocol_of, head_zeros_of};
+ghost use Rattle.table.specs.Layout.{byte_of, kind_of};
 ghost use Rattle.table.specs.Layout.{window_from, zeros_from, entry_from, entry_of};
 
 use crate::{Entry, Kind};

@@ -3,6 +3,8 @@
 // Proved: each function is the definition of specs/ that it cites, for every slice; none asks anything of
 // its caller. specs/Rules.antt says which tables are good, specs/Areas.antt where the areas lie, specs/Laws.antt
 // what holds of good tables.
+#![tactic(auto)]
+
 mod layout; // layout.rt: reading the bytes
 mod areas; // areas.rt: the entries' areas of the lent store
 mod rules; // rules.rt: which tables are good
@@ -13,14 +15,14 @@ pub use rules::is_good;
 use units::{Address, Channel};
 
 // What an entry's end point does.
-#[derive(Drop)]
+#[derive(Clone, Copy)]
 pub enum Kind {
     Sends,
     Receives,
 }
 
 // What a table says of one end point. The window is the one in force.
-#[derive(Drop)]
+#[derive(Clone, Copy)]
 pub struct Entry {
     pub kind: Kind,
     pub remote: Address,

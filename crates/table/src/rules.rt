@@ -16,6 +16,7 @@ use units::sizes::is_size;
 use units::{Address, limits};
 
 // Whether a table breaks no rule.
+#[tactic(auto, unfolding(crate::specs::Rules::good_table, crate::specs::Rules::fits))]
 pub fn is_good(table: &[u8]) -> bool
     ensures { result ≡ good_table table.now }
 {
@@ -23,6 +24,7 @@ pub fn is_good(table: &[u8]) -> bool
 }
 
 // Whether the head keeps its rules, and the length is the count's.
+#[tactic(auto, unfolding(crate::specs::Rules::head_good))]
 fn head_good(table: &[u8]) -> bool
     ensures { result ≡ head_good table.now }
 {
@@ -65,6 +67,7 @@ fn entry_good(table: &[u8], i: usize) -> bool
 }
 
 // Whether the bytes of entry i keep their rules.
+#[tactic(auto, unfolding(crate::specs::Rules::form_good, crate::specs::Layout::entry_of))]
 fn form_good(table: &[u8], i: usize) -> bool
     requires { i < 65536 }
     ensures { result ≡ form_good table.now i }
@@ -84,6 +87,7 @@ fn may_write(w: u16) -> bool
 }
 
 // Whether an entry's address, largest payload, timeout and retries keep their rules.
+#[tactic(auto, unfolding(crate::specs::Rules::numbers_good))]
 fn numbers_good(e: Entry) -> bool
     ensures { result ≡ numbers_good e }
 {
@@ -105,6 +109,7 @@ fn timed(kind: Kind, timeout: u16, retries: u8) -> bool
 }
 
 // Whether entry i agrees with none before it.
+#[tactic(auto, unfolding(crate::specs::Rules::apart))]
 fn apart(table: &[u8], i: usize) -> bool
     ensures { result ≡ Rules·apart table.now i }
 {
@@ -120,6 +125,7 @@ fn apart(table: &[u8], i: usize) -> bool
 }
 
 // Whether two entries are of one kind, for the same remote address and channel.
+#[tactic(auto, unfolding(crate::specs::Rules::agree))]
 fn agree(a: Entry, b: Entry) -> bool
     ensures { result ≡ Rules·agree a b }
 {
