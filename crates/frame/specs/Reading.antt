@@ -55,4 +55,5 @@ header_of f = read_as (verdict (header_tests f)) (header_at (type_of (type_at f)
 
 -- the whole reader: 10, then these [R40]
 unfoldable pub read_of : List ℕ → Read
-read_of f = read_as (verdict ((not (sound_of f), refusal.BadFrame) ∷ header_tests f)) (header_at (type_of (type_at f)) f)
+read_of f =
+    read_as (verdict ((not (sound_of f), refusal.BadFrame) ∷ header_tests f)) (header_at (type_of (type_at f)) f)

@@ -9,6 +9,7 @@ use units::refusals;
 pub const NO_BYTE: u8 = 255;
 
 // The number of the byte, by the refusal's number. [R47]
+#[tactic(auto, unfolding(crate::specs::Faults::byte_number))]
 pub fn fault_byte(refusal: u8) -> u8
     ensures { result ≡ byte_number refusal }
 {

@@ -3,6 +3,8 @@
 // What the writer writes the reader gives back, and a frame that the reader takes is written again as it stood
 // (specs/RoundTrip.antt). Each fault of a frame is told exactly where its test is the first to fit
 // (specs/AgainstRules.antt).
+#![tactic(auto)]
+
 use units::refusals::Refusal;
 use units::{Address, Channel, Seq};
 
@@ -14,7 +16,7 @@ mod types; // types.rt: the four types, and what each asks of payload and sequen
 
 pub use types::type_number;
 
-#[derive(Drop)]
+#[derive(Clone, Copy)]
 pub enum FrameType {
     Data,
     Acknowledge,
@@ -23,7 +25,7 @@ pub enum FrameType {
 }
 
 // What the reader gives: length is the payload's, in bytes, and an Urgent's sequence is 0.
-#[derive(Drop)]
+#[derive(Clone, Copy)]
 pub struct Header {
     pub destination: Address,
     pub protocol: u8,
@@ -34,14 +36,14 @@ pub struct Header {
     pub length: u16,
 }
 
-#[derive(Drop)]
+#[derive(Clone, Copy)]
 pub enum Read {
     Frame(Header),
     Refused(Refusal),
 }
 
 // What the writer is given: type and user bits are numbers that it may refuse.
-#[derive(Drop)]
+#[derive(Clone, Copy)]
 pub struct Fields {
     pub destination: Address,
     pub protocol: u8,
@@ -52,7 +54,7 @@ pub struct Fields {
     pub seq: Seq,
 }
 
-#[derive(Drop)]
+#[derive(Clone, Copy)]
 pub enum Written {
     Length(usize),
     Refused(Refusal),

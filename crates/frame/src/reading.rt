@@ -11,6 +11,7 @@ use units::refusals::Refusal;
 use units::{Address, Channel, Seq};
 
 // The first half: whether length and check byte are right.
+#[tactic(auto, unfolding(crate::specs::Reading::sound_of))]
 pub fn is_sound(frame: &[u8]) -> bool
     ensures { result ≡ sound_of frame.now }
 {
@@ -53,6 +54,7 @@ fn typed_header(frame: &[u8], kind: FrameType) -> Read
 }
 
 // The second half: the header, or refusal 15, 16, 17 or 18.
+#[tactic(auto, unfolding(crate::specs::Reading::header_of))]
 pub fn header(frame: &[u8]) -> Read
     ensures { result ≡ header_of frame.now }
 {
@@ -64,6 +66,7 @@ pub fn header(frame: &[u8]) -> Read
 }
 
 // The whole reader.
+#[tactic(auto, unfolding(crate::specs::Reading::read_of, crate::specs::Reading::header_of))]
 pub fn read(frame: &[u8]) -> Read
     ensures { result ≡ read_of frame.now }
 {
@@ -74,6 +77,7 @@ pub fn read(frame: &[u8]) -> Read
 }
 
 // The payload: the part of the caller's slice from byte 8 on, all but the check byte.
+#[tactic(auto, unfolding(crate::specs::Layout::payload_of))]
 pub fn payload(frame: &[u8]) -> &[u8]
     ensures { result.now ≡ payload_of frame.now }
 {

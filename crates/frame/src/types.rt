@@ -6,7 +6,7 @@ use crate::{FrameType, layout};
 use units::Seq;
 
 // What a number says of a frame's type.
-#[derive(Drop)]
+#[derive(Clone, Copy)]
 pub enum Known {
     Is(FrameType),
     Unknown,

@@ -40,6 +40,7 @@ fn judge(fields: Fields, n: usize, room: usize) -> Verdict
 }
 
 // Bytes 0 to 7, before a payload of n bytes.
+#[tactic(auto, unfolding(crate::specs::Layout::head_bytes, units::specs::Bytes::be16))]
 fn head(fields: Fields, n: usize) -> [u8; layout::PAYLOAD]
     ensures { result ≡ head_bytes fields n }
 {
@@ -71,6 +72,7 @@ pub fn emit(buffer: &mut [u8], fields: Fields, payload: &[u8])
 }
 
 // The frame's length with its bytes at the buffer's start, or a refusal with the buffer as it was.
+#[tactic(auto, unfolding(crate::specs::Writing::write_answer, crate::specs::Writing::written_of))]
 pub fn write(buffer: &mut [u8], fields: Fields, payload: &[u8]) -> Written
     ensures answer { result ≡ write_answer fields payload.now buffer.old }
     ensures after { buffer.new ≡ written_of fields payload.now buffer.old }
