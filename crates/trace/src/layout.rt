@@ -28,6 +28,7 @@ pub fn count(file: &[u8]) -> u32
 }
 
 // Where record k begins, as the header has it.
+#[tactic(auto, unfolding(crate::specs::Layout::begin_of))]
 pub fn begin(file: &[u8], k: usize) -> u32
     ensures { result ≡ begin_of file.now k }
 {
@@ -38,6 +39,7 @@ pub fn begin(file: &[u8], k: usize) -> u32
 }
 
 // What stands before the bytes of the record that begins at a byte.
+#[tactic(auto, unfolding(crate::specs::Layout::head_from))]
 pub fn head(file: &[u8], at: usize) -> Head
     ensures { result ≡ head_from file.now at }
 {
@@ -56,6 +58,7 @@ pub fn head(file: &[u8], at: usize) -> Head
 }
 
 // The bytes of that record, as many as there are.
+#[tactic(auto, unfolding(crate::specs::Layout::bytes_from, crate::specs::Layout::head_from))]
 pub fn bytes(file: &[u8], at: usize) -> &[u8]
     ensures { result.now ≡ bytes_from file.now at }
 {

@@ -9,6 +9,7 @@ use crate::layout::{begin, count, head};
 use crate::{Head, kinds, layout};
 
 // Whether a file breaks no rule.
+#[tactic(auto, unfolding(crate::specs::Rules::good_trace))]
 pub fn is_good(file: &[u8]) -> bool
     ensures { result ≡ good_trace file.now }
 {
@@ -16,6 +17,7 @@ pub fn is_good(file: &[u8]) -> bool
 }
 
 // Whether the file has its length, and the header its count, its first offset and its end.
+#[tactic(auto, unfolding(crate::specs::Rules::header_good))]
 fn header_good(file: &[u8]) -> bool
     ensures { result ≡ header_good file.now }
 {
@@ -44,6 +46,7 @@ fn records_good(file: &[u8]) -> bool
 }
 
 // Whether record k ends where the next begins, its head keeps its rules, and it is a table where it is the first.
+#[tactic(auto, unfolding(crate::specs::Layout::end_from, crate::specs::Rules::record_good))]
 fn record_good(file: &[u8], k: usize) -> bool
     requires { k ≤ 4294967295 }
     ensures { result ≡ record_good file.now k }
@@ -56,6 +59,7 @@ fn record_good(file: &[u8], k: usize) -> bool
 }
 
 // Whether there is such a kind, and index and length are 0 where its call takes none.
+#[tactic(auto, unfolding(crate::specs::Rules::form_good))]
 fn form_good(h: Head) -> bool
     ensures { result ≡ form_good h }
 {
@@ -82,6 +86,7 @@ fn placed(k: usize, kind: u8) -> bool
 }
 
 // Whether the offsets behind the file's end are 0.
+#[tactic(auto, unfolding(crate::specs::Rules::unused_good))]
 fn unused_good(file: &[u8]) -> bool
     ensures { result ≡ unused_good file.now }
 {
