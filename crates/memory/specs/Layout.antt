@@ -14,8 +14,8 @@ node_words = 832
 abbrev pub count_at : ℕ
 count_at = 0
 
-abbrev pub field_own : ℕ
-field_own = 1
+abbrev pub own_at : ℕ
+own_at = 1
 
 abbrev pub protocol_at : ℕ
 protocol_at = 2

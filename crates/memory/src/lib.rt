@@ -1,6 +1,8 @@
 // The node's memory: lent words of 64 bits (the node) and of 16 bits (its book), and what lies where in them.
 // Proved: a read is `get_or`, a store is `set`, for every index: past the end a read gives 0 and a store
 // alters nothing, so that no caller has to say how long what it was lent is. specs/Layout.antt is the map.
+#![tactic(auto)]
+
 pub mod layout; // layout.rt: what lies where
 
 ghost use Rattle.std.specs.Prelude.{◌≡◌, get_or, set};
