@@ -60,7 +60,8 @@ behind ws v k (suc n) l p m =
     let g : get_or (set ws (ack_at ((k + suc n) % 32)) v) (ack_at k) 0 ≡ get_or ws (ack_at k) 0 =
     get_or-set_other ws (ack_at ((k + suc n) % 32)) (ack_at k) v 0 (λ e. apart k n p (omega arith) (omega arith)) in
     let r : from (set ws (ack_at ((k + suc n) % 32)) v) ((k + 1) % 32) (suc n) ≡ from ws ((k + 1) % 32) n ++ (v ∷ []) =
-    rw (step k n p) at (behind ws v ((k + 1) % 32) n l (mod-lt (k + 1) (omega arith)) (omega arith)) in
+    subst (λ (x : ℕ). from (set ws (ack_at x) v) ((k + 1) % 32) (suc n) ≡ from ws ((k + 1) % 32) n ++ (v ∷ [])) (step k n p)
+    (behind ws v ((k + 1) % 32) n l (mod-lt (k + 1) (omega arith)) (omega arith)) in
     rw g (ap (λ (t : List ℕ). get_or ws (ack_at k) 0 ∷ t) r)
 
 pub from_length : (ws : List ℕ) (k n : ℕ) → length (from ws k n) ≡ n

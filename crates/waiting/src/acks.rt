@@ -13,7 +13,7 @@ const COUNTS: u64 = 64;
 const ONE_FEWER: u64 = 63;
 
 // An acknowledgement that waits.
-#[derive(Drop)]
+#[derive(Clone, Copy)]
 pub struct Ack {
     pub entry: u8,
     pub seq: Seq,
@@ -46,6 +46,7 @@ pub fn oldest(node: &[u64]) -> Ack
 }
 
 // One more waits.
+#[tactic(auto, unfolding(crate::specs::Acks::pushed))]
 fn push_word(node: &mut [u64], w: u64)
     ensures { node.new ≡ pushed node.old w }
 {
@@ -68,6 +69,7 @@ pub fn push(node: &mut [u64], i: u8, s: Seq)
 }
 
 // The oldest waits no more.
+#[tactic(auto, unfolding(crate::specs::Acks::popped))]
 pub fn pop(node: &mut [u64])
     ensures { node.new ≡ popped node.old }
 {
@@ -78,6 +80,7 @@ pub fn pop(node: &mut [u64])
 }
 
 // Takes the oldest out, and puts it back at the end unless it is entry i's.
+#[tactic(auto, unfolding(crate::specs::Acks::turned))]
 fn turn(node: &mut [u64], i: u8)
     ensures { node.new ≡ turned i node.old }
 {
@@ -90,6 +93,7 @@ fn turn(node: &mut [u64], i: u8)
 }
 
 // Those of entry i wait no more; the others keep their order.
+#[tactic(auto, unfolding(crate::specs::Acks::turns))]
 pub fn drop(node: &mut [u64], i: u8)
     ensures { node.new ≡ dropped i node.old }
 {

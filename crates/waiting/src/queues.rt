@@ -12,6 +12,7 @@ pub fn first(book: &[u16], q: u16) -> u16
 }
 
 // x waits, last in queue q.
+#[tactic(auto, unfolding(crate::specs::Queues::appended))]
 pub fn append(book: &mut [u16], q: u16, x: u16)
     ensures { book.new ≡ appended book.old q x }
 {
@@ -23,6 +24,7 @@ pub fn append(book: &mut [u16], q: u16, x: u16)
 }
 
 // x waits no more.
+#[tactic(auto, unfolding(crate::specs::Queues::unlinked))]
 pub fn unlink(book: &mut [u16], x: u16)
     ensures { book.new ≡ unlinked book.old x }
 {
