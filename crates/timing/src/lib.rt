@@ -1,6 +1,8 @@
 // Timers by the tick at which they run out: the node's clock, what is left of a timer, and how long none can run out.
 // Proved: each function is the definition of specs/Timing.antt that it cites, for every memory. proofs/Falling.antt:
 // what is left falls by one a tick, and a tick before the bound passes over none that is due.
+#![tactic(auto)]
+
 ghost use Rattle.std.specs.Prelude.{◌≡◌, ◌-◌, min};
 ghost use Rattle.timing.specs.Timing.{clock_in, quiet_in, later as laterThan, left_of, soonest as soonestOf};
 ghost use Rattle.timing.specs.Timing.{passed, heeded, roused};
