@@ -5,7 +5,8 @@ use Rattle.std.proofs.lemmas.List.Edits.{sets}
 use Rattle.units.specs.Refusals.{pick}
 use Rattle.memory.specs.Layout.{entry_at, remote_word, channel_word, retries_word, window_word, largest_word}
 use Rattle.memory.specs.Layout.{timeout_word, place_word, state_word}
-use Rattle.memory.specs.Layout.{state_value_word, state_flag_word, start_word, low_marks_word, high_marks_word, taken_word}
+use Rattle.memory.specs.Layout.{state_value_word, state_flag_word, start_word, low_marks_word, high_marks_word}
+use Rattle.memory.specs.Layout.{taken_word}
 use Rattle.memory.specs.Layout.{handed_word, accepted_word, confirmed_word, urgent_word}
 use Rattle.table.specs.declared.Kind.{Kind}
 use Rattle.table.specs.declared.Kind.TheVariants.{Sends, Receives}

@@ -7,21 +7,21 @@ use units::Unfolded;
 use units::refusals::{Refusal, Verdict};
 
 // A sender's counts: accepted and confirmed.
-#[derive(Drop)]
+#[derive(Clone, Copy)]
 pub enum Counted {
     Counts(Unfolded, Unfolded),
     Refused(Refusal),
 }
 
 // A plan: how many of its payloads were accepted, and what the next was refused with. [O3, O10]
-#[derive(Drop)]
+#[derive(Clone, Copy)]
 pub enum Planned {
     Accepted(u8, Verdict),
     Refused(Refusal),
 }
 
 // What a frame was to the entry that took it in. [O3]
-#[derive(Drop)]
+#[derive(Clone, Copy)]
 pub enum Was {
     Ignored,
     // How many numbers the start passed.
@@ -35,28 +35,28 @@ pub enum Was {
 }
 
 // An arrival: the index of the entry that the frame was for, and what it was there. [O3]
-#[derive(Drop)]
+#[derive(Clone, Copy)]
 pub enum Arrived {
     At(u8, Was),
     Refused(Refusal),
 }
 
 // The length of the frame handed out, 0 where nothing waits.
-#[derive(Drop)]
+#[derive(Clone, Copy)]
 pub enum HandedOut {
     Length(usize),
     Refused(Refusal),
 }
 
 // An entry's state. [O3]
-#[derive(Drop)]
+#[derive(Clone, Copy)]
 pub enum Stated {
     Is(State),
     Refused(Refusal),
 }
 
 // How many bytes of store a table needs. [O3]
-#[derive(Drop)]
+#[derive(Clone, Copy)]
 pub enum Needed {
     Bytes(usize),
     Refused(Refusal),

@@ -2,6 +2,8 @@
 // word, and is taken out and put back by value.
 // Proved: `load`, `save` and `save_entry` are the definitions of specs/Ends.antt, for every memory. proofs/Kept.antt
 // has the laws: what is saved is loaded back, and nothing else of the node alters.
+#![tactic(auto)]
+
 pub mod answers; // answers.rt: what the calls answer
 pub mod heads; // heads.rt: the node's head
 pub mod states; // states.rt: questions about kind and state, and a run begun anew
@@ -17,7 +19,7 @@ use units::{Address, Channel, Seq, Unfolded};
 use window::{Marks, Window};
 
 // Where an end point is in its life. [E1, E2, G7]
-#[derive(Drop)]
+#[derive(Clone, Copy)]
 pub enum State {
     Closed,
     // A Reset's timer, 0 while the Reset waits, and whether one went out since Enabled began.
@@ -28,7 +30,7 @@ pub enum State {
 }
 
 // What a run has come to.
-#[derive(Drop)]
+#[derive(Clone, Copy)]
 pub struct Run {
     // Where the window starts, and which numbers are held (a receiver's) or acknowledged (a sender's).
     pub window: Window,
@@ -41,7 +43,7 @@ pub struct Run {
     pub urgent: u16,
 }
 
-#[derive(Drop)]
+#[derive(Clone, Copy)]
 pub struct EndPoint {
     pub entry: Entry,
     // Where its area of the store begins.
@@ -59,6 +61,7 @@ fn kind_of(w: u64) -> Kind
     Kind::Receives
 }
 
+#[tactic(auto, unfolding(crate::specs::Ends::state_of))]
 fn state_of(tag: u64, value: u64, flag: u64) -> State
     ensures { result ≡ state_of tag value flag }
 {
@@ -92,6 +95,7 @@ fn words_of(node: &[u64], i: usize) -> &[u64]
 }
 
 // What the table says of entry i.
+#[tactic(auto, unfolding(crate::specs::Ends::load_entry))]
 pub fn load_entry(node: &[u64], i: usize) -> Entry
     requires { i < 4096 }
     ensures { result ≡ load_entry node.now i }
@@ -136,6 +140,7 @@ pub fn load_state(node: &[u64], i: usize) -> State
 }
 
 // The run of entry i, whose window has a size.
+#[tactic(auto, unfolding(crate::specs::Ends::load_run))]
 pub fn load_run(node: &[u64], i: usize, size: u8) -> Run
     requires { i < 4096 }
     ensures { result ≡ load_run node.now i size }
@@ -164,6 +169,7 @@ pub fn load_run(node: &[u64], i: usize, size: u8) -> Run
 }
 
 // End point i.
+#[tactic(auto, unfolding(crate::specs::Ends::end_of))]
 pub fn load(node: &[u64], i: usize) -> EndPoint
     requires { i < 4096 }
     ensures { result ≡ end_of node.now i }
@@ -181,6 +187,7 @@ pub fn load(node: &[u64], i: usize) -> EndPoint
 }
 
 // End point i is put back with a state and a run; what the table says of it stays.
+#[tactic(auto, unfolding(crate::specs::Ends::saved))]
 pub fn save(node: &mut [u64], i: usize, s: State, r: Run)
     requires { i < 4096 }
     ensures { node.new ≡ saved node.old i s r }
@@ -207,7 +214,7 @@ pub fn save(node: &mut [u64], i: usize, s: State, r: Run)
 }
 
 // A state in three words.
-#[derive(Drop)]
+#[derive(Clone, Copy)]
 struct Words(u64, u64, u64);
 
 fn state_words(s: State) -> Words
@@ -236,6 +243,7 @@ fn kind_word(k: Kind) -> u64
 }
 
 // Entry i as the table has it, at its place in the store.
+#[tactic(auto, unfolding(crate::specs::Ends::saved_entry))]
 pub fn save_entry(node: &mut [u64], i: usize, e: Entry, place: u16)
     requires { i < 4096 }
     ensures { node.new ≡ saved_entry node.old i e place }

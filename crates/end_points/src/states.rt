@@ -49,6 +49,7 @@ pub fn is_new(f: Found) -> bool
 }
 
 // The run of an end that becomes Closed or Enabled: start 1, nothing taken, handed out or held; the counts are kept.
+#[tactic(auto, unfolding(crate::specs::Runs::anew))]
 pub fn anew_run(r: Run) -> Run
     ensures { result ≡ anew r }
 {
@@ -66,6 +67,7 @@ pub fn anew_run(r: Run) -> Run
 }
 
 // The run with no Urgent waiting.
+#[tactic(auto, unfolding(crate::specs::Runs::urgent_gone))]
 pub fn without_urgent(mut r: Run) -> Run
     ensures { result ≡ urgent_gone r }
 {

@@ -1,0 +1,8 @@
+-- `end_points::load_place` meets its contract. Assumes nothing.
+use mathlib.Core.Path.{◌∙◌}
+use native.Mathlib.Omega.{arith}
+use Rattle.end_points.proofs.Cut.{cut}
+use Rattle.end_points.proofs.load_place.Goals as goal
+
+pub returns : goal.returns
+returns c = rw (c.word_at.ensures ∙ cut c.args.node.now c.words_of.result.now c.args.i 7 c.words_of.ensures (omega arith))
