@@ -1,5 +1,7 @@
 // The slots: where a numbered payload lies in the store and in the book, and what of an entry waits there.
 // Proved: each function is the definition of specs/Slots.antt that it cites, for every memory.
+#![tactic(auto)]
+
 pub mod cells; // cells.rt: what the book says of a cell
 
 ghost use Rattle.std.specs.Prelude.{◌≡◌, take, drop};
@@ -72,6 +74,7 @@ pub fn part(s: &[u8], at: usize, n: usize) -> &[u8]
 
 // Whether the number k past the start waits, as data or as a retransmission, at an open sender that has handed out
 // some.
+#[tactic(auto, unfolding(crate::specs::Slots::waits_in))]
 pub fn waits(book: &[u16], i: u8, w: Window, handed: u8, k: u8) -> bool
     ensures { result ≡ waits_in book.now i w handed k }
 {
@@ -86,6 +89,7 @@ pub fn waits(book: &[u16], i: u8, w: Window, handed: u8, k: u8) -> bool
 }
 
 // The number k past the start waits no more.
+#[tactic(auto, unfolding(crate::specs::Slots::drop_slot))]
 fn drop_slot(book: &mut [u16], i: u8, w: Window, handed: u8, k: u8)
     ensures { book.new ≡ drop_slot i w handed k book.old }
 {
@@ -96,6 +100,7 @@ fn drop_slot(book: &mut [u16], i: u8, w: Window, handed: u8, k: u8)
 }
 
 // Nothing of the numbers taken waits any more.
+#[tactic(auto, unfolding(crate::specs::Slots::drop_slots))]
 pub fn drop_slots(book: &mut [u16], i: u8, w: Window, taken: u8, handed: u8)
     ensures { book.new ≡ drop_slots i w handed taken book.old }
 {
@@ -107,6 +112,7 @@ pub fn drop_slots(book: &mut [u16], i: u8, w: Window, taken: u8, handed: u8)
 }
 
 // Nothing of an open sender waits any more.
+#[tactic(auto, unfolding(crate::specs::Slots::idled))]
 pub fn idle(book: &mut [u16], i: u8, r: Run)
     ensures { book.new ≡ idled i r book.old }
 {
