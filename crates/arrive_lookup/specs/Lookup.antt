@@ -1,7 +1,8 @@
 -- Which entry a frame is for: the one of the fitting kind, with the frame's source as remote address and its channel.
 -- It is found by the index, so that a frame costs the same however many entries there are. Cited by setup and by
 -- arrival. Assumes nothing.
-use Rattle.std.specs.Prelude.{ℕ, zero, suc, ◌+◌, ◌^◌, ◌≤◌, ◌<◌, ◌≡◌, Bool, true, false, ◌&&◌, List, get_or, set, eqb, ltb}
+use Rattle.std.specs.Prelude.{ℕ, zero, suc, ◌+◌, ◌^◌, ◌≤◌, ◌<◌, ◌≡◌, Bool, true, false, ◌&&◌, List, get_or, set}
+use Rattle.std.specs.Prelude.{eqb, ltb}
 use Rattle.std.specs.Int.Bits.{bit_or}
 use Rattle.units.specs.Refusals.{pick}
 use Rattle.memory.specs.Layout.{row_at}

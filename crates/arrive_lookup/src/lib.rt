@@ -2,6 +2,8 @@
 // and the index by which it is found, at one cost however many entries there are.
 // Proved: `entry_for` and `put_in_index` are the definitions of specs/Lookup.antt, for every node. On an index that
 // setup made, what is found fits, and what fits is found (proofs/Found.antt).
+#![tactic(auto)]
+
 ghost use Rattle.std.specs.Prelude.{◌≡◌, ◌<◌};
 ghost use Rattle.window.specs.Marks.{bit};
 ghost use Rattle.end_points.specs.States.{is_sends};
@@ -26,7 +28,7 @@ fn for_sender(t: FrameType) -> bool
 }
 
 // A row of the index: there is one for each byte, which is a channel in one place and an address in another.
-#[derive(Drop)]
+#[derive(Clone, Copy)]
 struct Row(u8);
 
 // The sets of entries in a row.
@@ -44,6 +46,7 @@ fn lowest(set: u64) -> u8
 }
 
 // The entry that a frame of a type from a source on a channel is for; 16 where there is none.
+#[tactic(auto, unfolding(crate::specs::Lookup::entry_for))]
 pub fn entry_for(node: &[u64], t: FrameType, source: Address, channel: Channel) -> u8
     ensures { result ≡ entry_for node.now t source.0 channel.0 }
 {
@@ -76,6 +79,7 @@ fn channel_digit(kind: Kind, i: u8) -> u8
 }
 
 // Entry i, which is e, is put into the index.
+#[tactic(auto, unfolding(crate::specs::Lookup::indexed))]
 pub fn put_in_index(node: &mut [u64], i: u8, e: Entry)
     requires { i < 16 }
     ensures { node.new ≡ indexed node.old i e }
