@@ -1,6 +1,8 @@
 // Setup, open, close, counts and state: an end point's life as the host rules it.
 // Proved: which answer each call gives, and what the node and the book hold afterwards, for every memory and every
 // table; a refused call alters nothing. specs/Setup.antt and specs/Opening.antt state the calls.
+#![tactic(auto)]
+
 mod setting; // setting.rt: setup from a channel table
 
 ghost use Rattle.std.specs.Prelude.{◌≡◌};
@@ -18,6 +20,7 @@ use units::refusals::{Refusal, Verdict};
 use waiting::{acks, queues};
 
 // The host opens an end point: it becomes Enabled, and a sender's Reset waits.
+#[tactic(auto, unfolding(crate::specs::Opening::open_answer, crate::specs::Opening::open_after))]
 pub fn open(node: &mut [u64], book: &mut [u16], index: usize) -> Verdict
     ensures value { result ≡ open_answer (bare node.old book.old) index }
     ensures book_after { let x = bare node.old book.old in
@@ -43,6 +46,7 @@ pub fn open(node: &mut [u64], book: &mut [u16], index: usize) -> Verdict
 }
 
 // The host closes an end point: what of it waits, waits no more.
+#[tactic(auto, unfolding(crate::specs::Opening::close_answer, crate::specs::Opening::close_after))]
 pub fn close(node: &mut [u64], book: &mut [u16], index: usize) -> Verdict
     ensures value { result ≡ close_answer (bare node.old book.old) index }
     ensures book_after { let x = bare node.old book.old in
@@ -70,6 +74,7 @@ pub fn close(node: &mut [u64], book: &mut [u16], index: usize) -> Verdict
 }
 
 // What of a sender waits, waits no more.
+#[tactic(auto, unfolding(crate::specs::Opening::silenced))]
 fn silence(book: &mut [u16], i: u8, s: State, r: Run)
     ensures { book.new ≡ silenced i s r book.old }
 {
@@ -86,6 +91,7 @@ fn silence(book: &mut [u16], i: u8, s: State, r: Run)
 }
 
 // How many payloads a sender has accepted, and how many of those are confirmed, in every state.
+#[tactic(auto, unfolding(crate::specs::Opening::counts_answer))]
 pub fn counts(node: &[u64], index: usize) -> Counted
     ensures { result ≡ counts_answer node.now index }
 {
@@ -105,6 +111,7 @@ pub fn counts(node: &[u64], index: usize) -> Counted
 }
 
 // An end point's state.
+#[tactic(auto, unfolding(crate::specs::Opening::state_answer, end_points::specs::Ends::end_of))]
 pub fn state(node: &[u64], index: usize) -> Stated
     ensures { result ≡ state_answer node.now index }
 {

@@ -21,6 +21,7 @@ use waiting::port;
 use window::Window;
 
 // How many bytes of store a table needs.
+#[tactic(auto, unfolding(crate::specs::Setup::need_answer))]
 pub fn store_need(table: &[u8]) -> Needed
     ensures { result ≡ need_answer table.now }
 {
@@ -31,6 +32,7 @@ pub fn store_need(table: &[u8]) -> Needed
 }
 
 // The node is set up from a table.
+#[tactic(auto, unfolding(crate::specs::Setup::setup_answer, crate::specs::Setup::setup_after))]
 pub fn setup(node: &mut [u64], book: &mut [u16], store: &[u8], table: &[u8]) -> Verdict
     ensures result_value { let x = stored node.old book.old store.now in
         result ≡ setup_answer x table.now }
@@ -82,6 +84,7 @@ fn put_head(node: &mut [u64], table: &[u8])
 }
 
 // The entries, each Closed, at their places in the store.
+#[tactic(auto, unfolding(crate::specs::Setup::tabled, table::specs::Areas::place_of))]
 fn put_entries(node: &mut [u64], table: &[u8])
     requires { good_table table.now ≡ true }
     ensures { node.new ≡ tabled table.now (count_of table.now)
@@ -124,6 +127,7 @@ fn first_run() -> Run
 }
 
 // Nothing waits in any queue.
+#[tactic(auto, unfolding(crate::specs::Setup::emptied))]
 fn empty(book: &mut [u16])
     ensures { book.new ≡ emptied book.old }
 {
