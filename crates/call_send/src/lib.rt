@@ -2,6 +2,8 @@
 // handed out.
 // Proved: which answer is given, and what the node, the book and the store hold afterwards, for every memory and
 // every payload; a refused call alters nothing. specs/Sending.antt states both calls.
+#![tactic(auto)]
+
 pub mod judging; // judging.rt: which of the two calls are refused
 
 ghost use Rattle.std.specs.Prelude.{◌≡◌, ◌<◌, length};
@@ -25,6 +27,7 @@ use window::{Window, advance};
 
 // End point i as `load` reads it. It has one caller, so that the compiler reads there what the caller uses and no more:
 // `load` has many, and hands over the whole by way of memory.
+#[tactic(auto, unfolding(end_points::specs::Ends::end_of))]
 fn read_end(node: &[u64], i: usize) -> EndPoint
     requires { i < 4096 }
     ensures { result ≡ end_of node.now i }
@@ -42,6 +45,7 @@ fn read_end(node: &[u64], i: usize) -> EndPoint
 }
 
 // The host sends a payload: it takes the next sequence number and waits as data.
+#[tactic(auto, unfolding(crate::specs::Sending::send_answer, crate::specs::Sending::send_after))]
 pub fn send(
     node: &mut [u64],
     book: &mut [u16],
@@ -69,6 +73,7 @@ pub fn send(
 }
 
 // The host sends an Urgent: it lies in the sender's last slot and waits.
+#[tactic(auto, unfolding(crate::specs::Sending::urgent_answer, crate::specs::Sending::urgent_after))]
 pub fn urgent(
     node: &mut [u64],
     book: &mut [u16],
@@ -127,6 +132,7 @@ fn put_sent(node: &mut [u64], i: usize, r: Run)
 }
 
 // The run with an Urgent of n bytes waiting.
+#[tactic(auto, unfolding(crate::specs::Sending::urgent_run))]
 fn urgent_run(mut r: Run, n: u16) -> Run
     ensures { result ≡ urgent_run r n }
 {
@@ -135,6 +141,7 @@ fn urgent_run(mut r: Run, n: u16) -> Run
 }
 
 // Number s of entry i is a payload of n bytes that was never sent again, and waits as data.
+#[tactic(auto, unfolding(crate::specs::Sending::sent_book))]
 fn wait_as_data(book: &mut [u16], i: u8, w: Window, s: Seq, n: u16)
     ensures { book.new ≡ sent_book book.old (cell i w s.0) n }
 {
