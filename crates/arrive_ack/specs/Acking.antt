@@ -2,7 +2,8 @@
 -- Assumes nothing.
 use Rattle.std.specs.Prelude.{ℕ, ◌+◌, ◌-◌, ◌%◌, Bool, ◌&&◌, List, ◌==◌, nat_lt, slice_set}
 use Rattle.units.specs.Refusals.{pick}
-use Rattle.memory.specs.Layout.{entry_at, start_word, low_marks_word, high_marks_word, taken_word, handed_word, confirmed_word}
+use Rattle.memory.specs.Layout.{entry_at, start_word, low_marks_word, high_marks_word, taken_word, handed_word}
+use Rattle.memory.specs.Layout.{confirmed_word}
 use Rattle.memory.specs.Layout.{reset_id, cell_id, timer_at}
 use Rattle.waiting.specs.Queues.{unlinked}
 use Rattle.timing.specs.Timing.{roused}

@@ -1,6 +1,8 @@
 // An acknowledgement taken in by a sender: at Enabled it may open the run, at Open and Failing it may count.
 // Proved: the answer, the node and the book afterwards are those of specs/Acking.antt, for every memory and every
 // number; an acknowledgement that is ignored alters nothing.
+#![tactic(auto)]
+
 ghost use Rattle.std.specs.Prelude.{◌≡◌, ◌-◌, ◌<◌};
 ghost use Rattle.end_points.specs.declared.State.TheVariants as state;
 ghost use Rattle.arrive_ack.specs.Acking.{fewer, moved, opened_run, tallied, reset_gone, stopped, ack_answer};
@@ -16,7 +18,7 @@ use waiting::queues;
 use window::{Passed, distance};
 
 // What a number acknowledged at Open or Failing comes to.
-#[derive(Drop)]
+#[derive(Clone, Copy)]
 enum Tally {
     Ignored,
     // It counts: the run afterwards, and how many numbers the start passed.
@@ -50,6 +52,7 @@ fn moved_run(r: Run, p: Passed) -> Run
 }
 
 // Whether s counts, and what the run is then.
+#[tactic(auto, unfolding(crate::specs::Acking::tallied, crate::specs::Acking::counts, crate::specs::Acking::acked_run))]
 fn tally_of(r: Run, s: Seq) -> Tally
     ensures { result ≡ tallied r s.0 }
 {
@@ -68,6 +71,7 @@ fn tally_of(r: Run, s: Seq) -> Tally
 }
 
 // The run at its opening.
+#[tactic(auto, unfolding(crate::specs::Acking::opened_run))]
 fn opened_run(r: Run) -> Run
     ensures { result ≡ opened_run r }
 {
@@ -92,6 +96,7 @@ fn drop_reset(book: &mut [u16], i: u8, t: u16)
 }
 
 // At Enabled, with a Reset's timer and whether one went out.
+#[tactic(auto, unfolding(crate::specs::Acking::ack_answer, crate::specs::Acking::ack_node, crate::specs::Acking::ack_book))]
 fn at_enabled(
     node: &mut [u64],
     book: &mut [u16],
@@ -119,6 +124,7 @@ fn at_enabled(
 }
 
 // The timer of cell g stops, and a waiting retransmission goes: at Open one waits where the timer's place is 0.
+#[tactic(auto, unfolding(crate::specs::Acking::stopped))]
 fn stop(book: &mut [u16], g: u16)
     requires { g < 33024 }
     ensures { book.new ≡ stopped book.old g }
@@ -146,6 +152,7 @@ fn put_counted(node: &mut [u64], i: usize, r: Run)
 }
 
 // At Open.
+#[tactic(auto, unfolding(crate::specs::Acking::ack_answer, crate::specs::Acking::ack_node, crate::specs::Acking::ack_book))]
 fn at_open(node: &mut [u64], book: &mut [u16], i: u8, e: EndPoint, s: Seq) -> Was
     ensures answer { result ≡ ack_answer e state.Open s.0 }
     ensures node { node.new ≡ ack_node node.old book.old i e state.Open s.0 }
@@ -176,6 +183,7 @@ fn fewer_of(t: u16, n: u16) -> u16
 }
 
 // At Failing, with the number of timers that still run.
+#[tactic(auto, unfolding(crate::specs::Acking::ack_answer, crate::specs::Acking::ack_node, crate::specs::Acking::ack_book))]
 fn at_failing(node: &mut [u64], book: &mut [u16], i: u8, e: EndPoint, n: u16, s: Seq) -> Was
     ensures answer { result ≡ ack_answer e (state.Failing n) s.0 }
     ensures node { node.new ≡ ack_node node.old book.old i e (state.Failing n)
@@ -197,6 +205,7 @@ fn at_failing(node: &mut [u64], book: &mut [u16], i: u8, e: EndPoint, n: u16, s:
 }
 
 // Acknowledgement s reaches entry i, a sender whose end point is e.
+#[tactic(auto, unfolding(crate::specs::Acking::ack_answer, crate::specs::Acking::ack_node, crate::specs::Acking::ack_book))]
 pub fn acknowledge(node: &mut [u64], book: &mut [u16], i: u8, e: EndPoint, s: Seq) -> Was
     ensures answer { result ≡ ack_answer e e.state s.0 }
     ensures node { node.new ≡ ack_node node.old book.old i e e.state s.0 }
