@@ -1,6 +1,7 @@
 -- How a block is read: how many payloads, and each from its offset to the next; and which bytes are a block at all.
 -- Cited by the plan, which is lent one, and by the law that nothing is lost in a block. Assumes nothing.
-use Rattle.std.specs.Prelude.{ℕ, zero, suc, ◌+◌, ◌*◌, ◌-◌, ◌≤◌, ◌<◌, ◌≡◌, Bool, true, ◌&&◌, List, [], ◌∷◌, length, take, drop, get_or, eqb, leb}
+use Rattle.std.specs.Prelude.{ℕ, zero, suc, ◌+◌, ◌*◌, ◌-◌, ◌≤◌, ◌<◌, ◌≡◌, Bool, true, ◌&&◌, List, [], ◌∷◌}
+use Rattle.std.specs.Prelude.{length, take, drop, get_or, eqb, leb}
 use Rattle.std.proofs.lemmas.List.Edits.{sets}
 use Rattle.units.specs.Bytes.{get16_of, get32_of}
 use Rattle.units.specs.Limits.{most_planned}
@@ -49,7 +50,8 @@ is_plan s = leb (count_in s) most_planned && is_block s
 
 -- what was written into a buffer with room for it is read out again [B1]
 abbrev pub ReadsBack : Type 0
-ReadsBack = (l : List ℕ) (ps : List (List ℕ)) → length (block_of ps) ≤ length l → read_block (sets l 0 (block_of ps)) ≡ ps
+ReadsBack = (l : List ℕ) (ps : List (List ℕ)) → length (block_of ps) ≤ length l
+    → read_block (sets l 0 (block_of ps)) ≡ ps
 
 -- what was written is a block [B5]
 unfoldable pub WrittenIsBlock : Type 0

@@ -31,6 +31,7 @@ pub fn between(block: &[u8], from: usize, to: usize) -> &[u8]
 }
 
 // Whether none of k offsets, from the second on, falls below the one before it.
+#[tactic(auto, unfolding(crate::specs::Reading::never_fall))]
 fn never_fall(block: &[u8], k: u8) -> bool
     requires { k < 255 }
     ensures { result ≡ never_fall block.now 0 k }
@@ -49,6 +50,7 @@ fn never_fall(block: &[u8], k: u8) -> bool
 }
 
 // Whether bytes are a plan.
+#[tactic(auto, unfolding(crate::specs::Reading::is_plan, crate::specs::Reading::is_block))]
 pub fn is_plan(block: &[u8]) -> bool
     ensures { result ≡ is_plan block.now }
 {

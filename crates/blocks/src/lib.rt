@@ -3,6 +3,8 @@
 // bytes the lent block took: all of them, where it is long enough. Beyond its end nothing alters. specs/Reading.antt:
 // the payloads can be read out of the block again; which bytes are a block, and which of those a plan.
 // `put_one` asks a payload of at most 65,535 bytes, which is more than any frame carries.
+#![tactic(auto)]
+
 pub mod layout; // layout.rt: its numbers
 pub mod lent; // lent.rt: a block that was lent, read
 
@@ -17,7 +19,7 @@ use units::bytes::{put_all, put16, put32};
 use window::{Window, advance};
 
 // Whose payloads they are: the entry, where its area of the store begins, P, and its window.
-#[derive(Drop)]
+#[derive(Clone, Copy)]
 pub struct Owner {
     pub entry: u8,
     pub place: u16,
@@ -42,6 +44,7 @@ fn payload<'a>(store: &'a [u8], book: &[u16], o: Owner, k: u8) -> &'a [u8]
 }
 
 // Offset j of a block stored, with one test of the room where all of it fits.
+#[tactic(auto, unfolding(units::specs::Bytes::be32, units::specs::Bytes::be16))]
 fn put_offset(out: &mut [u8], j: u8, offset: usize)
     requires { offset < 4294967296 }
     ensures { out.new ≡ sets out.old (offsets_at + offset_bytes * j) (be32 offset) }
@@ -59,6 +62,7 @@ fn put_offset(out: &mut [u8], j: u8, offset: usize)
 
 // The block of an entry's first k payloads from the start of its window on, as store and book have them;
 // answers how much of it the lent block took.
+#[tactic(auto, unfolding(crate::specs::Payloads::payloads, crate::specs::Blocks::joined_up, crate::specs::Blocks::offsets))]
 pub fn put_block(out: &mut [u8], store: &[u8], book: &[u16], o: Owner, k: u8) -> usize
     ensures length { let ps = payloads store.now book.now o.entry o.place o.largest o.window k in
         result ≡ takes out.old ps }
@@ -83,6 +87,7 @@ pub fn put_block(out: &mut [u8], store: &[u8], book: &[u16], o: Owner, k: u8) ->
 }
 
 // The block of no payload; answers how much of it the lent block took.
+#[tactic(auto, unfolding(crate::specs::Blocks::block_of, crate::specs::Blocks::offsets, crate::specs::Blocks::joined_up, units::specs::Bytes::be16, units::specs::Bytes::be32))]
 pub fn put_none(out: &mut [u8]) -> usize
     ensures length { result ≡ takes out.old [] }
     ensures written { out.new ≡ sets out.old 0 (block_of []) }
