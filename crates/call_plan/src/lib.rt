@@ -2,6 +2,8 @@
 // first that is refused.
 // Proved, for every content of the memory and every block: the answer, and what node, book and store hold afterwards,
 // are those of so many single sends (specs/Planning.antt). The end point is found and loaded once, and saved once.
+#![tactic(auto)]
+
 ghost use Rattle.std.specs.Prelude.{◌≡◌, ◌+◌, ◌<◌, length};
 ghost use Rattle.units.specs.Refusals.{verdict};
 ghost use Rattle.blocks.specs.Reading.{payloads_in};
@@ -22,13 +24,14 @@ use units::Unfolded;
 use units::refusals::{Refusal, Verdict};
 
 // How many payloads were accepted, and what the next was refused with.
-#[derive(Drop)]
+#[derive(Clone, Copy)]
 struct Sent {
     accepted: u8,
     stop: Verdict,
 }
 
 // The host hands over a plan.
+#[tactic(auto, unfolding(blocks::specs::Reading::is_plan, blocks::specs::Reading::read_block, crate::specs::Planning::sent_in_order, blocks::specs::Reading::payloads_in, call_send::specs::Sending::send_answer, call_send::specs::Sending::send_after, crate::specs::Planning::plan_answer, crate::specs::Planning::plan_after))]
 pub fn plan(
     node: &mut [u64; layout::NODE_WORDS],
     book: &mut [u16],
@@ -60,6 +63,7 @@ pub fn plan(
 }
 
 // The first k payloads of a block are laid at entry i, up to the first that is refused. The node does not say so yet.
+#[tactic(auto, unfolding(blocks::specs::Reading::payload_in, crate::specs::Planning::sent_in_order))]
 fn send_all(
     node: &[u64; layout::NODE_WORDS],
     book: &mut [u16],
@@ -145,6 +149,7 @@ fn more(e: EndPoint, n: u8) -> EndPoint
 }
 
 // Entry i has taken and accepted n payloads more: of its words two alter, and none where n is 0.
+#[tactic(auto, unfolding(end_points::specs::Ends::end_of, end_points::specs::Ends::load_run))]
 fn put_accepted(node: &mut [u64], i: usize, n: u8)
     requires { (i < 256)
         × ((end_of node.old i).run.taken + n < 256)
