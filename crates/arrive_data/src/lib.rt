@@ -1,6 +1,8 @@
 // A Reset, Data or an Urgent taken in by a receiver.
 // Proved: the answer, and the node, the book, the store and the host's block afterwards, are those of
 // specs/Receiving.antt, for every memory and every number; a payload has at most 65,535 bytes, as in any frame.
+#![tactic(auto)]
+
 ghost use Rattle.std.specs.Prelude.{◌≡◌, [], ◌∷◌, ◌<◌, length};
 ghost use Rattle.std.proofs.lemmas.List.Edits.{sets};
 ghost use Rattle.blocks.specs.Blocks.{block_of};
@@ -20,6 +22,7 @@ use waiting::acks;
 use window::Window;
 
 // A Reset, at Enabled or Open: the receiver is Open at start 1, with acknowledgement 0 alone waiting for it.
+#[tactic(auto, unfolding(crate::specs::Receiving::reset_answer, crate::specs::Receiving::reset_node))]
 pub fn take_reset(node: &mut [u64], i: u8, e: EndPoint) -> Was
     ensures answer { result ≡ reset_answer e }
     ensures after { node.new ≡ reset_node node.old i e }
@@ -97,6 +100,7 @@ fn put_window(node: &mut [u64], i: usize, w: Window)
 }
 
 // An Urgent, at Open: it is delivered, and not acknowledged.
+#[tactic(auto, unfolding(crate::specs::Receiving::urgent_answer))]
 pub fn take_urgent(out: &mut [u8], payload: &[u8]) -> Was
     requires { length payload.now < 65536 }
     ensures answer { result ≡ urgent_answer out.old payload.now }
