@@ -42,6 +42,7 @@ fn is_answered(t: FrameType) -> bool
 }
 
 // The room that Data and Urgent need in the block.
+#[tactic(auto, unfolding(end_points::specs::Ends::end_of, end_points::specs::Ends::load_run))]
 fn block_room(node: &[u64], i: u8) -> usize
     ensures { result ≡ block_room (end_of node.now i) }
 {
@@ -60,6 +61,7 @@ fn acks_full(t: FrameType, n: u8) -> bool
 }
 
 // Data and Urgent, with a payload of n bytes, for entry i, which is not Closed.
+#[tactic(auto, unfolding(end_points::specs::Ends::end_of))]
 fn judge_payload(node: &[u64], i: u8, t: FrameType, n: u16, store: usize, block: usize) -> Verdict
     ensures { let e = end_of node.now i in
         result ≡ verdict ((not (is_open e.state), refusal.NoEndPoint)
@@ -104,6 +106,7 @@ fn judge_bare(node: &[u64], t: FrameType, store: usize) -> Verdict
 
 // The verdict on a frame of type t with a payload of n bytes, for entry i; with a store and a block of so many bytes.
 // What it asks of the end point it reads itself, a word or two: the whole is read once the frame is to be taken in.
+#[tactic(auto, unfolding(end_points::specs::Ends::end_of))]
 pub fn judge(node: &[u64], i: u8, t: FrameType, n: u16, store: usize, block: usize) -> Verdict
     ensures { let ws = node.now in
         result ≡ verdict (entry_tests ws i (end_of ws i) t n store block) }

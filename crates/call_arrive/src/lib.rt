@@ -1,6 +1,8 @@
 // An arrival: a frame is read, judged, and taken in by the entry it is for.
 // Proved: the answer and what all that was lent holds afterwards are the definitions of specs/Arriving.antt, for every
 // frame and memory; a refused frame alters nothing.
+#![tactic(auto)]
+
 mod judging; // judging.rt: the tests at an entry
 
 ghost use Rattle.std.specs.Prelude.{◌≡◌, ◌<◌, length};
@@ -35,6 +37,7 @@ fn is_ours(node: &[u64], frame: &[u8]) -> bool
 }
 
 // Entry i, which is e, takes in a frame of type t, number s and payload.
+#[tactic(auto, unfolding(crate::specs::Arriving::taken_in_answer, crate::specs::Arriving::taken_in_after, arrive_data::specs::Receiving::reset_after, arrive_data::specs::Receiving::urgent_after))]
 fn take(
     node: &mut [u64],
     book: &mut [u16],
@@ -63,6 +66,7 @@ fn take(
 
 // End point i as `load` reads it. It has one caller, so that the compiler reads there what the caller uses and no more:
 // `load` has many, and hands over the whole by way of memory.
+#[tactic(auto, unfolding(end_points::specs::Ends::end_of))]
 fn read_end(node: &[u64], i: usize) -> EndPoint
     requires { i < 4096 }
     ensures { result ≡ end_of node.now i }
@@ -114,6 +118,7 @@ fn come(
 }
 
 // A frame arrives.
+#[tactic(auto, unfolding(crate::specs::Arriving::arrival_answer, crate::specs::Arriving::arrival_after, crate::specs::Arriving::read_answer, crate::specs::Arriving::read_after, crate::specs::Arriving::entry_answer, crate::specs::Arriving::entry_after))]
 pub fn arrive(
     node: &mut [u64],
     book: &mut [u16],
