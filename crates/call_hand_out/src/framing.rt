@@ -13,6 +13,7 @@ use units::Seq;
 use units::refusals::Refusal;
 
 // The fields of a frame of type t, with number s, to the end that an entry names.
+#[tactic(auto, unfolding(crate::specs::Handing::fields_to))]
 pub fn fields_to(node: &[u64], e: Entry, t: FrameType, s: Seq) -> Fields
     ensures { result ≡ fields_to node.now e t s.0 }
 {

@@ -2,6 +2,8 @@
 // the order in which it began to wait. The frame is under way then, and no other goes out before its end is reported.
 // Proved: the answer, and what node, book and frame buffer hold afterwards, are those of specs/Handing.antt, for every
 // memory; a call that is refused alters nothing, and bytes after the frame stay.
+#![tactic(auto)]
+
 ghost use Rattle.std.specs.Prelude.{◌≡◌};
 ghost use Rattle.end_points.specs.Lent.{whole};
 ghost use Rattle.call_hand_out.specs.Handing.{next_out, hand_out_answer, hand_out_after};
@@ -17,7 +19,7 @@ mod framing; // framing.rt: a frame's fields, and its bytes where there is room
 mod sorts; // sorts.rt: each sort, handed out
 
 // What goes out next: an acknowledgement, or what has waited longest in a queue, by its number there.
-#[derive(Drop)]
+#[derive(Clone, Copy)]
 pub enum Next {
     Nothing,
     Ack(Ack),
@@ -28,6 +30,7 @@ pub enum Next {
 }
 
 // What goes out next: the sorts in their order. A queue that is followed by a queue's own number is empty.
+#[tactic(auto, unfolding(crate::specs::Handing::next_out))]
 fn next_out(node: &[u64], book: &[u16]) -> Next
     ensures { result ≡ next_out node.now book.now }
 {
@@ -54,6 +57,7 @@ fn next_out(node: &[u64], book: &[u16]) -> Next
 }
 
 // One frame is handed out into the buffer: its length, 0 where nothing waits, or refusal 19 or 6.
+#[tactic(auto, unfolding(crate::specs::Handing::hand_out_answer, crate::specs::Handing::hand_out_after, crate::specs::Handing::frame_out, crate::specs::Handing::out_node, crate::specs::Handing::out_book))]
 pub fn hand_out(node: &mut [u64], book: &mut [u16], store: &[u8], frame: &mut [u8]) -> HandedOut
     ensures answer { let x = whole node.old book.old store.now frame.old in
         result ≡ hand_out_answer x }

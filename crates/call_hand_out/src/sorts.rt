@@ -33,6 +33,7 @@ fn less(a: u16, b: u16) -> u16
 }
 
 // An acknowledgement.
+#[tactic(auto, unfolding(crate::specs::Handing::ack_frame, end_points::specs::Ends::end_of))]
 pub fn put_ack(node: &mut [u64], book: &mut [u16], frame: &mut [u8], a: Ack) -> HandedOut
     ensures answer { result ≡ fitted frame.old (ack_frame node.old a) }
     ensures node { node.new ≡ once result node.old (popped node.old) }
@@ -54,6 +55,7 @@ pub fn put_ack(node: &mut [u64], book: &mut [u16], frame: &mut [u8], a: Ack) -> 
 }
 
 // Hands out the Reset whose number in the book is x; its timer stands, and the end point notes that one went out.
+#[tactic(auto, unfolding(crate::specs::Handing::reset_frame))]
 pub fn put_reset(node: &mut [u64], book: &mut [u16], frame: &mut [u8], x: u16) -> HandedOut
     ensures answer { result ≡ fitted frame.old (reset_frame node.old x) }
     ensures node { node.new ≡ once result node.old
@@ -78,6 +80,7 @@ pub fn put_reset(node: &mut [u64], book: &mut [u16], frame: &mut [u8], x: u16) -
 }
 
 // The Urgent that is x in its queue: it waits no more.
+#[tactic(auto, unfolding(crate::specs::Handing::urgent_frame))]
 pub fn put_urgent(
     node: &mut [u64],
     book: &mut [u16],
@@ -118,6 +121,7 @@ fn entry_of(x: u16) -> usize
 }
 
 // The run of entry i.
+#[tactic(auto, unfolding(end_points::specs::Ends::end_of))]
 fn run_of(node: &[u64], i: usize) -> Run
     requires { i < 4096 }
     ensures { result ≡ (end_of node.now i).run }
@@ -140,6 +144,7 @@ fn put_sent(book: &mut [u16], x: u16, number: Seq)
 }
 
 // The retransmission that is x in its queue.
+#[tactic(auto, unfolding(crate::specs::Handing::data_frame, end_points::specs::Ends::end_of, crate::specs::Handing::data_sent))]
 pub fn put_again(
     node: &[u64],
     book: &mut [u16],
@@ -186,6 +191,7 @@ fn put_handed(node: &mut [u64], i: usize, r: Run)
 
 // The data that is x in its queue: one number more is handed out. The same as `put_again` and more, but not by it:
 // with one caller each the compiler takes both in, and the end point is read once.
+#[tactic(auto, unfolding(crate::specs::Handing::data_frame, end_points::specs::Ends::end_of, crate::specs::Handing::data_sent))]
 pub fn put_data(
     node: &mut [u64],
     book: &mut [u16],
