@@ -2,6 +2,8 @@
 // acknowledged, answered or closed meanwhile; an Acknowledge and an Urgent start nothing.
 // Proved: the answer, and what node and book hold afterwards, are those of specs/Reporting.antt, for every memory; a
 // report that is refused alters nothing.
+#![tactic(auto)]
+
 ghost use Rattle.std.specs.Prelude.{◌≡◌, set};
 ghost use Rattle.units.specs.Refusals.{pick};
 ghost use Rattle.memory.specs.Layout.{timer_at};
@@ -20,6 +22,7 @@ use waiting::port;
 use window::distance;
 
 // The run of entry i.
+#[tactic(auto, unfolding(end_points::specs::Ends::end_of))]
 fn run_of(node: &[u64], i: u8) -> Run
     ensures { result ≡ (end_of node.now i).run }
 {
@@ -31,7 +34,7 @@ fn run_of(node: &[u64], i: u8) -> Run
 }
 
 // Whether the timer of Data starts, and in which cell: 0 where it does not.
-#[derive(Drop)]
+#[derive(Clone, Copy)]
 struct Starting {
     starts: bool,
     cell: u16,
@@ -65,6 +68,7 @@ fn data_start(book: &[u16], i: u8, r: Run, u: u16) -> Starting
 }
 
 // The timer in cell g of entry i starts at T, which is answered.
+#[tactic(auto, unfolding(end_points::specs::Ends::end_of))]
 fn start_data(node: &[u64], book: &mut [u16], i: u8, g: u16) -> u16
     ensures value { result ≡ (end_of node.now i).entry.timeout }
     ensures book_after { book.new ≡ set book.old (timer_at g) (later (clock_in node.now) result) }
@@ -75,6 +79,7 @@ fn start_data(node: &[u64], book: &mut [u16], i: u8, g: u16) -> u16
 }
 
 // At Enabled the timer of the Reset starts, where one went out since Enabled began.
+#[tactic(auto, unfolding(crate::specs::Reporting::started_node, end_points::specs::Ends::end_of))]
 fn at_enabled(node: &mut [u64], book: &[u16], i: u8, d: u16, sent: bool, u: u16)
     ensures { node.new ≡ started_node node.old book.now i
         (end_of node.old i) (state.Enabled d sent) u }
@@ -93,6 +98,7 @@ fn at_enabled(node: &mut [u64], book: &[u16], i: u8, d: u16, sent: bool, u: u16)
 }
 
 // At Open the timer of Data starts.
+#[tactic(auto, unfolding(crate::specs::Reporting::started_node, crate::specs::Reporting::started_book))]
 fn at_open(node: &mut [u64], book: &mut [u16], i: u8, u: u16)
     ensures node { node.new ≡ started_node node.old book.old i
         (end_of node.old i) state.Open u }
@@ -109,6 +115,7 @@ fn at_open(node: &mut [u64], book: &mut [u16], i: u8, u: u16)
 }
 
 // At Failing too, and the next tick goes through the entries, since none may be left to wait for.
+#[tactic(auto, unfolding(crate::specs::Reporting::started_node, crate::specs::Reporting::started_book))]
 fn at_failing(node: &mut [u64], book: &mut [u16], i: u8, n: u16, u: u16)
     ensures node { node.new ≡ started_node node.old book.old i
         (end_of node.old i) (state.Failing n) u }
@@ -126,6 +133,7 @@ fn at_failing(node: &mut [u64], book: &mut [u16], i: u8, n: u16, u: u16)
 }
 
 // What the end of a frame of entry i starts, by its end point's state.
+#[tactic(auto, unfolding(crate::specs::Reporting::started_node, crate::specs::Reporting::started_book, end_points::specs::Ends::end_of))]
 fn start(node: &mut [u64], book: &mut [u16], i: u8, u: u16)
     ensures node { node.new ≡ started_node node.old book.old i
         (end_of node.old i) (end_of node.old i).state u }
@@ -141,6 +149,7 @@ fn start(node: &mut [u64], book: &mut [u16], i: u8, u: u16)
 }
 
 // The end of the frame under way: Passed, or refusal 20 where none is.
+#[tactic(auto, unfolding(crate::specs::Reporting::report_answer, crate::specs::Reporting::report_after))]
 pub fn report(node: &mut [u64], book: &mut [u16]) -> Verdict
     ensures value { result ≡ report_answer (bare node.old book.old) }
     ensures book_after { bare node.new book.new
