@@ -3,6 +3,8 @@
 // clock, and a tick in which none can run out does no more than move that.
 // Proved: `tick` is the definition of specs/Ticking.antt, for every memory; it refuses nothing. proofs/Apart.antt: what
 // a tick makes of an entry leaves every other entry as it was.
+#![tactic(auto)]
+
 mod timers; // timers.rt: an entry's timers
 
 ghost use Rattle.std.specs.Prelude.{◌≡◌, [], ◌<◌, ◌≤◌, ◌^◌};
@@ -54,6 +56,7 @@ fn tick_enabled(
 
 // End point i as `load` reads it. It has one caller, as `tick_sent` and all that it calls have, so that the compiler
 // reads there what is used, where it is used: of an end that has handed nothing out no more than that.
+#[tactic(auto, unfolding(end_points::specs::Ends::end_of))]
 fn read_end(node: &[u64], i: usize) -> EndPoint
     requires { i < 4096 }
     ensures { result ≡ end_of node.now i }
@@ -95,6 +98,7 @@ fn tick_sent(node: &mut [u64], book: &mut [u16], i: u8, c: u16, failing: bool, l
 }
 
 // The timers of entry i.
+#[tactic(auto, unfolding(crate::specs::Ticking::tick_entry, end_points::specs::Ends::end_of, crate::specs::Ticking::tick_state))]
 fn tick_entry(node: &mut [u64], book: &mut [u16], i: u8, c: u16, least: u16) -> u16
     ensures { scan_of node.new book.new result
         ≡ tick_entry c i (scan_of node.old book.old least) }
@@ -111,6 +115,7 @@ fn tick_entry(node: &mut [u64], book: &mut [u16], i: u8, c: u16, least: u16) -> 
 }
 
 // Those of the first n entries, in table order.
+#[tactic(auto, unfolding(crate::specs::Ticking::tick_entries))]
 fn tick_entries(node: &mut [u64], book: &mut [u16], n: u8, c: u16) -> u16
     ensures { scan_of node.new book.new result
         ≡ tick_entries c n (scan_of node.old book.old 65535) }
@@ -138,6 +143,7 @@ fn is_over(s: State) -> bool
 
 // Entry i becomes Enabled with a Reset waiting, and its bit is set, where it is Failing with no timer running and no
 // frame of its own under way.
+#[tactic(auto, unfolding(crate::specs::Ticking::recover, end_points::specs::Ends::end_of))]
 fn recover(node: &mut [u64], book: &mut [u16], i: u8, bits: u16) -> u16
     requires { (i < 16) × (bits < 2 ^ i) }
     ensures { record { lent = bare node.new book.new; bits = result }
@@ -156,6 +162,7 @@ fn recover(node: &mut [u64], book: &mut [u16], i: u8, bits: u16) -> u16
 }
 
 // The same of the first n entries, in table order: the bits of those that became Enabled.
+#[tactic(auto, unfolding(crate::specs::Ticking::recover_all))]
 fn recover_all(node: &mut [u64], book: &mut [u16], n: u8) -> u16
     requires { n ≤ 16 }
     ensures { record { lent = bare node.new book.new; bits = result }
@@ -182,6 +189,7 @@ fn entries(node: &[u64]) -> u8
 }
 
 // Tick c, where a timer can run out.
+#[tactic(auto, unfolding(crate::specs::Ticking::scan_after, crate::specs::Ticking::scan_both))]
 fn scan(node: &mut [u64], book: &mut [u16], c: u16) -> u16
     ensures { record { lent = bare node.new book.new; bits = result }
         ≡ scan_after c (bare node.old book.old) }
@@ -194,6 +202,7 @@ fn scan(node: &mut [u64], book: &mut [u16], c: u16) -> u16
 }
 
 // A tick. Answers 16 bits, entry 0 lowest: the entries that became Enabled in it.
+#[tactic(auto, unfolding(crate::specs::Ticking::tick_both, crate::specs::Ticking::tick_answer, crate::specs::Ticking::tick_after))]
 pub fn tick(node: &mut [u64], book: &mut [u16]) -> u16
     ensures value { result ≡ tick_answer (bare node.old book.old) }
     ensures book_after { bare node.new book.new

@@ -13,7 +13,7 @@ use window::advance;
 
 // How far the tick of an entry's timers has come: whether the end is Failing, how many timers still run, and the least
 // that is left of one.
-#[derive(Drop)]
+#[derive(Clone, Copy)]
 pub struct Timers {
     pub failing: bool,
     pub running: u64,
@@ -31,9 +31,9 @@ fn stop(book: &mut [u16], g: usize)
 // The timer of cell g comes to zero.
 fn expire(book: &mut [u16], i: u8, e: EndPoint, g: usize, t: Timers) -> Timers
     requires { g < 33024 }
-    ensures { record { book = book.exit.now; failing = result.failing; running = result.running; least = result.least }
+    ensures { record { book = book.new; failing = result.failing; running = result.running; least = result.least }
         ≡ expired i e g
-        (record { book = book.entry.now; failing = t.failing; running = t.running; least = t.least }) }
+        (record { book = book.old; failing = t.failing; running = t.running; least = t.least }) }
 {
     let running = t.running;
     let least = t.least;
@@ -70,9 +70,9 @@ fn expire(book: &mut [u16], i: u8, e: EndPoint, g: usize, t: Timers) -> Timers
 // do.
 fn tick_cell(book: &mut [u16], i: u8, e: EndPoint, c: u16, g: usize, d: u16, t: Timers) -> Timers
     requires { (g < 33024) × (t.running < 256) }
-    ensures { record { book = book.exit.now; failing = result.failing; running = result.running; least = result.least }
+    ensures { record { book = book.new; failing = result.failing; running = result.running; least = result.least }
         ≡ tick_cell c i e g d
-        (record { book = book.entry.now; failing = t.failing; running = t.running; least = t.least }) }
+        (record { book = book.old; failing = t.failing; running = t.running; least = t.least }) }
 {
     if d == 0 {
         return t;
@@ -90,9 +90,9 @@ fn tick_cell(book: &mut [u16], i: u8, e: EndPoint, c: u16, g: usize, d: u16, t: 
 // The timer of Data that is under way, with d in its place: it stands, and the end waits for it.
 fn stand(book: &[u16], d: u16, t: Timers) -> Timers
     requires { t.running < 256 }
-    ensures { record { book = book.entry.now; failing = result.failing; running = result.running; least = result.least }
+    ensures { record { book = book.now; failing = result.failing; running = result.running; least = result.least }
         ≡ stood_cell d
-        (record { book = book.entry.now; failing = t.failing; running = t.running; least = t.least }) }
+        (record { book = book.now; failing = t.failing; running = t.running; least = t.least }) }
 {
     if d == 0 {
         return t;
@@ -105,11 +105,12 @@ fn stand(book: &[u16], d: u16, t: Timers) -> Timers
 }
 
 // The timer of the number k past the start, where the number `out` is under way.
+#[tactic(auto, unfolding(crate::specs::Ticking::tick_slot))]
 fn tick_slot(book: &mut [u16], i: u8, e: EndPoint, c: u16, out: u16, k: u8, t: Timers) -> Timers
     requires { t.running < 256 }
-    ensures { record { book = book.exit.now; failing = result.failing; running = result.running; least = result.least }
+    ensures { record { book = book.new; failing = result.failing; running = result.running; least = result.least }
         ≡ tick_slot c i e out k
-        (record { book = book.entry.now; failing = t.failing; running = t.running; least = t.least }) }
+        (record { book = book.old; failing = t.failing; running = t.running; least = t.least }) }
 {
     let window = e.run.window;
     let s = advance(window.start, k);
@@ -123,6 +124,7 @@ fn tick_slot(book: &mut [u16], i: u8, e: EndPoint, c: u16, out: u16, k: u8, t: T
 
 // The timers of all numbers handed out, in window order. What they come to is carried in locals, not in one of
 // `Timers`: so all stay in registers.
+#[tactic(auto, unfolding(crate::specs::Ticking::tick_slots))]
 pub fn tick_slots(
     book: &mut [u16],
     i: u8,
@@ -131,8 +133,9 @@ pub fn tick_slots(
     mut failing: bool,
     mut least: u16,
 ) -> Timers
-    ensures least_value { record { book = book.exit.now; failing = result.failing; running = result.running; least = result.least }
-        ≡ ticked c i e failing book.entry.now least }
+    ensures least_value { let t = result in
+        record { book = book.new; failing = t.failing; running = t.running; least = t.least }
+        ≡ ticked c i e failing book.old least }
     ensures running_bound { result.running < 256 }
 {
     let handed = e.run.handed;
