@@ -4,6 +4,8 @@
 // Proved, for every input and every content of the memory: which answer, and what all that was lent holds afterwards,
 // each as one equation over the definitions that the layer below cites (its specs/); a refused call leaves all as it
 // was. docs/CONTRACTS.md lists the calls with their definitions.
+#![tactic(auto)]
+
 ghost use Rattle.std.specs.Prelude.{◌≡◌};
 ghost use Rattle.end_points.specs.Lent.{bare, stored, whole};
 ghost use Rattle.call_open.specs.Setup.{need_answer, setup_answer, setup_after};
