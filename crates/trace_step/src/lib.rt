@@ -3,6 +3,8 @@
 // Proved, for every input and every content of the memory: which answer, and what all that was lent holds afterwards,
 // by the definitions that the call's own contract cites (specs/Steps.antt). That a replay is so many single calls, and
 // that none of them answers 6, is proved in crates/replayed.
+#![tactic(auto)]
+
 ghost use Rattle.std.specs.Prelude.{◌≡◌};
 ghost use Rattle.end_points.specs.Lent.{whole};
 ghost use Rattle.trace_step.specs.Steps.{call_of, step_of};
@@ -22,7 +24,7 @@ pub const BUFFER: usize = blocks::layout::EMPTY
     + STORE;
 
 // What a call answered.
-#[derive(Drop)]
+#[derive(Clone, Copy)]
 pub enum Told {
     // Setup, open, close, send, Urgent and a report; and what is no call.
     Plain(Verdict),
@@ -33,6 +35,7 @@ pub enum Told {
 }
 
 // The call of a kind, with an index and bytes. Refuses 21 where there is no such kind, and as the call does. [L9]
+#[tactic(auto, unfolding(crate::specs::Steps::call_of))]
 pub fn call(
     node: &mut Node,
     book: &mut Book,
@@ -64,6 +67,7 @@ pub fn call(
 }
 
 // The call of record k of a file. Refuses 21 where there is no such record, and as `call` does. [L9]
+#[tactic(auto, unfolding(crate::specs::Steps::step_of))]
 pub fn step(
     node: &mut Node,
     book: &mut Book,
