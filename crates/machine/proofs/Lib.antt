@@ -16,6 +16,7 @@ pub mod Hosting
 pub mod Handing
 pub mod Reporting
 pub mod Touching
+pub mod Sends
 pub mod Planning
 pub mod Apart
 pub mod Lending

@@ -21,33 +21,22 @@ use Rattle.machine.specs.LawsPlan.{PlanGoes, sent_singly, answer_at, Singly, Pla
 use Rattle.machine.proofs.Hosting.{sent}
 use Rattle.machine.proofs.Judged.{by_verdict}
 use Rattle.machine.proofs.Touching.{by_done}
+use Rattle.machine.proofs.Sends.{by_sends}
 
 -- ---- what holds of every plan
 
 abbrev pub plan_tests : List ℕ → List (Bool × Refusal)
 plan_tests block = (not (is_plan block), refusal.BadBlock) ∷ []
 
--- what holds where nothing was done, and of what a send leaves only if it holds of what was there before the send
+-- what holds of a plan where it holds of what its sends come to
 module _ (P : Machine → Outcome → Type 0) (i : ℕ)
     (done : (m : Machine) (ns : List ℕ) → P m (answers (0 ∷ ns) [] m))
     (before : (m : Machine) (p : List ℕ) (o : Outcome) → P (sending m i p).machine o → P m o) where
-  pub by_sends : (m : Machine) (n : ℕ) (ps : List (List ℕ)) → P m (sending_all m i n ps)
-  unfolding sending_all
-  by_sends m n [] = done m _
-  by_sends m n (p ∷ ps) = before m p _ (sides (accepts (sending m i p)) (by_sends (sending m i p).machine (n + 1) ps))
-    where
-      sides : (b : Bool) → P (sending m i p).machine (sending_all (sending m i p).machine i (n + 1) ps)
-          → P (sending m i p).machine
-          (pick b (sending_all (sending m i p).machine i (n + 1) ps)
-          (answers (0 ∷ n ∷ (sending m i p).answer.numbers) [] (sending m i p).machine))
-      sides true others = others
-      sides false others = done (sending m i p).machine _
-
   pub by_plan : ((m : Machine) (w : Refusal) → P m (answers (refused_of w) [] m)) → (m : Machine) (block : List ℕ) → P m (planning m i block)
   unfolding planning
   by_plan refused m block =
       by_verdict (P m) (plan_tests block) [] m (sending_all m i 0 (read_block block)) (refused m)
-      (λ v. by_sends m 0 (read_block block))
+      (λ v. by_sends P i done before m 0 (read_block block))
 
 -- ---- it is refused for its block alone
 

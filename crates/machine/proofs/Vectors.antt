@@ -471,13 +471,14 @@ peers (v ∷ vs) = v.1 ∷ peers vs
 -- what the machine computes with
 computes : Unit {0}
 unfolding get16_of get32_of be32 default_size times_x times_xs step_byte check_from entry_of entry_from areas.area_of
-    areas.place_of areas.store_of payload_of head_bytes body_bytes frame_bytes sound_of header_of fits offsets joined_up block_of
-    payload_in payloads_in read_block never_fall is_block is_plan begun step machine.without machine.enabled machine.listed
-    machine.opening machine.closing machine.counting machine.sending machine.urgent_sending machine.sending_all
-    machine.planning machine.acked_run machine.running machine.acking machine.held_count machine.held_run machine.receiving
-    machine.resetting machine.taken_in machine.place_of machine.reading machine.arriving machine.frame_of machine.going_out
-    machine.in_order machine.handing_out machine.reported machine.reporting machine.ticked_all machine.any_spent
-    machine.again_from machine.ticked machine.each machine.bits_from machine.ticking
+    areas.place_of areas.store_of payload_of head_bytes body_bytes frame_bytes sound_of header_of fits offsets joined_up
+    block_of payload_in payloads_in read_block never_fall is_block is_plan begun step machine.without machine.enabled
+    machine.listed machine.opening machine.closing machine.counting machine.sending machine.urgent_sending
+    machine.sending_all machine.planning machine.acked_run machine.running machine.acking machine.held_count
+    machine.held_run machine.receiving machine.resetting machine.taken_in machine.place_of machine.reading
+    machine.arriving machine.frame_of machine.going_out machine.in_order machine.handing_out machine.reported
+    machine.reporting machine.ticked_all machine.any_spent machine.again_from machine.ticked machine.each
+    machine.bits_from machine.ticking
 computes = tt
 
 pub vectors_agree : machines (begun table room) vectors ≡ peers vectors
