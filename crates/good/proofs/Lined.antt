@@ -51,7 +51,7 @@ module _ (b : List ℕ) (l : Lists) (L : Lines b l) where
 
   -- nor does what waits in one wait in another, or stand for it
   apart_out : (q r : ℕ) → q < 4 → r < 4 → q ≢ r → (x : ℕ) → (x ≡ q) ⊎ Memᴰ x (l q) → Out x (r ∷ l r)
-  apart_out q r hq hr n x (inl e) = rw e (own_out q r hq hr n)
+  apart_out q r hq hr n x (inl e) = subst (λ (y : ℕ). Out y (r ∷ l r)) (sym e) (own_out q r hq hr n)
   apart_out q r hq hr n x (inr m) =
       (λ e. let h = L.high q hq x m in omega arith, mem_out x (l r) (λ k. L.apart q r hq hr n x m k))
 
