@@ -158,6 +158,7 @@ fresh_empty L st b i e f =
     }
   where
     no_some : (n : ℕ) (p : List ℕ) → Memᴰ (some p) (replicate n none) → ⊥
+    no_some zero p m = elim m [ ]
     no_some (suc n) p (Memᴰ.head h) = not_none (sym h)
     no_some (suc n) p (Memᴰ.tail h) = no_some n p h
 
