@@ -91,10 +91,10 @@ module _ (W : ℕ) (w : is_size W ≡ true) where
       → Inv W (whole s t h)
   resets s r t h (rn_reset _ u) i = i u
 
-  takes : (s : Send) (r t : Recv) (b : ℕ) (p : Pay) (given : List Pay) (x : Tag) (d : Bool) (h : Hist) → RNext W r (r_takes b p given) t
+  takes : (s : Send) (r : Recv) (b : ℕ) (p : Pay) (t : Recv) (given : List Pay) (x : Tag) (d : Bool) (h : Hist) → RNext W r (r_takes b p given) t
       → (r.state ≡ r_open → Inv W (whole s (r_data W r b p).next (r_note x d (r_takes b p (r_data W r b p).given) h)))
       → Inv W (whole s t (r_note x d (r_takes b p given) h))
-  takes s r t b p given x d h (rn_data _ _ _ q) i = i q
+  takes s r b p t given x d h (rn_data _ _ _ q) i = i q
 
   module _ (A : SSide) (B : RSide) (LA : SLaws W A) (LB : RLaws W B) where
     -- ---- the moves
@@ -138,7 +138,7 @@ module _ (W : ℕ) (w : is_size W ≡ true) where
         (λ u. step_keeps W w (whole k.vs k.vr s.hist) _ (reset_in _ m q u) k.inv))
     move_holds s t (data_comes _ c b n y p given d e m late) k =
         receiver_moves s c b _ k d (λ t x.
-        takes k.vs k.vr t y p given (new n) true s.hist (rw e at x)
+        takes k.vs k.vr y p t given (new n) true s.hist (rw e at x)
         (λ u. step_keeps W w (whole k.vs k.vr s.hist) _ (data_in_holds _ n y p m late u) k.inv))
     move_holds s t (old_ack_comes _ c a y d e m) k =
         sender_moves s c a _ k d (λ t x.
@@ -150,7 +150,7 @@ module _ (W : ℕ) (w : is_size W ≡ true) where
         (λ u. step_keeps W w (whole k.vs k.vr s.hist) _ (old_reset_in _ m u) k.inv))
     move_holds s t (old_data_comes _ c b y p given d e m) k =
         receiver_moves s c b _ k d (λ t x.
-        takes k.vs k.vr t y p given (old y) s.hist.data_in s.hist (rw e at x)
+        takes k.vs k.vr y p t given (old y) s.hist.data_in s.hist (rw e at x)
         (λ u. step_keeps W w (whole k.vs k.vr s.hist) _ (old_data_in _ y p m u) k.inv))
 
     moves_hold : (s t : Sys A B) → Moves W A B s t → Holds s → Holds t

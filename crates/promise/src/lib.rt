@@ -1,3 +1,5 @@
+#![tactic(auto)]
+
 // The promise, demand 3: between two machines, and so between two whole nodes, under named premises on the link, the
 // receiver has delivered exactly the first payloads that the sender accepted, each once and in order, and confirmed ≤
 // delivered ≤ accepted. Stated of machines in specs/Link.antt (`Promise`) and of nodes, over the definitions that the
