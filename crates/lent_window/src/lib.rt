@@ -2,6 +2,8 @@
 // record is the window itself, so its driver may also use it by value.
 // Proved, by hand: afterwards the record is the window's own step applied to the record as it was lent, and the answer
 // is that step's, for every record and number. None asks anything of its caller.
+#![tactic(auto)]
+
 ghost use Rattle.std.specs.Prelude.{◌≡◌};
 ghost use Rattle.lent_window.specs.Lending.{Tests, Accepts, Passes, Resets};
 ghost use Rattle.lent_window.specs.Received.{received_of};
@@ -48,7 +50,7 @@ pub fn reset(w: &mut Window)
 }
 
 // What comes of a number that arrives: the window afterwards, what was found of the number, how many were passed.
-#[derive(Drop)]
+#[derive(Clone, Copy)]
 pub struct Received {
     pub window: Window,
     pub found: Found,
