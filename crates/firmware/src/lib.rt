@@ -2,6 +2,8 @@
 // writer and the window test here, the whole node in nodes.rt. `include/shelugvar.h` declares them.
 // Proved: each is the frame's, the window's or the node's own definition, for every input (specs/ says in which
 // numbers); a refused call alters nothing. That the header's declarations are these functions nothing proves.
+#![tactic(auto)]
+
 pub mod nodes; // nodes.rt: the node's calls
 
 ghost use Rattle.std.specs.Prelude.{◌≡◌};
@@ -19,6 +21,7 @@ use units::{Address, Channel, Seq};
 use window::distance;
 
 // The fields of a frame that was read, stored as C has them.
+#[tactic(auto, unfolding(crate::specs::Firmware::read_fields))]
 fn put_fields(fields: &mut [u8], h: Header)
     ensures { fields.new ≡ read_fields (Read.Frame h) fields.old }
 {
@@ -37,8 +40,8 @@ fn put_fields(fields: &mut [u8], h: Header)
 
 // Reads a frame: 0 with its fields, or the refusal (10, 15, 16, 17, 18) with `fields` as they were. The payload is the
 // frame's own bytes from 8 on, all but the last. [G5]
-#[unsafe(no_mangle)]
-pub extern "C" fn shelugvar_frame_read(frame: &[u8], fields: &mut [u8; 7]) -> u8
+#[tactic(auto, unfolding(crate::specs::Firmware::read_fields))]
+pub fn shelugvar_frame_read(frame: &[u8], fields: &mut [u8; 7]) -> u8
     ensures answer { result ≡ read_number (read_of frame.now) }
     ensures after { fields.new ≡ read_fields (read_of frame.now) fields.old }
 {
@@ -53,14 +56,14 @@ pub extern "C" fn shelugvar_frame_read(frame: &[u8], fields: &mut [u8; 7]) -> u8
 
 // The number of the byte at fault, for a refusal of the frame reader or of an arrival: 3, 3, 4, 7 for 15 to 18,
 // and 255 for all other numbers. [R47, G5]
-#[unsafe(no_mangle)]
-pub extern "C" fn shelugvar_fault_byte(refusal: u8) -> u8
+pub fn shelugvar_fault_byte(refusal: u8) -> u8
     ensures { result ≡ byte_number refusal }
 {
     fault_byte(refusal)
 }
 
 // The fields that C hands over.
+#[tactic(auto, unfolding(crate::specs::Firmware::fields_in))]
 fn fields_in(fields: &[u8]) -> Fields
     ensures { result ≡ fields_in fields.now }
 {
@@ -84,8 +87,7 @@ fn fields_in(fields: &[u8]) -> Fields
 
 // Writes a frame: 0 with payload + 9 bytes at the buffer's start, or the refusal (15, 16, 18, 5, 6) with the
 // buffer as it was. [G5]
-#[unsafe(no_mangle)]
-pub extern "C" fn shelugvar_frame_write(buffer: &mut [u8], fields: &[u8; 7], payload: &[u8]) -> u8
+pub fn shelugvar_frame_write(buffer: &mut [u8], fields: &[u8; 7], payload: &[u8]) -> u8
     ensures answer { result ≡ write_number (write_answer (fields_in fields.now) payload.now
         buffer.old) }
     ensures after { buffer.new
@@ -99,8 +101,8 @@ pub extern "C" fn shelugvar_frame_write(buffer: &mut [u8], fields: &[u8; 7], pay
 
 // Whether a sequence number lies in the window of a size from a start on: 1 in it, 0 outside, 2 where the size is none.
 // A size of 0 is the default. [G5]
-#[unsafe(no_mangle)]
-pub extern "C" fn shelugvar_window_test(start: u8, size: u16, seq: u8) -> u8
+#[tactic(auto, unfolding(crate::specs::Firmware::window_number))]
+pub fn shelugvar_window_test(start: u8, size: u16, seq: u8) -> u8
     ensures { result ≡ window_number start size seq }
 {
     let w = in_force(size);

@@ -3,7 +3,8 @@
 // leaves as it was, as all that was lent.
 // Proved: each is the node's own call (crates/node), in the numbers that specs/Nodes.antt gives to its answer.
 ghost use Rattle.std.specs.Prelude.{◌≡◌};
-ghost use Rattle.end_points.specs.Answers.{answer_of, counted_of, planned_of, arrived_of, handed_of, stated_of, needed_of};
+ghost use Rattle.end_points.specs.Answers.{answer_of, counted_of, planned_of, arrived_of, handed_of, stated_of};
+ghost use Rattle.end_points.specs.Answers.{needed_of};
 ghost use Rattle.end_points.specs.Lent.{bare, stored, whole};
 ghost use Rattle.call_open.specs.Setup.{need_answer, setup_answer, setup_after};
 ghost use Rattle.call_open.specs.Opening.{open_answer, open_after, close_answer, close_after, counts_answer};
@@ -32,13 +33,7 @@ fn told(v: Verdict) -> u8
 }
 
 // The table is read into a node, a new one or any other. Refuses 1, 6.
-#[unsafe(no_mangle)]
-pub extern "C" fn shelugvar_setup(
-    node: &mut Node,
-    book: &mut Book,
-    store: &[u8],
-    table: &[u8],
-) -> u8
+pub fn shelugvar_setup(node: &mut Node, book: &mut Book, store: &[u8], table: &[u8]) -> u8
     ensures answer { let x = stored node.old book.old store.now in
         result ≡ refusal_in (answer_of (setup_answer x table.now)) }
     ensures after { let x = stored node.old book.old store.now in
@@ -49,8 +44,7 @@ pub extern "C" fn shelugvar_setup(
 }
 
 // Entry `index` becomes Enabled. Refuses 2, 4.
-#[unsafe(no_mangle)]
-pub extern "C" fn shelugvar_open(node: &mut Node, book: &mut Book, index: usize) -> u8
+pub fn shelugvar_open(node: &mut Node, book: &mut Book, index: usize) -> u8
     ensures answer { let x = bare node.old book.old in
         result ≡ refusal_in (answer_of (open_answer x index)) }
     ensures after { let x = bare node.old book.old in
@@ -60,8 +54,7 @@ pub extern "C" fn shelugvar_open(node: &mut Node, book: &mut Book, index: usize)
 }
 
 // Entry `index` becomes Closed. Refuses 2, 4.
-#[unsafe(no_mangle)]
-pub extern "C" fn shelugvar_close(node: &mut Node, book: &mut Book, index: usize) -> u8
+pub fn shelugvar_close(node: &mut Node, book: &mut Book, index: usize) -> u8
     ensures answer { let x = bare node.old book.old in
         result ≡ refusal_in (answer_of (close_answer x index)) }
     ensures after { let x = bare node.old book.old in
@@ -71,8 +64,8 @@ pub extern "C" fn shelugvar_close(node: &mut Node, book: &mut Book, index: usize
 }
 
 // A sender's counts: accepted, confirmed. Refuses 2, 3.
-#[unsafe(no_mangle)]
-pub extern "C" fn shelugvar_counts(node: &Node, index: usize, values: &mut [u32; 2]) -> u8
+#[tactic(auto, unfolding(crate::specs::Nodes::pair_in))]
+pub fn shelugvar_counts(node: &Node, index: usize, values: &mut [u32; 2]) -> u8
     ensures answer { result ≡ refusal_in (counted_of (counts_answer node.now index)) }
     ensures after { values.new
         ≡ pair_in (counted_of (counts_answer node.now index)) values.old }
@@ -88,8 +81,7 @@ pub extern "C" fn shelugvar_counts(node: &Node, index: usize, values: &mut [u32;
 }
 
 // A payload is accepted and waits. Refuses 2, 3, 4, 5, 8, 7, 6.
-#[unsafe(no_mangle)]
-pub extern "C" fn shelugvar_send(
+pub fn shelugvar_send(
     node: &mut Node,
     book: &mut Book,
     store: &mut [u8],
@@ -106,8 +98,7 @@ pub extern "C" fn shelugvar_send(
 }
 
 // An Urgent waits. Refuses 2, 3, 4, 5, 9, 6.
-#[unsafe(no_mangle)]
-pub extern "C" fn shelugvar_urgent(
+pub fn shelugvar_urgent(
     node: &mut Node,
     book: &mut Book,
     store: &mut [u8],
@@ -125,8 +116,8 @@ pub extern "C" fn shelugvar_urgent(
 
 // The payloads of a block are sent in order, up to and including the first that is refused: how many were accepted,
 // and what refused the next, 0 where none was. Refuses 22.
-#[unsafe(no_mangle)]
-pub extern "C" fn shelugvar_plan(
+#[tactic(auto, unfolding(crate::specs::Nodes::pair_in))]
+pub fn shelugvar_plan(
     node: &mut Node,
     book: &mut Book,
     store: &mut [u8],
@@ -153,6 +144,7 @@ pub extern "C" fn shelugvar_plan(
 }
 
 // An arrival in numbers: what it was, its entry, and its value, 0 where it has none.
+#[tactic(auto, unfolding(crate::specs::Nodes::arrived_in))]
 fn arrived(values: &mut [usize; 3], a: Arrived) -> u8
     ensures answer { result ≡ refusal_in (arrived_of a) }
     ensures after { values.new ≡ arrived_in (arrived_of a) values.old }
@@ -171,8 +163,7 @@ fn arrived(values: &mut [usize; 3], a: Arrived) -> u8
 // A frame has arrived: what it was (0 ignored, 1 acknowledged, 2 opened, 3 Reset, 4 Data, 5 Urgent), the entry that it
 // was for, and the numbers passed, the payloads held or the block's length. Refuses 10, 11, 15, 16, 17, 18, 13, 5,
 // 14, 6.
-#[unsafe(no_mangle)]
-pub extern "C" fn shelugvar_arrival(
+pub fn shelugvar_arrival(
     node: &mut Node,
     book: &mut Book,
     store: &mut [u8],
@@ -192,8 +183,8 @@ pub extern "C" fn shelugvar_arrival(
 }
 
 // What goes out next is written into the frame buffer: its length, 0 where nothing waits. Refuses 6.
-#[unsafe(no_mangle)]
-pub extern "C" fn shelugvar_hand_out(
+#[tactic(auto, unfolding(crate::specs::Nodes::value_in))]
+pub fn shelugvar_hand_out(
     node: &mut Node,
     book: &mut Book,
     store: &[u8],
@@ -218,8 +209,7 @@ pub extern "C" fn shelugvar_hand_out(
 }
 
 // The frame under way has ended: Data or a Reset starts its timer. Refuses 20.
-#[unsafe(no_mangle)]
-pub extern "C" fn shelugvar_report(node: &mut Node, book: &mut Book) -> u8
+pub fn shelugvar_report(node: &mut Node, book: &mut Book) -> u8
     ensures answer { result
         ≡ refusal_in (answer_of (report_answer (bare node.old book.old))) }
     ensures after { let x = bare node.old book.old in
@@ -229,8 +219,7 @@ pub extern "C" fn shelugvar_report(node: &mut Node, book: &mut Book) -> u8
 }
 
 // Every running timer falls by one: the entries that became Enabled, entry 0 lowest. Refuses nothing.
-#[unsafe(no_mangle)]
-pub extern "C" fn shelugvar_tick(node: &mut Node, book: &mut Book) -> u16
+pub fn shelugvar_tick(node: &mut Node, book: &mut Book) -> u16
     ensures answer { result ≡ tick_answer (bare node.old book.old) }
     ensures after { let x = bare node.old book.old in
         bare node.new book.new ≡ tick_after x }
@@ -239,8 +228,8 @@ pub extern "C" fn shelugvar_tick(node: &mut Node, book: &mut Book) -> u16
 }
 
 // An entry's state: 0 Closed, 1 Enabled, 2 Open, 3 Failing. Refuses 2.
-#[unsafe(no_mangle)]
-pub extern "C" fn shelugvar_entry_state(node: &Node, index: usize, state: &mut u8) -> u8
+#[tactic(auto, unfolding(crate::specs::Nodes::value_in))]
+pub fn shelugvar_entry_state(node: &Node, index: usize, state: &mut u8) -> u8
     ensures answer { result ≡ refusal_in (stated_of (state_answer node.now index)) }
     ensures value { state.new
         ≡ value_in (stated_of (state_answer node.now index)) state.old }
@@ -255,8 +244,8 @@ pub extern "C" fn shelugvar_entry_state(node: &Node, index: usize, state: &mut u
 }
 
 // How many bytes of store a table needs. Refuses 1.
-#[unsafe(no_mangle)]
-pub extern "C" fn shelugvar_store_need(table: &[u8], need: &mut usize) -> u8
+#[tactic(auto, unfolding(crate::specs::Nodes::value_in))]
+pub fn shelugvar_store_need(table: &[u8], need: &mut usize) -> u8
     ensures answer { result ≡ refusal_in (needed_of (need_answer table.now)) }
     ensures value { need.new
         ≡ value_in (needed_of (need_answer table.now)) need.old }
@@ -277,8 +266,7 @@ const MINOR: u32 = 4;
 const PATCH: u32 = 1;
 
 // The version of this archive, a byte a number.
-#[unsafe(no_mangle)]
-pub extern "C" fn shelugvar_version() -> u32
+pub fn shelugvar_version() -> u32
     ensures { result ≡ version_of 0 4 1 }
 {
     (MAJOR * 256 + MINOR) * 256 + PATCH
