@@ -1,6 +1,10 @@
 -- One outcome: the functions for C, and lines of text. A theorem a function, over its contract's own text. Assumes
 -- nothing.
 use Prim.Native.Nat.{ℕ}
+use denote.RattleType.{RattleType}
+use denote.Param.Laws.{Laws}
+use mir.Syntax.{Dict}
+use Rattle.std.specs.declared.io.traits.Write as Write
 use mathlib.Core.Path.{◌≡◌}
 use mathlib.Core.List.{List, []}
 use Rattle.firmware.proofs.shelugvar_frame_read.Reads as shelugvar-frame-read
@@ -103,49 +107,50 @@ shelugvar_store_need_one u v a r₁ r₂ e₁ e₂ p q = (cc (p.0, q.0), cc (p.1
 pub shelugvar_version_one : OneAnswer shelugvar-version.Post (λ r. r)
 shelugvar_version_one u v a r₁ r₂ e₁ e₂ p q = cc
 
--- ---- lines
+-- ---- lines: over every type W of sinks' writers
 
-pub lines_text_one : One lines-text.Post (λ e. e.0.now)
-lines_text_one u v a r₁ r₂ e₁ e₂ p q = (cc (p.0, q.0), cc (p.1, q.1))
+module _ (T : RattleType) (L : Laws T) (W : Write.Ghosts T.Denot) (D : Dict) where
+  pub lines_text_one : One (lines-text.Post T L W D) (λ e. e.1.0.now)
+  lines_text_one u v a r₁ r₂ e₁ e₂ p q = (cc (p.0, q.0), cc (p.1.0, q.1.0))
 
-pub lines_number_one : One lines-number.Post (λ e. e.0.now)
-lines_number_one u v a r₁ r₂ e₁ e₂ p q = (cc (p.0, q.0), cc (p.1, q.1))
+  pub lines_number_one : One (lines-number.Post T L W D) (λ e. e.1.0.now)
+  lines_number_one u v a r₁ r₂ e₁ e₂ p q = (cc (p.0, q.0), cc (p.1.0, q.1.0))
 
-pub lines_value_one : One lines-value.Post (λ e. e.0.now)
-lines_value_one u v a r₁ r₂ e₁ e₂ p q = (cc (p.0, q.0), cc (p.1, q.1))
+  pub lines_value_one : One (lines-value.Post T L W D) (λ e. e.1.0.now)
+  lines_value_one u v a r₁ r₂ e₁ e₂ p q = (cc (p.0, q.0), cc (p.1.0, q.1.0))
 
-pub lines_numbers_one : One lines-numbers.Post (λ e. e.0.now)
-lines_numbers_one u v a r₁ r₂ e₁ e₂ p q = (cc (p.0, q.0), cc (p.1, q.1))
+  pub lines_numbers_one : One (lines-numbers.Post T L W D) (λ e. e.1.0.now)
+  lines_numbers_one u v a r₁ r₂ e₁ e₂ p q = (cc (p.0, q.0), cc (p.1.0, q.1.0))
 
-pub lines_values_one : One lines-values.Post (λ e. e.0.now)
-lines_values_one u v a r₁ r₂ e₁ e₂ p q = (cc (p.0, q.0), cc (p.1, q.1))
+  pub lines_values_one : One (lines-values.Post T L W D) (λ e. e.1.0.now)
+  lines_values_one u v a r₁ r₂ e₁ e₂ p q = (cc (p.0, q.0), cc (p.1.0, q.1.0))
 
-pub lines_refused_one : One lines-refused.Post (λ e. e.0.now)
-lines_refused_one u v a r₁ r₂ e₁ e₂ p q = (cc (p.0, q.0), cc (p.1, q.1))
+  pub lines_refused_one : One (lines-refused.Post T L W D) (λ e. e.1.0.now)
+  lines_refused_one u v a r₁ r₂ e₁ e₂ p q = (cc (p.0, q.0), cc (p.1.0, q.1.0))
 
-pub lines_torn_one : One lines-torn.Post (λ e. e.0.now)
-lines_torn_one u v a r₁ r₂ e₁ e₂ p q = (cc (p.0, q.0), cc (p.1, q.1))
+  pub lines_torn_one : One (lines-torn.Post T L W D) (λ e. e.1.0.now)
+  lines_torn_one u v a r₁ r₂ e₁ e₂ p q = (cc (p.0, q.0), cc (p.1.0, q.1.0))
 
-pub lines_unknown_one : One lines-unknown.Post (λ e. e.0.now)
-lines_unknown_one u v a r₁ r₂ e₁ e₂ p q = (cc (p.0, q.0), cc (p.1, q.1))
+  pub lines_unknown_one : One (lines-unknown.Post T L W D) (λ e. e.1.0.now)
+  lines_unknown_one u v a r₁ r₂ e₁ e₂ p q = (cc (p.0, q.0), cc (p.1.0, q.1.0))
 
-pub lines_refused_all_one : One lines-refused-all.Post (λ e. e.0.now)
-lines_refused_all_one u v a r₁ r₂ e₁ e₂ p q = (cc (p.0, q.0), cc (p.1, q.1))
+  pub lines_refused_all_one : One (lines-refused-all.Post T L W D) (λ e. e.1.0.now)
+  lines_refused_all_one u v a r₁ r₂ e₁ e₂ p q = (cc (p.0, q.0), cc (p.1.0, q.1.0))
 
-pub lines_done_one : One lines-done.Post (λ e. e.0.now)
-lines_done_one u v a r₁ r₂ e₁ e₂ p q = (cc (p.0, q.0), cc (p.1, q.1))
+  pub lines_done_one : One (lines-done.Post T L W D) (λ e. e.1.0.now)
+  lines_done_one u v a r₁ r₂ e₁ e₂ p q = (cc (p.0, q.0), cc (p.1.0, q.1.0))
 
-pub lines_verdict_one : One lines-verdict.Post (λ e. e.0.now)
-lines_verdict_one u v a r₁ r₂ e₁ e₂ p q = (cc (p.0, q.0), cc (p.1, q.1))
+  pub lines_verdict_one : One (lines-verdict.Post T L W D) (λ e. e.1.0.now)
+  lines_verdict_one u v a r₁ r₂ e₁ e₂ p q = (cc (p.0, q.0), cc (p.1.0, q.1.0))
 
-pub lines_counted_one : One lines-counted.Post (λ e. e.0.now)
-lines_counted_one u v a r₁ r₂ e₁ e₂ p q = (cc (p.0, q.0), cc (p.1, q.1))
+  pub lines_counted_one : One (lines-counted.Post T L W D) (λ e. e.1.0.now)
+  lines_counted_one u v a r₁ r₂ e₁ e₂ p q = (cc (p.0, q.0), cc (p.1.0, q.1.0))
 
-pub lines_planned_one : One lines-planned.Post (λ e. e.0.now)
-lines_planned_one u v a r₁ r₂ e₁ e₂ p q = (cc (p.0, q.0), cc (p.1, q.1))
+  pub lines_planned_one : One (lines-planned.Post T L W D) (λ e. e.1.0.now)
+  lines_planned_one u v a r₁ r₂ e₁ e₂ p q = (cc (p.0, q.0), cc (p.1.0, q.1.0))
 
-pub lines_handed_one : One lines-handed.Post (λ e. e.0.now)
-lines_handed_one u v a r₁ r₂ e₁ e₂ p q = (cc (p.0, q.0), cc (p.1, q.1))
+  pub lines_handed_one : One (lines-handed.Post T L W D) (λ e. e.1.0.now)
+  lines_handed_one u v a r₁ r₂ e₁ e₂ p q = (cc (p.0, q.0), cc (p.1.0, q.1.0))
 
-pub lines_arrived_one : One lines-arrived.Post (λ e. e.0.now)
-lines_arrived_one u v a r₁ r₂ e₁ e₂ p q = (cc (p.0, q.0), cc (p.1, q.1))
+  pub lines_arrived_one : One (lines-arrived.Post T L W D) (λ e. e.1.0.now)
+  lines_arrived_one u v a r₁ r₂ e₁ e₂ p q = (cc (p.0, q.0), cc (p.1.0, q.1.0))

@@ -61,8 +61,8 @@ call_open_state_one u v a r₁ r₂ e₁ e₂ p q = cc
 pub call_open_store_need_one : OneAnswer call-open-store-need.Post (λ r. r)
 call_open_store_need_one u v a r₁ r₂ e₁ e₂ p q = cc
 
-pub call_open_setup_one : One call-open-setup.Post (λ e. stored e.0.now e.1.0.now e.1.1.0.now)
-call_open_setup_one u v a r₁ r₂ e₁ e₂ p q = (cc (p.0, q.0), cc (p.0, q.0, p.1, q.1))
+pub call_open_setup_one : One call-open-setup.Post (λ e. bare e.0.now e.1.0.now)
+call_open_setup_one u v a r₁ r₂ e₁ e₂ p q = (cc (p.0, q.0), but_store a.1.1.0.now (cc (p.0, q.0, p.1, q.1)))
 
 -- ---- call_send
 

@@ -139,9 +139,9 @@ node_arrival_refused u a r e p w =
 -- ---- the calls on which those stand
 
 pub call_open_setup_refused : Spares call-open-setup.Post (IsRefused verdicts.Refused)
-    (λ e. stored e.0.now e.1.0.now e.1.1.0.now)
+    (λ e. bare e.0.now e.1.0.now)
 unfolding setup_after
-call_open_setup_refused u a r e p w = cc (p.1, w.1)
+call_open_setup_refused u a r e p w = but_store a.1.1.0.now (cc (p.1, w.1))
 
 pub call_open_open_refused : Spares call-open-open.Post (IsRefused verdicts.Refused)
     (λ e. bare e.0.now e.1.0.now)

@@ -1,6 +1,10 @@
 -- Traces: one outcome a function, refused calls spare all, and what a record's contract allows is the single call that
 -- crates/replayed speaks of; over the contracts' own text. Assumes nothing.
 use Prim.Native.Nat.{ℕ}
+use denote.RattleType.{RattleType}
+use denote.Param.Laws.{Laws}
+use mir.Syntax.{Dict}
+use Rattle.std.specs.declared.io.traits.Write as Write
 use mathlib.Core.Path.{◌≡◌, refl, sym, ap, subst, ◌∙◌}
 use mathlib.Core.Bool.{Bool, true, false}
 use mathlib.Core.List.{List}
@@ -75,16 +79,17 @@ pub trace_step_step_one : One trace-step-step.Post (λ e. whole e.0.now e.1.0.no
     e.1.1.1.0.now)
 trace_step_step_one u v a r₁ r₂ e₁ e₂ p q = (cc (p.0, q.0), cc (p.1, q.1))
 
-pub trace_lines_begun_one : One trace-lines-begun.Post (λ e. e.0.now)
-trace_lines_begun_one u v a r₁ r₂ e₁ e₂ p q = (cc (p.0, q.0), cc (p.1, q.1))
+module _ (T : RattleType) (L : Laws T) (W : Write.Ghosts T.Denot) (D : Dict) where
+  pub trace_lines_begun_one : One (trace-lines-begun.Post T L W D) (λ e. e.1.0.now)
+  trace_lines_begun_one u v a r₁ r₂ e₁ e₂ p q = (cc (p.0, q.0), cc (p.1.0, q.1.0))
 
-pub trace_lines_replay_one : One {M = List ℕ × Lent} trace-lines-replay.Post
-    (λ e. (
-      e.0.now,
-      whole e.1.1.1.0.now e.1.1.1.1.0.now e.1.1.1.1.1.0.now
-          e.1.1.1.1.1.1.0.now,
-    ))
-trace_lines_replay_one u v a r₁ r₂ e₁ e₂ p q = (cc (p.0, q.0), cc (p.1.0, q.1.0, p.1.1, q.1.1))
+  pub trace_lines_replay_one : One {M = List ℕ × Lent} (trace-lines-replay.Post T L W D)
+      (λ e. (
+        e.1.0.now,
+        whole e.1.1.1.1.0.now e.1.1.1.1.1.0.now e.1.1.1.1.1.1.0.now
+            e.1.1.1.1.1.1.1.0.now,
+      ))
+  trace_lines_replay_one u v a r₁ r₂ e₁ e₂ p q = (cc (p.0, q.0), cc (p.1.0, q.1.0, p.1.1.0, q.1.1.0))
 
 -- ---- a record's call that is refused alters nothing
 
@@ -166,8 +171,9 @@ step_makes u a r e p given l =
         subst (λ (y : Lent). SetUp (table_in f) (kept y)) (sym (p.1 ∙ ap (λ (j : ℕ). (step_of x f j).lent) z)) (step_sets_up x f given begins)
 
 -- a replay leaves what its records leave
-pub replay_leaves : Replays trace-lines-replay.Post
-    (λ a. whole a.1.1.1.0.now a.1.1.1.1.0.now a.1.1.1.1.1.0.now a.1.1.1.1.1.1.0.now)
-    (λ a. a.1.1.0.now)
+pub replay_leaves : (T : RattleType) (L : Laws T) (W : Write.Ghosts T.Denot) (D : Dict)
+    → Replays (trace-lines-replay.Post T L W D)
+    (λ a. whole a.1.1.1.1.0.now a.1.1.1.1.1.0.now a.1.1.1.1.1.1.0.now a.1.1.1.1.1.1.1.0.now)
+    (λ a. a.1.1.1.0.now)
 unfolding replay_lent
-replay_leaves u a r e p good = rw good at p.1.1
+replay_leaves T L W D u a r e p good = rw good at p.1.1.0

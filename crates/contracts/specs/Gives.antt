@@ -1,7 +1,7 @@
 -- From contract to call: an outcome that a call's contract allows is the call that the promise speaks of (`Did`), and
 -- through it the machine's. Cited by the laws of proofs/, for every call of a node. Assumes nothing.
 use Rattle.std.specs.Prelude.{ℕ, ◌<◌, ◌≡◌, ◌≢◌, true, List, [], length}
-use Rattle.std.specs.Borrow.{Bor}
+use Rattle.std.specs.Borrow.{MutBor}
 use Rattle.units.specs.declared.refusals.Verdict.{Verdict}
 use Rattle.units.specs.declared.refusals.Verdict.TheVariants.{Passed}
 use Rattle.memory.specs.Layout.{node_words, book_halves}
@@ -19,7 +19,7 @@ use Rattle.machine.specs.Calls.{Call, Answer, Bytes, Fed}
 use Rattle.promise.specs.Nodes.{Did}
 
 -- what a host keeps: node and book as they were lent, and its store
-abbrev pub memory : Bor (List ℕ) → Bor (List ℕ) → List ℕ → Memory
+abbrev pub memory : MutBor (List ℕ) → MutBor (List ℕ) → List ℕ → Memory
 memory node book store = record { node = node.now; book = book.now; store = store }
 
 -- an answer in the paper's numbers, of a call that writes neither block nor frame
