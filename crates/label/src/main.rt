@@ -1,76 +1,61 @@
 // Prints what the channel table on standard input says, or `refused 1`.
 // Proved: every read and every sum is safe. The table's rules and its reading are the crate `table`'s.
+#![tactic(auto)]
+
 ghost use Rattle.std.specs.Prelude.{◌≡◌, true, ◌≤◌};
 ghost use Rattle.table.specs.Rules.{good_table};
 
-use libc::{STDIN_FILENO, STDOUT_FILENO};
+use intake::read_full;
+use std::io;
 use table::{Entry, Kind};
 
-fn main() {
+fn main(rt: HostRuntime) -> io::Result<()> {
     // One byte more than the longest table: what fills it is too long for its count, and refused.
     let mut buffer = [0u8; 201];
-    let n = io::read_full(STDIN_FILENO, &mut buffer);
-    print_label(&buffer[..n]);
+    let n = read_full(&mut rt.reader(), &mut buffer)?;
+    print_label(&rt, &buffer[..n])
 }
 
-fn print_label(table: &[u8]) {
+fn print_label(rt: &impl Print, table: &[u8]) -> io::Result<()> {
     if table::is_good(table) {
-        print_head(table);
-        print_entries(table);
+        print_head(rt, table)?;
+        print_entries(rt, table)
     } else {
-        print_text(b"refused 1\n");
+        println!(rt; "refused 1")
     }
 }
 
-fn print_head(table: &[u8]) {
-    print_text(b"n=");
-    print_number(table::count(table) as u64);
-    print_text(b" own=");
-    print_number(table::own(table).0 as u64);
-    print_text(b" pid=");
-    print_number(table::protocol(table) as u64);
-    print_text(b"\n");
+fn print_head(rt: &impl Print, table: &[u8]) -> io::Result<()> {
+    let n = table::count(table);
+    let own = table::own(table).0;
+    let protocol = table::protocol(table);
+    println!(rt; "n={n} own={own} pid={protocol}")
 }
 
-fn print_entries(table: &[u8])
+fn print_entries(rt: &impl Print, table: &[u8]) -> io::Result<()>
     requires { good_table table.now ≡ true }
 {
-    let n = table::count(table) as usize;
-    let mut i = 0;
-    while i < n {
-        print_entry(i, table::entry_at(table, i));
-        i += 1;
+    for i in 0..table::count(table) as usize {
+        print_entry(rt, i, table::entry_at(table, i))?;
     }
+    Ok(())
 }
 
 // Index, kind, remote, channel, window in force, and what is left of the 256 numbers.
-fn print_entry(i: usize, e: Entry)
+fn print_entry(rt: &impl Print, i: usize, e: Entry) -> io::Result<()>
     requires { e.window ≤ 128 }
 {
-    let kind = e.kind;
-    print_number(i as u64);
-    print_kind(kind);
-    print_number(e.remote.0 as u64);
-    print_text(b" ");
-    print_number(e.channel.0 as u64);
-    print_text(b" ");
-    print_number(e.window as u64);
-    print_text(b" ");
-    print_number(256 - e.window as u64);
-    print_text(b"\n");
+    let kind = word(e.kind);
+    let remote = e.remote.0;
+    let channel = e.channel.0;
+    let window = e.window;
+    let left = 256 - window;
+    println!(rt; "{i} {kind} {remote} {channel} {window} {left}")
 }
 
-fn print_kind(kind: Kind) {
+fn word(kind: Kind) -> &'static str {
     match kind {
-        Kind::Sends => print_text(b" tx "),
-        Kind::Receives => print_text(b" rx "),
+        Kind::Sends => "tx",
+        Kind::Receives => "rx",
     }
-}
-
-fn print_number(n: u64) {
-    io::print_decimal(STDOUT_FILENO, n);
-}
-
-fn print_text(text: &[u8]) {
-    io::write_all(STDOUT_FILENO, text);
 }
