@@ -1,17 +1,19 @@
 // Runs the table's rules: tables that keep them all, and tables that each break one.
 // A line each: what was altered in the paper's table, or what another table is; then `refused 1`, or `good` and the
 // store that it takes.
-use libc::STDOUT_FILENO;
+#![tactic(auto)]
+
+use std::io;
 use units::bytes::{put_all, put8, put16};
 
-fn main() {
-    heads();
-    lengths();
-    counts();
-    entries();
-    numbers();
-    pairs();
-    stores();
+fn main(rt: HostRuntime) -> io::Result<()> {
+    heads(&rt)?;
+    lengths(&rt)?;
+    counts(&rt)?;
+    entries(&rt)?;
+    numbers(&rt)?;
+    pairs(&rt)?;
+    stores(&rt)
 }
 
 // The head of a table with n entries.
@@ -41,155 +43,157 @@ fn paper() -> [u8; 32] {
     pair(&sender(7), &receiver(9))
 }
 
-fn heads() {
-    byte(3, 9); // offset
-    byte(2, 1);
-    byte(4, 31); // own address
-    byte(4, 32);
-    byte(4, 254);
-    byte(4, 255);
-    byte(5, 0); // protocol ID
-    byte(5, 255);
-    byte(6, 1); // zeros
-    byte(7, 1);
+fn heads(rt: &impl Print) -> io::Result<()> {
+    byte(rt, 3, 9)?; // offset
+    byte(rt, 2, 1)?;
+    byte(rt, 4, 31)?; // own address
+    byte(rt, 4, 32)?;
+    byte(rt, 4, 254)?;
+    byte(rt, 4, 255)?;
+    byte(rt, 5, 0)?; // protocol ID
+    byte(rt, 5, 255)?;
+    byte(rt, 6, 1)?; // zeros
+    byte(rt, 7, 1)
 }
 
-fn lengths() {
-    show(b"the paper's table", &paper());
-    show(b"no bytes", &[]);
+fn lengths(rt: &impl Print) -> io::Result<()> {
+    show(rt, "the paper's table", &paper())?;
+    show(rt, "no bytes", &[])?;
     let mut short = [0u8; 31];
     put_all(&mut short, 0, &paper());
-    show(b"one byte short", &short);
+    show(rt, "one byte short", &short)?;
     let mut long = [0u8; 33];
     put_all(&mut long, 0, &paper());
-    show(b"one byte over", &long);
-    byte(1, 1); // one entry over
-    byte(1, 3); // one entry short
+    show(rt, "one byte over", &long)?;
+    byte(rt, 1, 1)?; // one entry over
+    byte(rt, 1, 3) // one entry short
 }
 
-fn counts() {
-    show(b"no entries", &head(0));
+fn counts(rt: &impl Print) -> io::Result<()> {
+    show(rt, "no entries", &head(0))?;
     let mut none = head(0);
     put8(&mut none, 5, 0);
-    show(b"no entries, protocol ID 0", &none);
+    show(rt, "no entries, protocol ID 0", &none)?;
     let mut full = [0u8; 200];
     put_receivers(&mut full, 16);
-    show(b"16 entries", &full);
+    show(rt, "16 entries", &full)?;
     let mut over = [0u8; 212];
     put_receivers(&mut over, 17);
-    show(b"17 entries", &over);
+    show(rt, "17 entries", &over)
 }
 
-fn entries() {
-    byte(20, 2); // kind
-    byte(9, 31); // remote address
-    byte(9, 32);
-    byte(9, 254);
-    byte(9, 255);
-    byte(18, 1); // zeros
-    byte(19, 1);
-    byte(30, 1);
-    byte(31, 1);
-    byte(11, 0); // a sender's retries
-    byte(23, 1); // a receiver's retries
+fn entries(rt: &impl Print) -> io::Result<()> {
+    byte(rt, 20, 2)?; // kind
+    byte(rt, 9, 31)?; // remote address
+    byte(rt, 9, 32)?;
+    byte(rt, 9, 254)?;
+    byte(rt, 9, 255)?;
+    byte(rt, 18, 1)?; // zeros
+    byte(rt, 19, 1)?;
+    byte(rt, 30, 1)?;
+    byte(rt, 31, 1)?;
+    byte(rt, 11, 0)?; // a sender's retries
+    byte(rt, 23, 1) // a receiver's retries
 }
 
-fn numbers() {
-    number(16, 0); // a sender's timeout
-    number(16, 65535);
-    number(28, 1); // a receiver's timeout
-    number(28, 256);
-    number(24, 1); // window
-    number(24, 3);
-    number(24, 128);
-    number(24, 200);
-    number(24, 256);
-    number(26, 0); // largest payload
-    number(26, 1);
+fn numbers(rt: &impl Print) -> io::Result<()> {
+    number(rt, 16, 0)?; // a sender's timeout
+    number(rt, 16, 65535)?;
+    number(rt, 28, 1)?; // a receiver's timeout
+    number(rt, 28, 256)?;
+    number(rt, 24, 1)?; // window
+    number(rt, 24, 3)?;
+    number(rt, 24, 128)?;
+    number(rt, 24, 200)?;
+    number(rt, 24, 256)?;
+    number(rt, 26, 0)?; // largest payload
+    number(rt, 26, 1)
 }
 
-fn pairs() {
-    byte(22, 7); // a sender and a receiver that agree
+fn pairs(rt: &impl Print) -> io::Result<()> {
+    byte(rt, 22, 7)?; // a sender and a receiver that agree
     show(
-        b"senders on channels 7 and 8",
+        rt,
+        "senders on channels 7 and 8",
         &pair(&sender(7), &sender(8)),
-    );
-    show(b"senders on channel 7", &pair(&sender(7), &sender(7)));
+    )?;
+    show(rt, "senders on channel 7", &pair(&sender(7), &sender(7)))?;
     show(
-        b"receivers on channels 9 and 8",
+        rt,
+        "receivers on channels 9 and 8",
         &pair(&receiver(9), &receiver(8)),
-    );
-    show(b"receivers on channel 9", &pair(&receiver(9), &receiver(9)));
+    )?;
+    show(
+        rt,
+        "receivers on channel 9",
+        &pair(&receiver(9), &receiver(9)),
+    )
 }
 
-fn stores() {
-    one(32768);
-    one(32769);
-    areas(16);
-    areas(17);
+fn stores(rt: &impl Print) -> io::Result<()> {
+    one(rt, 32768)?;
+    one(rt, 32769)?;
+    areas(rt, 16)?;
+    areas(rt, 17)
 }
 
 // The paper's table with one byte altered.
-fn byte(at: usize, b: u8) {
+fn byte(rt: &impl Print, at: usize, b: u8) -> io::Result<()> {
     let mut table = paper();
     put8(&mut table, at, b);
-    say(b"byte ", at as u64);
-    say(b" is ", b as u64);
-    show(b"", &table);
+    say(rt, "byte ", at as u64)?;
+    say(rt, " is ", b as u64)?;
+    show(rt, "", &table)
 }
 
 // The paper's table with a number of two bytes altered.
-fn number(at: usize, v: u16) {
+fn number(rt: &impl Print, at: usize, v: u16) -> io::Result<()> {
     let mut table = paper();
     put16(&mut table, at, v);
-    say(b"number ", at as u64);
-    say(b" is ", v as u64);
-    show(b"", &table);
+    say(rt, "number ", at as u64)?;
+    say(rt, " is ", v as u64)?;
+    show(rt, "", &table)
 }
 
 // A table of one receiver with window 1.
-fn one(largest: u16) {
+fn one(rt: &impl Print, largest: u16) -> io::Result<()> {
     let mut table = [0u8; 20];
     put_all(&mut table, 0, &head(1));
     put_all(&mut table, 8, &receiver(9));
     put16(&mut table, 12, 1);
     put16(&mut table, 14, largest);
-    say(b"one receiver, payloads of ", largest as u64);
-    show(b"", &table);
+    say(rt, "one receiver, payloads of ", largest as u64)?;
+    show(rt, "", &table)
 }
 
 // The paper's table with a sender's area of 32,640 bytes and a receiver's of 8 payloads.
-fn areas(largest: u16) {
+fn areas(rt: &impl Print, largest: u16) -> io::Result<()> {
     let mut table = paper();
     put16(&mut table, 14, 1920);
     put16(&mut table, 26, largest);
-    say(b"areas of 32640 and ", 8 * largest as u64);
-    show(b"", &table);
+    say(rt, "areas of 32640 and ", 8 * largest as u64)?;
+    show(rt, "", &table)
 }
 
 // A table of n receivers, each on its own channel, with window 1 and payloads of 64 bytes.
 fn put_receivers(table: &mut [u8], n: u8) {
     put_all(table, 0, &head(n));
-    let mut i: u8 = 0;
-    while i < n {
+    for i in 0..n {
         let at = 8 + 12 * i as usize;
         put_all(table, at, &receiver(i));
         put16(table, at + 4, 1);
-        i += 1;
     }
 }
 
-fn say(what: &[u8], n: u64) {
-    io::write_all(STDOUT_FILENO, what);
-    io::print_decimal(STDOUT_FILENO, n);
+fn say(rt: &impl Print, what: &str, n: u64) -> io::Result<()> {
+    print!(rt; "{what}{n}")
 }
 
-fn show(what: &[u8], table: &[u8]) {
-    io::write_all(STDOUT_FILENO, what);
+fn show(rt: &impl Print, what: &str, table: &[u8]) -> io::Result<()> {
     if table::is_good(table) {
-        say(b": good, ", table::store_need(table) as u64);
-        io::write_all(STDOUT_FILENO, b"\n");
+        let need = table::store_need(table);
+        println!(rt; "{what}: good, {need}")
     } else {
-        io::write_all(STDOUT_FILENO, b": refused 1\n");
+        println!(rt; "{what}: refused 1")
     }
 }
