@@ -2,8 +2,10 @@
 use crate::kinds;
 use end_points::answers::{Arrived, HandedOut, Was};
 use lines::answers::{counted, planned};
+use lines::sink::Sink;
 use lines::{number, text, value, values};
 use node::{Book, Node};
+use std::io::Write;
 use trace_step::Told;
 use units::bytes::part;
 
@@ -36,15 +38,23 @@ fn written(t: Told) -> usize {
 }
 
 // Counts: accepted and confirmed, which no trace records.
-fn counts_line(out: &mut [u8], at: usize, count: u64, node: &Node, index: u8) -> usize {
-    let mut next = number(out, at, count);
-    next = value(out, next, kinds::COUNTS as u64);
-    next = counted(out, next, node::counts(node, index as usize));
-    text(out, next, b"\n")
+fn counts_line<W: Write>(
+    to: &mut Sink<W>,
+    out: &mut [u8],
+    at: usize,
+    count: u64,
+    node: &Node,
+    index: u8,
+) -> usize {
+    let mut next = number(to, out, at, count);
+    next = value(to, out, next, kinds::COUNTS as u64);
+    next = counted(to, out, next, node::counts(node, index as usize));
+    text(to, out, next, b"\n")
 }
 
 // A plan: how many payloads were accepted, and what refused the next.
-fn plan_line(
+fn plan_line<W: Write>(
+    to: &mut Sink<W>,
     out: &mut [u8],
     at: usize,
     count: u64,
@@ -54,18 +64,20 @@ fn plan_line(
     index: u8,
     block: &[u8],
 ) -> usize {
-    let mut next = number(out, at, count);
-    next = value(out, next, kinds::PLAN as u64);
+    let mut next = number(to, out, at, count);
+    next = value(to, out, next, kinds::PLAN as u64);
     next = planned(
+        to,
         out,
         next,
         node::plan(node, book, store, index as usize, block),
     );
-    text(out, next, b"\n")
+    text(to, out, next, b"\n")
 }
 
 // A record's line.
-pub fn line(
+pub fn line<W: Write>(
+    to: &mut Sink<W>,
     out: &mut [u8],
     at: usize,
     count: u64,
@@ -78,13 +90,13 @@ pub fn line(
     buffer: &mut [u8],
 ) -> usize {
     if kind == kinds::COUNTS {
-        return counts_line(out, at, count, node, index);
+        return counts_line(to, out, at, count, node, index);
     }
     if kind == kinds::PLAN {
-        return plan_line(out, at, count, node, book, store, index, bytes);
+        return plan_line(to, out, at, count, node, book, store, index, bytes);
     }
     let t = trace_step::call(node, book, store, buffer, kind, index, bytes);
-    let mut next = trace_lines::begun(out, at, count, kind, t);
-    next = values(out, next, part(buffer, 0, written(t)));
-    text(out, next, b"\n")
+    let mut next = trace_lines::begun(to, out, at, count, kind, t);
+    next = values(to, out, next, part(buffer, 0, written(t)));
+    text(to, out, next, b"\n")
 }

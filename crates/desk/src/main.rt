@@ -5,14 +5,19 @@
 // the byte at fault. Store, block and frame buffer are always long enough.
 // The input is at most 65,536 bytes; a longer one gives only the line `too long`. A record that is cut short ends the
 // run with `torn N`, a whole one of another kind with `unknown N`.
-use lines::{text, torn, unknown};
+#![tactic(auto)]
 
 mod kinds; // kinds.rt: which kinds there are
 mod records; // records.rt: where the records lie
 mod answers; // answers.rt: what each call prints
 
+use intake::read_full;
+use lines::sink::Sink;
+use lines::{flush, text, torn, unknown};
 use node::{Book, Node};
 use records::{Found, record_at};
+use std::io;
+use std::io::Write;
 use trace::layout;
 use trace_step::{BUFFER, STORE};
 
@@ -23,7 +28,8 @@ const INPUT: usize = 65536;
 const TEXT: usize = 65536;
 
 // The lines of all records, or of those up to the first that is torn or unknown.
-fn run(
+fn run<W: Write>(
+    to: &mut Sink<W>,
     input: &[u8],
     out: &mut [u8],
     node: &mut Node,
@@ -37,11 +43,12 @@ fn run(
     while i < input.len() {
         count += 1;
         match record_at(input, i) {
-            Found::Torn => return torn(out, at, count),
-            Found::Unknown => return unknown(out, at, count),
+            Found::Torn => return torn(to, out, at, count),
+            Found::Unknown => return unknown(to, out, at, count),
             Found::Record(kind, index, end) => {
                 let start = i + layout::HEAD;
                 at = answers::line(
+                    to,
                     out,
                     at,
                     count,
@@ -60,20 +67,22 @@ fn run(
     at
 }
 
-fn main() {
+fn main(rt: HostRuntime) -> io::Result<()> {
     let mut input = [0u8; INPUT + 1];
     let mut out = [0u8; TEXT];
-    let n = io::read_full(libc::STDIN_FILENO, &mut input);
+    let mut to = Sink::new(io::writer(&rt));
+    let n = read_full(&mut rt.reader(), &mut input)?;
     if INPUT < n {
-        let at = text(&mut out, 0, b"too long\n");
-        lines::flush(&out, at);
-        return;
+        let at = text(&mut to, &mut out, 0, b"too long\n");
+        flush(&mut to, &out, at);
+        return to.finish();
     }
     let mut node = [0u64; memory::layout::NODE_WORDS];
     let mut book = [0u16; memory::layout::BOOK_HALVES];
     let mut store = [0u8; STORE];
     let mut buffer = [0u8; BUFFER];
     let at = run(
+        &mut to,
         &input[..n],
         &mut out,
         &mut node,
@@ -81,5 +90,6 @@ fn main() {
         &mut store,
         &mut buffer,
     );
-    lines::flush(&out, at);
+    flush(&mut to, &out, at);
+    to.finish()
 }

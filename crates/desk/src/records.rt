@@ -6,7 +6,7 @@ use crate::kinds;
 use trace::layout;
 
 // A record's kind, its index byte, and the end of its bytes, which begin right behind its head.
-#[derive(Drop)]
+#[derive(Clone, Copy)]
 pub enum Found {
     Record(u8, u8, usize),
     Torn,
