@@ -4,7 +4,13 @@
 // of a frame the length alone. A table that is refused ends the replay after its line. A file against the rules prints
 // `refused 21` alone.
 // Proved: all but reading and writing is the crate `trace_lines`'s, whose contract says what is printed.
+#![tactic(auto)]
+
+use intake::read_full;
+use lines::flush;
+use lines::sink::Sink;
 use memory::layout;
+use std::io;
 use trace_step::{BUFFER, STORE};
 
 // One byte more than the longest file is read, to see that a longer one is against the rules.
@@ -13,15 +19,17 @@ const INPUT: usize = trace::layout::FILE + 1;
 // How much text is put together before it is written out.
 const TEXT: usize = 65536;
 
-fn main() {
+fn main(rt: HostRuntime) -> io::Result<()> {
     let mut file = [0u8; INPUT];
     let mut text = [0u8; TEXT];
     let mut node = [0u64; layout::NODE_WORDS];
     let mut book = [0u16; layout::BOOK_HALVES];
     let mut store = [0u8; STORE];
     let mut buffer = [0u8; BUFFER];
-    let n = io::read_full(libc::STDIN_FILENO, &mut file);
+    let mut to = Sink::new(io::writer(&rt));
+    let n = read_full(&mut rt.reader(), &mut file)?;
     let at = trace_lines::replay(
+        &mut to,
         &mut text,
         0,
         &file[..n],
@@ -30,5 +38,6 @@ fn main() {
         &mut store,
         &mut buffer,
     );
-    lines::flush(&text, at);
+    flush(&mut to, &text, at);
+    to.finish()
 }
