@@ -4,7 +4,9 @@ use crate::{kinds, records};
 use frame::reading::{payload, read};
 use frame::writing::write;
 use frame::{Fields, Header, Read, Written, type_number};
+use lines::sink::Sink;
 use lines::{numbers, refused, value, values};
+use std::io::Write;
 use units::bytes::byte_at;
 use units::{Address, Channel, Seq, refusals};
 
@@ -12,7 +14,7 @@ use units::{Address, Channel, Seq, refusals};
 const FILLER: u8 = 165;
 
 // A frame that the reader takes: 0, its fields, its payload.
-fn taken(out: &mut [u8], at: usize, h: Header, frame: &[u8]) -> usize {
+fn taken<W: Write>(to: &mut Sink<W>, out: &mut [u8], at: usize, h: Header, frame: &[u8]) -> usize {
     let kind = h.kind;
     let fields = [
         0,
@@ -24,24 +26,22 @@ fn taken(out: &mut [u8], at: usize, h: Header, frame: &[u8]) -> usize {
         h.seq.0 as u64,
         h.length as u64,
     ];
-    let next = numbers(out, at, &fields);
-    values(out, next, payload(frame))
+    let next = numbers(to, out, at, &fields);
+    values(to, out, next, payload(frame))
 }
 
 // Kind 1: the reader.
-fn reading(out: &mut [u8], at: usize, bytes: &[u8]) -> usize {
+fn reading<W: Write>(to: &mut Sink<W>, out: &mut [u8], at: usize, bytes: &[u8]) -> usize {
     match read(bytes) {
-        Read::Frame(h) => taken(out, at, h, bytes),
-        Read::Refused(why) => refused(out, at, why),
+        Read::Frame(h) => taken(to, out, at, h, bytes),
+        Read::Refused(why) => refused(to, out, at, why),
     }
 }
 
 // All of a slice set to the filler.
 fn fill(buffer: &mut [u8]) {
-    let mut i = 0;
-    while i < buffer.len() {
-        buffer[i] = FILLER;
-        i += 1;
+    for b in buffer.iter_mut() {
+        *b = FILLER;
     }
 }
 
@@ -67,44 +67,63 @@ fn fields_of(bytes: &[u8]) -> Fields {
 }
 
 // What the writer answers: 0 and the frame's length, or the refusal, which names no byte: there is no frame yet.
-fn written(out: &mut [u8], at: usize, answer: Written) -> usize {
+fn written<W: Write>(to: &mut Sink<W>, out: &mut [u8], at: usize, answer: Written) -> usize {
     match answer {
         Written::Length(n) => {
-            let next = value(out, at, 0);
-            value(out, next, n as u64)
+            let next = value(to, out, at, 0);
+            value(to, out, next, n as u64)
         }
-        Written::Refused(why) => value(out, at, refusals::number(why) as u64),
+        Written::Refused(why) => value(to, out, at, refusals::number(why) as u64),
     }
 }
 
 // The writer's answer with a buffer, and the buffer afterwards.
-fn writing_into(out: &mut [u8], at: usize, bytes: &[u8], buffer: &mut [u8]) -> usize {
+fn writing_into<W: Write>(
+    to: &mut Sink<W>,
+    out: &mut [u8],
+    at: usize,
+    bytes: &[u8],
+    buffer: &mut [u8],
+) -> usize {
     fill(buffer);
     let answer = write(buffer, fields_of(bytes), rest(bytes, records::PAYLOAD));
-    let next = written(out, at, answer);
-    values(out, next, buffer)
+    let next = written(to, out, at, answer);
+    values(to, out, next, buffer)
 }
 
 // Kind 2: the writer, with as much of the buffer as the record asks for.
-fn writing(out: &mut [u8], at: usize, bytes: &[u8], buffer: &mut [u8]) -> usize {
+fn writing<W: Write>(
+    to: &mut Sink<W>,
+    out: &mut [u8],
+    at: usize,
+    bytes: &[u8],
+    buffer: &mut [u8],
+) -> usize {
     let asked = get32(bytes, records::ROOM);
     if asked < buffer.len() {
-        return writing_into(out, at, bytes, &mut buffer[0..asked]);
+        return writing_into(to, out, at, bytes, &mut buffer[0..asked]);
     }
-    writing_into(out, at, bytes, buffer)
+    writing_into(to, out, at, bytes, buffer)
 }
 
 // Kind 3: the check byte.
-fn checking(out: &mut [u8], at: usize, bytes: &[u8]) -> usize {
-    let next = value(out, at, 0);
-    value(out, next, check8::check(bytes) as u64)
+fn checking<W: Write>(to: &mut Sink<W>, out: &mut [u8], at: usize, bytes: &[u8]) -> usize {
+    let next = value(to, out, at, 0);
+    value(to, out, next, check8::check(bytes) as u64)
 }
 
 // The record's line from the refusal on.
-pub fn answer(out: &mut [u8], at: usize, kind: u8, bytes: &[u8], buffer: &mut [u8]) -> usize {
+pub fn answer<W: Write>(
+    to: &mut Sink<W>,
+    out: &mut [u8],
+    at: usize,
+    kind: u8,
+    bytes: &[u8],
+    buffer: &mut [u8],
+) -> usize {
     match kind {
-        kinds::READ => reading(out, at, bytes),
-        kinds::WRITE => writing(out, at, bytes, buffer),
-        _ => checking(out, at, bytes),
+        kinds::READ => reading(to, out, at, bytes),
+        kinds::WRITE => writing(to, out, at, bytes, buffer),
+        _ => checking(to, out, at, bytes),
     }
 }

@@ -6,13 +6,18 @@
 // printed as it stands afterwards.
 // The input is at most 262,144 bytes; a longer one gives only the line `too long`. A record that is cut short, or too
 // short for its fields, ends the run with `torn N`, a whole one of another kind with `unknown N`.
-use lines::{number, text, torn, unknown, value};
+#![tactic(auto)]
 
 mod kinds; // kinds.rt: the kinds' numbers
 mod records; // records.rt: where the records lie
 mod answers; // answers.rt: what each kind prints
 
+use intake::read_full;
+use lines::sink::Sink;
+use lines::{flush, number, text, torn, unknown, value};
 use records::{Found, record_at};
+use std::io;
+use std::io::Write;
 
 // The most bytes of input. One more is read, to see that it is longer.
 const INPUT: usize = 262144;
@@ -24,25 +29,33 @@ const TEXT: usize = 65536;
 const BUFFER: usize = 70000;
 
 // A record's line.
-fn line(out: &mut [u8], at: usize, count: u64, kind: u8, bytes: &[u8], buffer: &mut [u8]) -> usize {
-    let mut next = number(out, at, count);
-    next = value(out, next, kind as u64);
-    next = answers::answer(out, next, kind, bytes, buffer);
-    text(out, next, b"\n")
+fn line<W: Write>(
+    to: &mut Sink<W>,
+    out: &mut [u8],
+    at: usize,
+    count: u64,
+    kind: u8,
+    bytes: &[u8],
+    buffer: &mut [u8],
+) -> usize {
+    let mut next = number(to, out, at, count);
+    next = value(to, out, next, kind as u64);
+    next = answers::answer(to, out, next, kind, bytes, buffer);
+    text(to, out, next, b"\n")
 }
 
 // The lines of all records, or of those up to the first that is torn or unknown.
-fn run(input: &[u8], out: &mut [u8], buffer: &mut [u8]) -> usize {
+fn run<W: Write>(to: &mut Sink<W>, input: &[u8], out: &mut [u8], buffer: &mut [u8]) -> usize {
     let mut at = 0;
     let mut i = 0;
     let mut count: u64 = 0;
     while i < input.len() {
         count += 1;
         match record_at(input, i) {
-            Found::Torn => return torn(out, at, count),
-            Found::Unknown => return unknown(out, at, count),
+            Found::Torn => return torn(to, out, at, count),
+            Found::Unknown => return unknown(to, out, at, count),
             Found::Record(kind, start, end) => {
-                at = line(out, at, count, kind, &input[start..end], buffer);
+                at = line(to, out, at, count, kind, &input[start..end], buffer);
                 i = end;
             }
         }
@@ -50,16 +63,17 @@ fn run(input: &[u8], out: &mut [u8], buffer: &mut [u8]) -> usize {
     at
 }
 
-fn main() {
+fn main(rt: HostRuntime) -> io::Result<()> {
     let mut input = [0u8; INPUT + 1];
     let mut out = [0u8; TEXT];
     let mut buffer = [0u8; BUFFER];
-    let n = io::read_full(libc::STDIN_FILENO, &mut input);
-    if INPUT < n {
-        let at = text(&mut out, 0, b"too long\n");
-        lines::flush(&out, at);
-        return;
-    }
-    let at = run(&input[..n], &mut out, &mut buffer);
-    lines::flush(&out, at);
+    let mut to = Sink::new(io::writer(&rt));
+    let n = read_full(&mut rt.reader(), &mut input)?;
+    let at = if INPUT < n {
+        text(&mut to, &mut out, 0, b"too long\n")
+    } else {
+        run(&mut to, &input[..n], &mut out, &mut buffer)
+    };
+    flush(&mut to, &out, at);
+    to.finish()
 }

@@ -14,7 +14,7 @@ pub const ROOM: usize = 7;
 pub const PAYLOAD: usize = 11;
 
 // A record's kind, which is a listed one, and its bytes from start to before end.
-#[derive(Drop)]
+#[derive(Clone, Copy)]
 pub enum Found {
     Record(u8, usize, usize),
     Torn,
