@@ -1,13 +1,16 @@
 #!/usr/bin/python3
 """No line is longer than 120 characters: in src/ and specs/ of every crate, and in all Python, C and shell, scripts
-without an ending in their names among them. Names each that is, as file:line."""
+without an ending in their names among them. Names each that is, as file:line. But for an attribute that says what the
+prover's tactic may use: the layout, which rt ci holds a crate to, has it in one line, however long."""
 import glob
 import os
+import re
 import sys
 
 MOST = 120
 CRATES = ("crates/*/src/**/*.rt", "crates/*/specs/**/*.antt")
 ENDINGS = (".py", ".sh", ".c", ".h")
+TACTIC = re.compile(r" *#\[tactic\([\w:, ()]*\)\]$")
 LEFT_OUT = {".git", "crates", "target"}
 
 
@@ -30,9 +33,9 @@ def files():
 def too_long(path):
     """The numbers of the lines, with how long they are."""
     with open(path, encoding="utf-8") as file:
-        for number, line in enumerate(file, 1):
-            if len(line.rstrip("\n")) > MOST:
-                yield number, len(line.rstrip("\n"))
+        for number, line in enumerate((line.rstrip("\n") for line in file), 1):
+            if len(line) > MOST and not (path.endswith(".rt") and TACTIC.match(line)):
+                yield number, len(line)
 
 
 def main():

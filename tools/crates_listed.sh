@@ -4,6 +4,6 @@ cd "$(dirname "$0")/.." || exit 2
 status=0
 for d in crates/*/; do
 	name=$(basename "$d")
-	grep -qE "^$name *:" crates.txt || { echo "crates/$name is not listed in crates.txt"; status=1; }
+	grep -qE "^$name( +staticlib)? *:" crates.txt || { echo "crates/$name is not listed in crates.txt"; status=1; }
 done
 exit $status

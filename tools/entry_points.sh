@@ -3,12 +3,12 @@
 # function of the crate's root or of a `pub mod` has a `requires`. Inner layers may (docs/CONTRACTS.md, "Exceptions").
 cd "$(dirname "$0")/.." || exit 2
 status=0
-for crate in node firmware frame check8 window lent_window table units lines trace trace_step trace_lines; do
+for crate in node firmware firmware_c frame check8 window lent_window table units lines trace trace_step trace_lines; do
 	src=crates/$crate/src
 	mapfile -t files < <(echo "$src/lib.rt"; sed -nE "s|^pub mod (\\w+);.*|$src/\\1.rt|p" "$src/lib.rt")
 	# a function's head runs from its `pub` line to the line that opens its body
 	awk -v crate="$crate" '
-		/^ *pub (extern "C" )?fn / { head = 1; name = $0 }
+		/^ *pub (const |unsafe |extern "C" )*fn / { head = 1; name = $0 }
 		head && /^ *requires / { print crate ": " name; bad = 1 }
 		/^ *\{$/ || /\{$/ { head = 0 }
 		END { exit bad }' "${files[@]}" || status=1

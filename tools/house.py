@@ -1,9 +1,9 @@
 #!/usr/bin/env python3
 """Draws docs/house.svg, the crates in their bands, from crates.txt.
 
-A band begins at a line `# ---- name: text`; a crate's line `name: others` has its one comment line right above it. The
-base is drawn at the bottom. A box names what the crate stands on directly: of the crates that its line names, those
-that no other of them stands on.
+A band begins at a line `# ---- name: text`; a crate's line `name: others`, or `name staticlib: others`, has its one
+comment line right above it. The base is drawn at the bottom. A box names what the crate stands on directly: of the
+crates that its line names, those that no other of them stands on.
 
     tools/house.py            checks that the committed picture is the one that it would draw
     tools/house.py --write    draws it
@@ -52,7 +52,7 @@ def bands() -> list[Band]:
             comment = line.removeprefix("# ")
         elif ":" in line:
             name, _, others = line.partition(":")
-            found[-1].crates.append(Crate(name, comment, others.split()))
+            found[-1].crates.append(Crate(name.removesuffix(" staticlib"), comment, others.split()))
             comment = ""
     return found
 
@@ -113,7 +113,7 @@ def picture() -> str:
   <rect width="{wide}" height="{high}" fill="#ffffff"/>
   <text x="{MARGIN}" y="34" font-size="20" font-weight="bold">The house, in bands</text>
   <text x="{MARGIN}" y="58" class="of">A crate stands on crates below it, or in its own row to the left of it. \
-"on" names those on which it stands directly; io and libc are the kit's.</text>
+"on" names those on which it stands directly; itoa is the kit's.</text>
 '''
     return head + "\n".join(out) + "\n</svg>\n"
 

@@ -457,7 +457,7 @@ CALLS = {
     model.URGENT_CALL: lambda v: "urges %d %s" % (v.index, argument(v.data)),
     model.PLAN_CALL: lambda v: "plans %d %s" % (v.index, argument(v.data)),
     model.ARRIVAL_CALL: lambda v: "arrives (lent %d) %s" % (lent(v), argument(v.data)),
-    model.HAND_OUT_CALL: lambda v: "hands-out (lent %d)" % lent(v),
+    model.HAND_OUT_CALL: lambda v: "hands_out (lent %d)" % lent(v),
     model.REPORT_CALL: lambda v: "reports",
     model.TICK_CALL: lambda v: "ticks",
 }
@@ -501,25 +501,25 @@ TEXT = """\
 -- tools/machine_vectors.py, where each step of the trace is explained; tests/machine_vectors holds it to that.
 -- Assumes nothing.
 use Prim.Native.Nat.{ℕ}
-use mathlib.Core.Path.{_≡_, refl}
-use mathlib.Core.List.{List, [], _∷_, _++_}
-use lib.ListN.{getD, take, replicate}
+use mathlib.Core.Path.{◌≡◌, refl}
+use mathlib.Core.List.{List, [], ◌∷◌, ◌++◌}
+use lib.ListN.{get_or, take, replicate}
 use lib.Dec.{leb}
-use Rattle·units.specs.Bytes.{get16Of, get32Of, be32}
-use Rattle·units.specs.Refusals.{pick}
-use Rattle·units.specs.Sizes.{defaultSize}
-use Rattle·check8.specs.Polynomial.{timesX, timesXs, stepByte, checkFrom}
-use Rattle·table.specs.Layout.{entryOf, entryFrom}
-use Rattle·table.specs.Areas as areas
-use Rattle·frame.specs.Layout.{payloadOf, headBytes, bodyBytes, frameBytes}
-use Rattle·frame.specs.Reading.{soundOf, headerOf}
-use Rattle·arrive_lookup.specs.Fitting.{fits}
-use Rattle·blocks.specs.Blocks.{offsets, joinedUp, blockOf}
-use Rattle·blocks.specs.Reading.{payloadIn, payloadsIn, readBlock, neverFall, isBlock, isPlan}
-use Rattle·machine·specs.specs.Calls.{Call, opens, closes, counts, sends, urges, plans, arrives, hands-out, reports}
-use Rattle·machine·specs.specs.Calls.{ticks, Answer}
-use Rattle·machine·specs.specs.Machine as machine
-use Rattle·machine·specs.specs.Machine.{Machine, begun, step}
+use Rattle.units.specs.Bytes.{get16_of, get32_of, be32}
+use Rattle.units.specs.Refusals.{pick}
+use Rattle.units.specs.Sizes.{default_size}
+use Rattle.check8.specs.Polynomial.{times_x, times_xs, step_byte, check_from}
+use Rattle.table.specs.Layout.{entry_of, entry_from}
+use Rattle.table.specs.Areas as areas
+use Rattle.frame.specs.Layout.{payload_of, head_bytes, body_bytes, frame_bytes}
+use Rattle.frame.specs.Reading.{sound_of, header_of}
+use Rattle.arrive_lookup.specs.Fitting.{fits}
+use Rattle.blocks.specs.Blocks.{offsets, joined_up, block_of}
+use Rattle.blocks.specs.Reading.{payload_in, payloads_in, read_block, never_fall, is_block, is_plan}
+use Rattle.machine.specs.Calls.{Call, opens, closes, counts, sends, urges, plans, arrives, hands_out, reports}
+use Rattle.machine.specs.Calls.{ticks, Answer}
+use Rattle.machine.specs.Machine as machine
+use Rattle.machine.specs.Machine.{Machine, begun, step}
 
 -- ---- the table, and as much store as it asks for
 
@@ -548,51 +548,52 @@ vectors =
 -- ---- the desk's line on a call, from what the machine answers
 
 -- the length of the block that an arrival wrote: of Data and Urgent, which are 4 and 5, the number after the index
-abbrev blockLength : List ℕ → ℕ
-blockLength numbers = pick (leb 4 (getD numbers 1 0)) (getD numbers 3 0) 0
+abbrev block_length : List ℕ → ℕ
+block_length numbers = pick (leb 4 (get_or numbers 1 0)) (get_or numbers 3 0) 0
 
 -- the length of the frame that went out
-abbrev frameLength : List ℕ → ℕ
-frameLength numbers = getD numbers 1 0
+abbrev frame_length : List ℕ → ℕ
+frame_length numbers = get_or numbers 1 0
 
-abbrev lineOf : Call → Answer → List ℕ
-lineOf (opens i) a = a .numbers
-lineOf (closes i) a = a .numbers
-lineOf (counts i) a = a .numbers
-lineOf (sends i p) a = a .numbers
-lineOf (urges i p) a = a .numbers
-lineOf (plans i block) a = a .numbers
-lineOf (arrives block f) a = a .numbers ++ take (blockLength (a .numbers)) (a .out)
-lineOf (hands-out buffer) a = a .numbers ++ take (frameLength (a .numbers)) (a .out)
-lineOf reports a = a .numbers
-lineOf ticks a = 0 ∷ a .numbers
+abbrev line_of : Call → Answer → List ℕ
+line_of (opens i) a = a.numbers
+line_of (closes i) a = a.numbers
+line_of (counts i) a = a.numbers
+line_of (sends i p) a = a.numbers
+line_of (urges i p) a = a.numbers
+line_of (plans i block) a = a.numbers
+line_of (arrives block f) a = a.numbers ++ take (block_length a.numbers) a.out
+line_of (hands_out buffer) a = a.numbers ++ take (frame_length a.numbers) a.out
+line_of reports a = a.numbers
+line_of ticks a = 0 ∷ a.numbers
 
 -- call after call, from a machine on
 pub machines : Machine → List Vector → List (List ℕ)
 machines m [] = []
-machines m (v ∷ vs) = lineOf (v .0) (step m (v .0) .answer) ∷ machines (step m (v .0) .machine) vs
+machines m (v ∷ vs) = line_of v.0 (step m v.0).answer ∷ machines (step m v.0).machine vs
 
 pub peers : List Vector → List (List ℕ)
 peers [] = []
-peers (v ∷ vs) = v .1 ∷ peers vs
+peers (v ∷ vs) = v.1 ∷ peers vs
 
 -- ---- the claim
 
 -- what the machine computes with
 computes : Unit {0}
-unfolding get16Of get32Of be32 defaultSize timesX timesXs stepByte checkFrom entryOf entryFrom areas.areaOf
-    areas.placeOf areas.storeOf payloadOf headBytes bodyBytes frameBytes soundOf headerOf fits offsets joinedUp blockOf
-    payloadIn payloadsIn readBlock neverFall isBlock isPlan begun step machine.without machine.enabled machine.listed
-    machine.opening machine.closing machine.counting machine.sending machine.urgentSending machine.sendingAll
-    machine.planning machine.ackedRun machine.running machine.acking machine.heldCount machine.heldRun machine.receiving
-    machine.resetting machine.takenIn machine.placeOf machine.reading machine.arriving machine.frameOf machine.goingOut
-    machine.inOrder machine.handingOut machine.reported machine.reporting machine.tickedAll machine.anySpent
-    machine.againFrom machine.ticked machine.each machine.bitsFrom machine.ticking
+unfolding get16_of get32_of be32 default_size times_x times_xs step_byte check_from entry_of entry_from areas.area_of
+    areas.place_of areas.store_of payload_of head_bytes body_bytes frame_bytes sound_of header_of fits offsets joined_up
+    block_of payload_in payloads_in read_block never_fall is_block is_plan begun step machine.without machine.enabled
+    machine.listed machine.opening machine.closing machine.counting machine.sending machine.urgent_sending
+    machine.sending_all machine.planning machine.acked_run machine.running machine.acking machine.held_count
+    machine.held_run machine.receiving machine.resetting machine.taken_in machine.place_of machine.reading
+    machine.arriving machine.frame_of machine.going_out machine.in_order machine.handing_out machine.reported
+    machine.reporting machine.ticked_all machine.any_spent machine.again_from machine.ticked machine.each
+    machine.bits_from machine.ticking
 computes = tt
 
-pub vectors-agree : machines (begun table room) vectors ≡ peers vectors
+pub vectors_agree : machines (begun table room) vectors ≡ peers vectors
 unfolding computes table room vectors machines peers
-vectors-agree = refl
+vectors_agree = refl
 """
 
 

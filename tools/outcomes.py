@@ -2,13 +2,15 @@
 """Every exported function has its theorems over its contract's own text, and those that others call a line in
 docs/CONTRACTS.md.
 
-Goes through crates/*/src, programs left out, and looks in crates/contracts/proofs for `pub NAME-one`, where NAME is the
-crate and the function (`node-send`; a function for C by its own name): only one outcome is possible. The theorem has to
-be over the reading of the contract (`use Rattle·node.proofs.send.Reads as node-send`), and has to speak of everything
-that is lent to be altered: of each `&mut` parameter, by its place among the arguments. A function that is lent such
-memory and may refuse also needs `pub NAME-refused`: refused, all is as it was. What is lent as a struct has no such
-reading: there the contract has to be one record of specs/, which the theorem names. The exceptions stand below with
-their reasons, and in docs/CONTRACTS.md.
+Goes through crates/*/src, programs left out, and looks in crates/contracts/proofs for `pub NAME_one`, where NAME is the
+crate and the function (`node_send`; a function for C by its own name): only one outcome is possible. The theorem has to
+be over the reading of the contract (`use Rattle.node.proofs.send.Reads as NAME` in its file), and has to speak of
+everything that is lent to be altered: of each `&mut` parameter, by its place among the arguments. A function that is
+lent such memory and may refuse also needs `pub NAME_refused`: refused, all is as it was. What is lent as a struct has
+no such reading: there the contract has to be one record of specs/, which the theorem names. A symbol of the archive has
+no theorem of its own, since nothing can stand on an archive: it has to promise, word for word, what firmware's function
+of its name does, and to do nothing but call that. The exceptions stand below with their reasons, and in
+docs/CONTRACTS.md.
 """
 import pathlib
 import re
@@ -20,97 +22,177 @@ PROGRAMS = {"label", "table_rules", "desk", "replay", "frames"}
 PUBLIC = {"node", "firmware", "frame", "check8", "window", "lent_window", "table", "units", "lines", "trace",
           "trace_step", "trace_lines"}
 RECORDS = "lent_window"  # lent as a struct: crates/lent_window/specs/Lending.antt
-EXCEPT = {"lines-flush": "answers nothing and alters no lent memory"}
+ARCHIVE, BEHIND = "firmware_c", "firmware"  # the symbols, and the functions that they call
+EXCEPT = {
+    "lines_flush": "answers nothing and alters no lent memory",
+    "lines_new": "what a writer does with its bytes is the writer's to say",
+    "lines_put": "what a writer does with its bytes is the writer's to say",
+    "lines_finish": "what a writer does with its bytes is the writer's to say",
+    "intake_read_full": "how much a reader gives at a time is the reader's to say",
+}
+OUTSIDE = ": &mut Sink<"  # where text goes: a writer, and no lent memory
+WRITERS = "module _ (T : RattleType) (L : Laws T) (W : Write.Ghosts T.Denot) (D : Dict) where"  # every type of writer
 REFUSES = {"Verdict", "Planned", "Arrived", "HandedOut", "Written", "Told"}  # and for C a number
-NO_REFUSAL = {"shelugvar-tick"}
-FUNCTION = re.compile(r'^ *pub (?:extern "C" )?fn (\w+)(?:<[^>]*>)?\((.*?)\)(?: -> ([^\n{]+?))?\n(.*?)^ *\{\n',
-                      re.M | re.S)
+NO_REFUSAL = {"shelugvar_tick"}
+FUNCTION = re.compile(r'( *)pub (?:const |unsafe |extern "C" )*fn (\w+)(?:<[^>]*>)?\(')
 
 
 class Function(NamedTuple):
     name: str
-    altered: list[int]  # the places of its `&mut` parameters among the arguments
+    parameters: list[str]
     answer: str
-    by_record: bool  # lent a struct
-    head: str  # from its answer to its body: the contract
+    contract: str  # from its answer to its body
+    body: str
+
+    @property
+    def altered(self) -> list[int]:
+        """The places among the arguments of what is lent to be altered."""
+        return [place for place, text in enumerate(self.parameters)
+                if (": &mut " in text or text == "&mut self") and OUTSIDE not in text]
 
 
-def exported(crate: pathlib.Path) -> list[Function]:
-    """The functions that other crates can call."""
-    root = (crate / "src/lib.rt").read_text()
-    inside = set(re.findall(r"^pub use \w+::(\w+);", root, re.M))
+def function(name: str, head: str, body: str) -> Function:
+    """A function, by its head from its first parameter on."""
+    depth = end = 0
+    while depth >= 0:
+        depth += (head[end] == "(") - (head[end] == ")")
+        end += 1
+    parameters = re.split(r",(?![^(\[<]*[)\]>])", " ".join(head[:end - 1].split()))
+    answer = re.match(r" -> ([^\n]+?)(?: \{)?\n", head[end:])
+    contract = head[end:].split("\n", 1)[1]
+    return Function(name, [text.strip() for text in parameters if text.strip()], answer[1] if answer else "",
+                    contract, body)
+
+
+def functions(text: str) -> list[Function]:
+    """The `pub` functions of a file that is laid out."""
+    lines = text.splitlines(keepends=True)
     found = []
-    for path in sorted((crate / "src").glob("*.rt")):
-        public = path.stem == "lib" or re.search(rf"^pub mod {path.stem};", root, re.M)
-        for name, parameters, answer, head in FUNCTION.findall(path.read_text()):
-            if public or name in inside:
-                types = [parameter.strip() for parameter in parameters.split(",") if parameter.strip()]
-                altered = [place for place, text in enumerate(types) if ": &mut " in text]
-                by_record = crate.name == RECORDS and any(": &" in text for text in types)
-                found.append(Function(name, altered, answer, by_record, head))
+    for k, line in enumerate(lines):
+        if not (begun := FUNCTION.match(line)):
+            continue
+        inner = begun[1]
+        # the body opens in the head's last line, or alone in the line after its clauses
+        opens = k
+        while not re.match(rf"{inner}(?! ).*\{{\}}?$", lines[opens]):
+            opens += 1
+        ends = opens
+        while not re.match(rf"{inner}(?! ).*\}}$", lines[ends]):
+            ends += 1
+        found.append(function(begun[2], line[begun.end():] + "".join(lines[k + 1:opens + 1]),
+                              "".join(lines[opens + 1:ends])))
     return found
 
 
-def statement(proofs: str, name: str) -> str:
-    """What follows the theorem's name, up to its proof; empty where there is no such theorem."""
-    found = re.search(rf"^pub {name} :(.*?)^(?:unfolding |{name} )", proofs, re.M | re.S)
-    return found[1] if found else ""
+def exported(crate: pathlib.Path) -> list[tuple[str, Function]]:
+    """The functions that other crates can call, each with what its theorems are named by."""
+    root = (crate / "src/lib.rt").read_text()
+    uses = re.findall(r"^pub use (?:\w+::)+(?:(\w+)|\{([^}]*)\});", root, re.M)
+    inside = {name for one, several in uses for name in [one, *re.findall(r"\w+", several)]}
+    found = []
+    for path in sorted((crate / "src").glob("*.rt")):
+        public = path.stem == "lib" or re.search(rf"^pub mod {path.stem};", root, re.M)
+        for one in functions(path.read_text()):
+            if public or one.name in inside:
+                found.append((one.name if crate.name == BEHIND else f"{crate.name}_{one.name}", one))
+    return found
 
 
-def spoken_of(text: str, memory: str) -> set[int]:
-    """Which arguments at exit a statement projects: `e .1 .1 .0` is the third."""
-    return {steps.count(".1") for steps in re.findall(rf"\({memory}((?: \.1)*) \.0\)", text)}
+class Theorem(NamedTuple):
+    stated: str  # what follows its name, up to its proof
+    indent: str
+    before: str  # its file up to it
+    file: str
 
 
-def lacks(crate: str, function: Function, name: str, proofs: str) -> list[str]:
+def statements(proofs: list[str], name: str) -> list[Theorem]:
+    """Where a theorem of that name is stated."""
+    pattern = re.compile(rf"^((?:  )?)pub {name} :(.*?)^\1(?:unfolding |{name} )", re.M | re.S)
+    return [Theorem(found[2], found[1], text[:found.start()], text)
+            for text in proofs for found in pattern.finditer(text)]
+
+
+def spoken_of(text: str) -> set[int]:
+    """Which arguments at exit a statement projects: `e.1.1.0` is the third."""
+    return {steps.count(".1") for steps in re.findall(r"(?<![\w.])e((?:\.1)*)\.0\b", text)}
+
+
+def over_contract(crate: str, name: str, theorem: Theorem, kind: str) -> bool:
+    """Whether a theorem is of a kind and over the reading of the function's contract, which its file names. One that is
+    indented is over every type of writer, and assumes nothing else."""
+    post = r"([^\s.()]+)\.Post\b"
+    if theorem.indent:
+        opened = re.findall(r"^(?!--)\S.*", theorem.before, re.M)[-1:]
+        if opened != [WRITERS]:
+            return False
+        post = rf"\({post} T L W D\)"
+    found = re.match(rf"\s+{kind}(?: \{{[^}}]*\}})?\s+{post}", theorem.stated)
+    reading = rf"^use Rattle\.{crate}\.proofs\.(?:\w+\.)*{name}\.Reads as (\S+)$"
+    return bool(found) and found[1] in re.findall(reading, theorem.file, re.M)
+
+
+def lacks(crate: str, one: Function, name: str, proofs: list[str]) -> list[str]:
     """What is missing of a function's theorems."""
-    over = rf"^use Rattle·{crate}\.proofs\.(?:\w+\.)*{function.name}\.Reads as {name}$"
-    one, refused = statement(proofs, f"{name}-one"), statement(proofs, f"{name}-refused")
+    refuses = one.answer in REFUSES or crate == BEHIND and name not in NO_REFUSAL
+    wanted = [(f"{name}_one", r"One\w*")] + [(f"{name}_refused", "Spares")] * bool(one.altered and refuses)
     wrong = []
-    if not re.search(over, proofs, re.M) or not re.match(rf"\s+One\w*(?: \{{[^}}]*\}})?\s+{name}\.Post", one):
-        wrong.append(f"has no theorem {name}-one over its contract")
-    elif set(function.altered) - spoken_of(one, "e"):
-        wrong.append(f"{name}-one does not speak of all that it may alter")
-    refuses = function.answer in REFUSES or crate == "firmware" and name not in NO_REFUSAL
-    if function.altered and refuses:
-        if not re.match(rf"\s+Spares(?: \{{[^}}]*\}})?\s+{name}\.Post", refused):
-            wrong.append(f"has no theorem {name}-refused over its contract")
-        elif set(function.altered) - spoken_of(refused, "e"):
-            wrong.append(f"{name}-refused does not speak of all that it may alter")
+    for theorem, kind in wanted:
+        found = [it for it in statements(proofs, theorem) if over_contract(crate, one.name, it, kind)]
+        if len(found) != 1:
+            wrong.append(f"has no theorem {theorem} over its contract")
+        elif set(one.altered) - spoken_of(found[0].stated):
+            wrong.append(f"{theorem} does not speak of all that it may alter")
     return wrong
 
 
-def lacks_record(function: Function, name: str, proofs: str) -> list[str]:
+def lacks_record(one: Function, name: str, proofs: list[str]) -> list[str]:
     """The same of a function that is lent a struct: its contract is one record, over the struct before and after."""
-    contracts = re.findall(r"^ *ensures \{ λ \w+\. ⌜ (\w+) \(now \(w \.entry\)\)([^⌝]*)⌝ \}$", function.head, re.M)
-    if len(contracts) != 1 or function.head.count("ensures") != 1:
+    contracts = re.findall(r"^ *ensures \{ (\w+) w\.(?:now|old)([^{}\n]*) \}$", one.contract, re.M)
+    if len(contracts) != 1 or one.contract.count("ensures") != 1:
         return ["its contract is not one record over what it is lent"]
     record, rest = contracts[0]
-    if function.altered and "(now (w .exit))" not in rest:
+    if one.altered and not re.search(r"(?<![\w.])w\.new(?![\w.])", rest):
         return [f"{record} does not speak of what it may alter"]
-    return [] if f" {record} " in statement(proofs, f"{name}-one") else [f"has no theorem {name}-one over {record}"]
+    found = statements(proofs, f"{name}_one")
+    over = len(found) == 1 and not found[0].indent and f" {record} " in found[0].stated
+    return [] if over else [f"has no theorem {name}_one over {record}"]
+
+
+def lacks_symbol(one: Function, behind: dict[str, Function]) -> list[str]:
+    """What a symbol of the archive promises or does but to call the function of its name."""
+    other = behind.get(one.name)
+    if not other or one[1:4] != other[1:4]:
+        return [f"does not promise what the function of {BEHIND} does"]
+    given = ", ".join(text.split(":")[0] for text in one.parameters)
+    called = re.fullmatch(rf"\s*{BEHIND}::(?:\w+::)?{one.name}\((.*?),?\s*\)\s*", one.body, re.S)
+    return [] if called and " ".join(called[1].split()) == given else [f"does not call the function of {BEHIND}"]
 
 
 def main() -> int:
     """The verdict on all exported functions."""
     listed = (ROOT / "docs/CONTRACTS.md").read_text()
-    proofs = "\n".join(p.read_text() for p in sorted((ROOT / "crates/contracts/proofs").glob("*.antt")))
+    proofs = [p.read_text() for p in sorted((ROOT / "crates/contracts/proofs").glob("*.antt"))]
+    libraries = [crate for crate in sorted((ROOT / "crates").iterdir())
+                 if crate.name not in PROGRAMS and (crate / "src/lib.rt").is_file()]
+    found = {crate.name: exported(crate) for crate in libraries}
+    behind = {one.name: one for _, one in found[BEHIND]}
     count, missing = 0, []
-    for crate in sorted((ROOT / "crates").iterdir()):
-        if crate.name in PROGRAMS or not (crate / "src/lib.rt").is_file():
-            continue
-        for function in exported(crate):
-            plain = function.name if crate.name == "firmware" else f"{crate.name}_{function.name}"
-            name = plain.replace("_", "-")
-            short = function.name.removeprefix("shelugvar_")
+    for crate, its in found.items():
+        for name, one in its:
+            short = one.name.removeprefix("shelugvar_")
             wrong = []
-            if crate.name in PUBLIC and not re.search(rf"`(?:[\w:]*::)?(?:{function.name}|{short})`", listed):
+            if crate in PUBLIC and not re.search(rf"`(?:[\w:]*::)?(?:{one.name}|{short})`", listed):
                 wrong.append("has no line in docs/CONTRACTS.md")
             if name not in EXCEPT:
                 count += 1
-                wrong += (lacks_record(function, name, proofs) if function.by_record
-                          else lacks(crate.name, function, name, proofs))
-            missing += [f"crates/{crate.name}: {function.name}: {text}" for text in wrong]
+                by_record = crate == RECORDS and any(": &" in text for text in one.parameters)
+                wrong += (lacks_symbol(one, behind) if crate == ARCHIVE
+                          else lacks_record(one, name, proofs) if by_record else lacks(crate, one, name, proofs))
+            missing += [f"crates/{crate}: {one.name}: {text}" for text in wrong]
+    symbols = {one.name for _, one in found[ARCHIVE]}
+    missing += [f"crates/{ARCHIVE}: {name}: is no symbol" for name in sorted(behind.keys() - symbols)]
+    names = {name for its in found.values() for name, _ in its}
+    missing += [f"tools/outcomes.py: {name}: is excepted and no function" for name in sorted(EXCEPT.keys() - names)]
     print("\n".join(missing + [f"{count} functions"]))
     print(f"{0 if missing else 1} passed, {1 if missing else 0} failed")
     return 1 if missing else 0

@@ -5,7 +5,7 @@ A rule is a line `- **F3** One sentence. (01, The frame)` of docs/RULES.md. A ci
 line above a declaration, `-- .. [F3, R12]` in crates/*/specs/**/*.antt, `// .. [F3]` in crates/*/src/**/*.rt. What is
 cited is named by the declaration's first identifier. It is a theorem where proofs/ of the same crate has a declaration
 `pub proof : Statement` at the left margin whose type is that name, alone or with plain arguments (the last of which may
-be the name: `pub starred : Claim worked`); else it is a definition.
+be the name: `pub starred : Claim worked`), or that over every type of writer; else it is a definition.
 
 Fails, naming file and line or the rule, where a rule is cited nowhere in specs/, where a citation names no rule of the
 page or stands anywhere but above a declaration, where a number is given twice, and where the table at the end of
@@ -31,7 +31,10 @@ MODIFIER = re.compile(r"(?:pub(?:\(\w+\))?|abbrev|unfoldable|private|record|data
                       r'|unsafe|"C")\s+')
 IDENTIFIER = re.compile(r"[^\s:(){}<>=;,]+")
 NO_DECLARATION = ("use", "ghost", "mod", "module", "import")
-PROOF = re.compile(r"^pub \S+ :\s+(?:(?:\{[^}]*\} ?)+→ )?([^\s(){}→×]+)(?!\S)(?![^\n]*→)", re.MULTILINE)
+# over every type of writer, which assumes nothing
+WRITERS = r"\(T : RattleType\) \(L : Laws T\) \(W : Write\.Ghosts T\.Denot\) \(D : Dict\)"
+PROOF = re.compile(rf"^pub \S+ :\s+(?:(?:\{{[^}}]*\}} ?)+→ |{WRITERS}\s+→ )?"
+                   r"([^\s(){}→×]+)(?!\S)(?![^\n]*→)", re.MULTILINE)
 
 
 class Citation(NamedTuple):

@@ -28,16 +28,34 @@ else
 	x86_run=(qemu-x86_64 -L /usr/x86_64-linux-gnu)
 fi
 
-# The proved archive, as rt names it; users get it as libshelugvar.a.
-archive=target/staticlib/libfirmware.a
+# The proved archive: rt writes it into an out/ folder, which rt ci empties, so that what was built is kept apart.
+archive=target/libshelugvar.a
 
-# build_archive: proves and builds the archive, where it is not there or older than the crates. Passes on what rt says,
-# but for its lines of each function and library.
+# newer_than FILE: the first source of the crates that is newer than FILE, or a folder from which something went; none
+# where FILE is up to date. What rt makes, in out/ folders, is no source, and making it touches the crates' own folders.
+newer_than() {
+	find crates crates.txt -regex 'crates/[^/]*/out' -prune -o \
+		! -regex 'crates/[^/]*' -newer "$1" -print -quit
+}
+
+# without_proved: passes on what rt says as it comes, but for its lines of each function and library.
+without_proved() {
+	sed -u -E '/^(fn|struct|enum) .*: proved$/d
+		/^(logic|logic=proved|library|statements|crate|axioms|linked) /d
+		/^(only=0 proved=0$|so far: )/d'
+}
+
+# build_archive: proves and builds the archive, where it is not there or older than the crates.
 build_archive() {
-	[ ! -f "$archive" ] || [ -n "$(find crates crates.txt -newer "$archive" -print -quit)" ] || return 0
-	rt staticlib firmware 2>&1 |
-		sed -u -E '/^(fn|struct|enum) .*: proved$/d; /^(logic|logic=proved|library|axioms|linked) /d'
-	return "${PIPESTATUS[0]}"
+	local made=crates/firmware_c/out/libfirmware_c.a
+	[ ! -f "$archive" ] || [ -n "$(newer_than "$archive")" ] || return 0
+	mkdir -p target || return 1
+	# as old as the build's start in the end, so that what is edited meanwhile counts as newer
+	touch target/started
+	rm -f "$made"
+	(cd crates/firmware_c && rt lib </dev/null 2>&1) | without_proved
+	[ "${PIPESTATUS[0]}" = 0 ] || return 1
+	cp "$made" "$archive.new" && touch -r target/started "$archive.new" && mv "$archive.new" "$archive"
 }
 
 # check LABEL COMMAND..: a test, which passes where the command succeeds; where it does not, what it said is shown.
