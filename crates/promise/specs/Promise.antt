@@ -95,7 +95,7 @@ module _ (W : ℕ) (A : SSide) (B : RSide) where
         (did : A.Did s.sender c a)
         (heard : A.seen c ≡ s_hears x)
         -- the receiver handed it out, in answer to this run's frame number n
-        (Handed-out : Memᴰ (ack n x) s.hist.back)
+        (handed_out : Memᴰ (ack n x) s.hist.back)
         -- the sender's start is not past that number by more than 256 - W
         (not_late : NotLate W (s_first (A.state s.sender) (A.confirmed s.sender)) n)
         → Move s (s_then A B s a s.hist)
@@ -104,33 +104,33 @@ module _ (W : ℕ) (A : SSide) (B : RSide) where
         (did : B.Did s.receiver c b)
         (took : B.seen c ≡ r_resets)
         -- the sender handed it out in this run
-        (Handed-out : Memᴰ reset s.hist.sent)
+        (handed_out : Memᴰ reset s.hist.sent)
         -- no Data of this run has reached the receiver
-        (before-data : s.hist.data_in ≡ false)
+        (before_data : s.hist.data_in ≡ false)
         → Move s (r_then A B s b (r_note (new 0) false r_resets s.hist))
     -- Data reaches the receiver [P4, P6, P9]
     data_comes : (s : Sys A B) (c : B.Call) (b : B.Node) (n x : ℕ) (p : Pay) (given : List Pay)
         (did : B.Did s.receiver c b)
         (took : B.seen c ≡ r_takes x p given)
         -- the sender handed it out in this run, as its number n
-        (Handed-out : Memᴰ (data! n x p) s.hist.sent)
+        (handed_out : Memᴰ (data! n x p) s.hist.sent)
         -- the receiver's start is not past that number by more than 256 - W
         (not_late : NotLate W (1 + length s.hist.delivered) n)
         → Move s (r_then A B s b (r_note (new n) true (r_takes x p given) s.hist))
     -- any other frame, of an earlier run or of none, as long as this run's first Reset is not handed out [P4, P7]
     old_ack_comes : (s : Sys A B) (c : A.Call) (a : A.Node) (x : ℕ)
         (did : A.Did s.sender c a)
-        (heard : A.seen c ≡ s_hears x) (before-ours : s.hist.sent ≡ [])
+        (heard : A.seen c ≡ s_hears x) (before_ours : s.hist.sent ≡ [])
         → Move s (s_then A B s a s.hist)
     -- the same of a Reset [P4, P7]
     old_reset_comes : (s : Sys A B) (c : B.Call) (b : B.Node)
         (did : B.Did s.receiver c b)
-        (took : B.seen c ≡ r_resets) (before-ours : s.hist.sent ≡ [])
+        (took : B.seen c ≡ r_resets) (before_ours : s.hist.sent ≡ [])
         → Move s (r_then A B s b (r_note (old 0) s.hist.data_in r_resets s.hist))
     -- and of Data [P4, P7]
     old_data_comes : (s : Sys A B) (c : B.Call) (b : B.Node) (x : ℕ) (p : Pay) (given : List Pay)
         (did : B.Did s.receiver c b)
-        (took : B.seen c ≡ r_takes x p given) (before-ours : s.hist.sent ≡ [])
+        (took : B.seen c ≡ r_takes x p given) (before_ours : s.hist.sent ≡ [])
         → Move s (r_then A B s b (r_note (old x) s.hist.data_in (r_takes x p given) s.hist))
 
   pub data Moves : Sys A B → Sys A B → Type 0 where
