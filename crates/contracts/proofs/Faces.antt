@@ -7,84 +7,84 @@ use mir.Syntax.{Dict}
 use Rattle.std.specs.declared.io.traits.Write as Write
 use mathlib.Core.Path.{◌≡◌}
 use mathlib.Core.List.{List, []}
-use Rattle.firmware.proofs.shelugvar_frame_read.Reads as shelugvar-frame-read
-use Rattle.firmware.proofs.shelugvar_fault_byte.Reads as shelugvar-fault-byte
-use Rattle.firmware.proofs.shelugvar_frame_write.Reads as shelugvar-frame-write
-use Rattle.firmware.proofs.shelugvar_window_test.Reads as shelugvar-window-test
-use Rattle.firmware.proofs.nodes.shelugvar_setup.Reads as shelugvar-setup
-use Rattle.firmware.proofs.nodes.shelugvar_open.Reads as shelugvar-open
-use Rattle.firmware.proofs.nodes.shelugvar_close.Reads as shelugvar-close
-use Rattle.firmware.proofs.nodes.shelugvar_counts.Reads as shelugvar-counts
-use Rattle.firmware.proofs.nodes.shelugvar_send.Reads as shelugvar-send
-use Rattle.firmware.proofs.nodes.shelugvar_plan.Reads as shelugvar-plan
-use Rattle.firmware.proofs.nodes.shelugvar_urgent.Reads as shelugvar-urgent
-use Rattle.firmware.proofs.nodes.shelugvar_arrival.Reads as shelugvar-arrival
-use Rattle.firmware.proofs.nodes.shelugvar_hand_out.Reads as shelugvar-hand-out
-use Rattle.firmware.proofs.nodes.shelugvar_report.Reads as shelugvar-report
-use Rattle.firmware.proofs.nodes.shelugvar_tick.Reads as shelugvar-tick
-use Rattle.firmware.proofs.nodes.shelugvar_entry_state.Reads as shelugvar-entry-state
-use Rattle.firmware.proofs.nodes.shelugvar_store_need.Reads as shelugvar-store-need
-use Rattle.firmware.proofs.nodes.shelugvar_version.Reads as shelugvar-version
-use Rattle.lines.proofs.text.Reads as lines-text
-use Rattle.lines.proofs.number.Reads as lines-number
-use Rattle.lines.proofs.value.Reads as lines-value
-use Rattle.lines.proofs.numbers.Reads as lines-numbers
-use Rattle.lines.proofs.values.Reads as lines-values
-use Rattle.lines.proofs.refused.Reads as lines-refused
-use Rattle.lines.proofs.torn.Reads as lines-torn
-use Rattle.lines.proofs.unknown.Reads as lines-unknown
-use Rattle.lines.proofs.refused_all.Reads as lines-refused-all
-use Rattle.lines.proofs.answers.done.Reads as lines-done
-use Rattle.lines.proofs.answers.verdict.Reads as lines-verdict
-use Rattle.lines.proofs.answers.counted.Reads as lines-counted
-use Rattle.lines.proofs.answers.planned.Reads as lines-planned
-use Rattle.lines.proofs.answers.handed.Reads as lines-handed
-use Rattle.lines.proofs.answers.arrived.Reads as lines-arrived
+use Rattle.firmware.proofs.shelugvar_frame_read.Reads as shelugvar_frame_read
+use Rattle.firmware.proofs.shelugvar_fault_byte.Reads as shelugvar_fault_byte
+use Rattle.firmware.proofs.shelugvar_frame_write.Reads as shelugvar_frame_write
+use Rattle.firmware.proofs.shelugvar_window_test.Reads as shelugvar_window_test
+use Rattle.firmware.proofs.nodes.shelugvar_setup.Reads as shelugvar_setup
+use Rattle.firmware.proofs.nodes.shelugvar_open.Reads as shelugvar_open
+use Rattle.firmware.proofs.nodes.shelugvar_close.Reads as shelugvar_close
+use Rattle.firmware.proofs.nodes.shelugvar_counts.Reads as shelugvar_counts
+use Rattle.firmware.proofs.nodes.shelugvar_send.Reads as shelugvar_send
+use Rattle.firmware.proofs.nodes.shelugvar_plan.Reads as shelugvar_plan
+use Rattle.firmware.proofs.nodes.shelugvar_urgent.Reads as shelugvar_urgent
+use Rattle.firmware.proofs.nodes.shelugvar_arrival.Reads as shelugvar_arrival
+use Rattle.firmware.proofs.nodes.shelugvar_hand_out.Reads as shelugvar_hand_out
+use Rattle.firmware.proofs.nodes.shelugvar_report.Reads as shelugvar_report
+use Rattle.firmware.proofs.nodes.shelugvar_tick.Reads as shelugvar_tick
+use Rattle.firmware.proofs.nodes.shelugvar_entry_state.Reads as shelugvar_entry_state
+use Rattle.firmware.proofs.nodes.shelugvar_store_need.Reads as shelugvar_store_need
+use Rattle.firmware.proofs.nodes.shelugvar_version.Reads as shelugvar_version
+use Rattle.lines.proofs.text.Reads as lines_text
+use Rattle.lines.proofs.number.Reads as lines_number
+use Rattle.lines.proofs.value.Reads as lines_value
+use Rattle.lines.proofs.numbers.Reads as lines_numbers
+use Rattle.lines.proofs.values.Reads as lines_values
+use Rattle.lines.proofs.refused.Reads as lines_refused
+use Rattle.lines.proofs.torn.Reads as lines_torn
+use Rattle.lines.proofs.unknown.Reads as lines_unknown
+use Rattle.lines.proofs.refused_all.Reads as lines_refused_all
+use Rattle.lines.proofs.answers.done.Reads as lines_done
+use Rattle.lines.proofs.answers.verdict.Reads as lines_verdict
+use Rattle.lines.proofs.answers.counted.Reads as lines_counted
+use Rattle.lines.proofs.answers.planned.Reads as lines_planned
+use Rattle.lines.proofs.answers.handed.Reads as lines_handed
+use Rattle.lines.proofs.answers.arrived.Reads as lines_arrived
 use Rattle.end_points.specs.Lent.{Lent, bare, stored, whole}
 use Rattle.contracts.proofs.Stores.{but_store}
 use Rattle.contracts.specs.Outcome.{One, OneAnswer}
 
 -- ---- firmware
 
-pub shelugvar_frame_read_one : One shelugvar-frame-read.Post (λ e. e.1.0.now)
+pub shelugvar_frame_read_one : One shelugvar_frame_read.Post (λ e. e.1.0.now)
 shelugvar_frame_read_one u v a r₁ r₂ e₁ e₂ p q = (cc (p.0, q.0), cc (p.1, q.1))
 
-pub shelugvar_fault_byte_one : OneAnswer shelugvar-fault-byte.Post (λ r. r)
+pub shelugvar_fault_byte_one : OneAnswer shelugvar_fault_byte.Post (λ r. r)
 shelugvar_fault_byte_one u v a r₁ r₂ e₁ e₂ p q = cc
 
-pub shelugvar_frame_write_one : One shelugvar-frame-write.Post (λ e. e.0.now)
+pub shelugvar_frame_write_one : One shelugvar_frame_write.Post (λ e. e.0.now)
 shelugvar_frame_write_one u v a r₁ r₂ e₁ e₂ p q = (cc (p.0, q.0), cc (p.1, q.1))
 
-pub shelugvar_window_test_one : OneAnswer shelugvar-window-test.Post (λ r. r)
+pub shelugvar_window_test_one : OneAnswer shelugvar_window_test.Post (λ r. r)
 shelugvar_window_test_one u v a r₁ r₂ e₁ e₂ p q = cc
 
-pub shelugvar_setup_one : One shelugvar-setup.Post (λ e. bare e.0.now e.1.0.now)
+pub shelugvar_setup_one : One shelugvar_setup.Post (λ e. bare e.0.now e.1.0.now)
 shelugvar_setup_one u v a r₁ r₂ e₁ e₂ p q = (cc (p.0, q.0), but_store a.1.1.0.now (cc (p.1, q.1)))
 
-pub shelugvar_open_one : One shelugvar-open.Post (λ e. bare e.0.now e.1.0.now)
+pub shelugvar_open_one : One shelugvar_open.Post (λ e. bare e.0.now e.1.0.now)
 shelugvar_open_one u v a r₁ r₂ e₁ e₂ p q = (cc (p.0, q.0), cc (p.1, q.1))
 
-pub shelugvar_close_one : One shelugvar-close.Post (λ e. bare e.0.now e.1.0.now)
+pub shelugvar_close_one : One shelugvar_close.Post (λ e. bare e.0.now e.1.0.now)
 shelugvar_close_one u v a r₁ r₂ e₁ e₂ p q = (cc (p.0, q.0), cc (p.1, q.1))
 
-pub shelugvar_counts_one : One shelugvar-counts.Post (λ e. e.1.1.0.now)
+pub shelugvar_counts_one : One shelugvar_counts.Post (λ e. e.1.1.0.now)
 shelugvar_counts_one u v a r₁ r₂ e₁ e₂ p q = (cc (p.0, q.0), cc (p.1, q.1))
 
-pub shelugvar_send_one : One shelugvar-send.Post (λ e. stored e.0.now e.1.0.now e.1.1.0.now)
+pub shelugvar_send_one : One shelugvar_send.Post (λ e. stored e.0.now e.1.0.now e.1.1.0.now)
 shelugvar_send_one u v a r₁ r₂ e₁ e₂ p q = (cc (p.0, q.0), cc (p.1, q.1))
 
-pub shelugvar_plan_one : One {M = Lent × List ℕ} shelugvar-plan.Post
+pub shelugvar_plan_one : One {M = Lent × List ℕ} shelugvar_plan.Post
     (λ e. (stored e.0.now e.1.0.now e.1.1.0.now, e.1.1.1.1.1.0.now))
 shelugvar_plan_one u v a r₁ r₂ e₁ e₂ p q = (cc (p.0, q.0), cc (p.1.0, q.1.0, p.1.1, q.1.1))
 
-pub shelugvar_urgent_one : One shelugvar-urgent.Post (λ e. stored e.0.now e.1.0.now e.1.1.0.now)
+pub shelugvar_urgent_one : One shelugvar_urgent.Post (λ e. stored e.0.now e.1.0.now e.1.1.0.now)
 shelugvar_urgent_one u v a r₁ r₂ e₁ e₂ p q = (cc (p.0, q.0), cc (p.1, q.1))
 
-pub shelugvar_arrival_one : One {M = Lent × List ℕ} shelugvar-arrival.Post
+pub shelugvar_arrival_one : One {M = Lent × List ℕ} shelugvar_arrival.Post
     (λ e. (whole e.0.now e.1.0.now e.1.1.0.now e.1.1.1.0.now, e.1.1.1.1.1.0.now))
 shelugvar_arrival_one u v a r₁ r₂ e₁ e₂ p q = (cc (p.0, q.0), cc (p.1.0, q.1.0, p.1.1, q.1.1))
 
-pub shelugvar_hand_out_one : One {M = Lent × ℕ} shelugvar-hand-out.Post
+pub shelugvar_hand_out_one : One {M = Lent × ℕ} shelugvar_hand_out.Post
     (λ e. (whole e.0.now e.1.0.now [] e.1.1.1.0.now, e.1.1.1.1.0.now))
 shelugvar_hand_out_one u v a r₁ r₂ e₁ e₂ p q =
     let l : whole e₁.0.now e₁.1.0.now [] e₁.1.1.1.0.now
@@ -92,65 +92,65 @@ shelugvar_hand_out_one u v a r₁ r₂ e₁ e₂ p q =
     but_store a.1.1.0.now (cc (p.1.0, q.1.0)) in
     (cc (p.0, q.0), cc (l, p.1.1, q.1.1))
 
-pub shelugvar_report_one : One shelugvar-report.Post (λ e. bare e.0.now e.1.0.now)
+pub shelugvar_report_one : One shelugvar_report.Post (λ e. bare e.0.now e.1.0.now)
 shelugvar_report_one u v a r₁ r₂ e₁ e₂ p q = (cc (p.0, q.0), cc (p.1, q.1))
 
-pub shelugvar_tick_one : One shelugvar-tick.Post (λ e. bare e.0.now e.1.0.now)
+pub shelugvar_tick_one : One shelugvar_tick.Post (λ e. bare e.0.now e.1.0.now)
 shelugvar_tick_one u v a r₁ r₂ e₁ e₂ p q = (cc (p.0, q.0), cc (p.1, q.1))
 
-pub shelugvar_entry_state_one : One shelugvar-entry-state.Post (λ e. e.1.1.0.now)
+pub shelugvar_entry_state_one : One shelugvar_entry_state.Post (λ e. e.1.1.0.now)
 shelugvar_entry_state_one u v a r₁ r₂ e₁ e₂ p q = (cc (p.0, q.0), cc (p.1, q.1))
 
-pub shelugvar_store_need_one : One shelugvar-store-need.Post (λ e. e.1.0.now)
+pub shelugvar_store_need_one : One shelugvar_store_need.Post (λ e. e.1.0.now)
 shelugvar_store_need_one u v a r₁ r₂ e₁ e₂ p q = (cc (p.0, q.0), cc (p.1, q.1))
 
-pub shelugvar_version_one : OneAnswer shelugvar-version.Post (λ r. r)
+pub shelugvar_version_one : OneAnswer shelugvar_version.Post (λ r. r)
 shelugvar_version_one u v a r₁ r₂ e₁ e₂ p q = cc
 
 -- ---- lines: over every type W of sinks' writers
 
 module _ (T : RattleType) (L : Laws T) (W : Write.Ghosts T.Denot) (D : Dict) where
-  pub lines_text_one : One (lines-text.Post T L W D) (λ e. e.1.0.now)
+  pub lines_text_one : One (lines_text.Post T L W D) (λ e. e.1.0.now)
   lines_text_one u v a r₁ r₂ e₁ e₂ p q = (cc (p.0, q.0), cc (p.1.0, q.1.0))
 
-  pub lines_number_one : One (lines-number.Post T L W D) (λ e. e.1.0.now)
+  pub lines_number_one : One (lines_number.Post T L W D) (λ e. e.1.0.now)
   lines_number_one u v a r₁ r₂ e₁ e₂ p q = (cc (p.0, q.0), cc (p.1.0, q.1.0))
 
-  pub lines_value_one : One (lines-value.Post T L W D) (λ e. e.1.0.now)
+  pub lines_value_one : One (lines_value.Post T L W D) (λ e. e.1.0.now)
   lines_value_one u v a r₁ r₂ e₁ e₂ p q = (cc (p.0, q.0), cc (p.1.0, q.1.0))
 
-  pub lines_numbers_one : One (lines-numbers.Post T L W D) (λ e. e.1.0.now)
+  pub lines_numbers_one : One (lines_numbers.Post T L W D) (λ e. e.1.0.now)
   lines_numbers_one u v a r₁ r₂ e₁ e₂ p q = (cc (p.0, q.0), cc (p.1.0, q.1.0))
 
-  pub lines_values_one : One (lines-values.Post T L W D) (λ e. e.1.0.now)
+  pub lines_values_one : One (lines_values.Post T L W D) (λ e. e.1.0.now)
   lines_values_one u v a r₁ r₂ e₁ e₂ p q = (cc (p.0, q.0), cc (p.1.0, q.1.0))
 
-  pub lines_refused_one : One (lines-refused.Post T L W D) (λ e. e.1.0.now)
+  pub lines_refused_one : One (lines_refused.Post T L W D) (λ e. e.1.0.now)
   lines_refused_one u v a r₁ r₂ e₁ e₂ p q = (cc (p.0, q.0), cc (p.1.0, q.1.0))
 
-  pub lines_torn_one : One (lines-torn.Post T L W D) (λ e. e.1.0.now)
+  pub lines_torn_one : One (lines_torn.Post T L W D) (λ e. e.1.0.now)
   lines_torn_one u v a r₁ r₂ e₁ e₂ p q = (cc (p.0, q.0), cc (p.1.0, q.1.0))
 
-  pub lines_unknown_one : One (lines-unknown.Post T L W D) (λ e. e.1.0.now)
+  pub lines_unknown_one : One (lines_unknown.Post T L W D) (λ e. e.1.0.now)
   lines_unknown_one u v a r₁ r₂ e₁ e₂ p q = (cc (p.0, q.0), cc (p.1.0, q.1.0))
 
-  pub lines_refused_all_one : One (lines-refused-all.Post T L W D) (λ e. e.1.0.now)
+  pub lines_refused_all_one : One (lines_refused_all.Post T L W D) (λ e. e.1.0.now)
   lines_refused_all_one u v a r₁ r₂ e₁ e₂ p q = (cc (p.0, q.0), cc (p.1.0, q.1.0))
 
-  pub lines_done_one : One (lines-done.Post T L W D) (λ e. e.1.0.now)
+  pub lines_done_one : One (lines_done.Post T L W D) (λ e. e.1.0.now)
   lines_done_one u v a r₁ r₂ e₁ e₂ p q = (cc (p.0, q.0), cc (p.1.0, q.1.0))
 
-  pub lines_verdict_one : One (lines-verdict.Post T L W D) (λ e. e.1.0.now)
+  pub lines_verdict_one : One (lines_verdict.Post T L W D) (λ e. e.1.0.now)
   lines_verdict_one u v a r₁ r₂ e₁ e₂ p q = (cc (p.0, q.0), cc (p.1.0, q.1.0))
 
-  pub lines_counted_one : One (lines-counted.Post T L W D) (λ e. e.1.0.now)
+  pub lines_counted_one : One (lines_counted.Post T L W D) (λ e. e.1.0.now)
   lines_counted_one u v a r₁ r₂ e₁ e₂ p q = (cc (p.0, q.0), cc (p.1.0, q.1.0))
 
-  pub lines_planned_one : One (lines-planned.Post T L W D) (λ e. e.1.0.now)
+  pub lines_planned_one : One (lines_planned.Post T L W D) (λ e. e.1.0.now)
   lines_planned_one u v a r₁ r₂ e₁ e₂ p q = (cc (p.0, q.0), cc (p.1.0, q.1.0))
 
-  pub lines_handed_one : One (lines-handed.Post T L W D) (λ e. e.1.0.now)
+  pub lines_handed_one : One (lines_handed.Post T L W D) (λ e. e.1.0.now)
   lines_handed_one u v a r₁ r₂ e₁ e₂ p q = (cc (p.0, q.0), cc (p.1.0, q.1.0))
 
-  pub lines_arrived_one : One (lines-arrived.Post T L W D) (λ e. e.1.0.now)
+  pub lines_arrived_one : One (lines_arrived.Post T L W D) (λ e. e.1.0.now)
   lines_arrived_one u v a r₁ r₂ e₁ e₂ p q = (cc (p.0, q.0), cc (p.1.0, q.1.0))

@@ -48,11 +48,11 @@ use Rattle.call_arrive.specs.Arriving.{frame_tests, entry_tests, entry_of, entry
 use Rattle.call_arrive.specs.Arriving.{arrival_answer}
 use Rattle.call_hand_out.specs.Handing.{frame_out, next_out, fitted, hand_out_answer}
 use Rattle.firmware.specs.Nodes.{refusal_in, value_in, arrived_in}
-use Rattle.node.proofs.arrival.Reads as node-arrival
-use Rattle.node.proofs.hand_out.Reads as node-hand-out
-use Rattle.frame.proofs.writing.write.Reads as frame-write
-use Rattle.firmware.proofs.nodes.shelugvar_arrival.Reads as shelugvar-arrival
-use Rattle.firmware.proofs.nodes.shelugvar_hand_out.Reads as shelugvar-hand-out
+use Rattle.node.proofs.arrival.Reads as node_arrival
+use Rattle.node.proofs.hand_out.Reads as node_hand_out
+use Rattle.frame.proofs.writing.write.Reads as frame_write
+use Rattle.firmware.proofs.nodes.shelugvar_arrival.Reads as shelugvar_arrival
+use Rattle.firmware.proofs.nodes.shelugvar_hand_out.Reads as shelugvar_hand_out
 use Rattle.contracts.specs.Outcome.{LengthWithin, length_of, block_length, block_length_at, frame_length, written_length, EntryWithin}
 
 -- ---- an arrival
@@ -102,7 +102,7 @@ arrival_within : (x : Lent) (f : List ℕ) → block_length (arrival_answer x f)
 unfolding arrival_answer
 arrival_within x f = answer_within (verdict (frame_tests x.node f)) _ (length x.out) (read_within x (header_of f) (payload_of f))
 
-pub node_arrival_within : LengthWithin node-arrival.Post (λ r. Unit {0}) (λ r e. block_length r) (λ a. a.1.1.1.0.now)
+pub node_arrival_within : LengthWithin node_arrival.Post (λ r. Unit {0}) (λ r e. block_length r) (λ a. a.1.1.1.0.now)
 node_arrival_within u a r e p d =
     let x = whole a.0.now a.1.0.now a.1.1.0.now a.1.1.1.0.now in
     rw p.0 (arrival_within x a.1.1.1.1.0.now)
@@ -129,7 +129,7 @@ hand_within x =
     refused true w a h = omega arith
     refused false w a h = h
 
-pub node_hand_out_within : LengthWithin node-hand-out.Post (λ r. Unit {0}) (λ r e. frame_length r) (λ a. a.1.1.1.0.now)
+pub node_hand_out_within : LengthWithin node_hand_out.Post (λ r. Unit {0}) (λ r e. frame_length r) (λ a. a.1.1.1.0.now)
 node_hand_out_within u a r e p d =
     rw p.0 (hand_within (whole a.0.now a.1.0.now a.1.1.0.now a.1.1.1.0.now))
 
@@ -172,7 +172,7 @@ arrived_within (arrived.At i w) old z = at_within w i old
 arrived_within (arrived.Refused w) old z = absurd (omega (arith, refused_some w, z))
 
 pub shelugvar_arrival_within :
-    LengthWithin shelugvar-arrival.Post (λ r. r ≡ 0) (λ r e. block_length_at e.1.1.1.1.1.0.now) (λ a. a.1.1.1.0.now)
+    LengthWithin shelugvar_arrival.Post (λ r. r ≡ 0) (λ r e. block_length_at e.1.1.1.1.1.0.now) (λ a. a.1.1.1.0.now)
 shelugvar_arrival_within u a r e p d =
     let x = whole a.0.now a.1.0.now a.1.1.0.now a.1.1.1.0.now in
     let f = a.1.1.1.1.0.now in
@@ -186,7 +186,7 @@ handed_within (handed.Length n) old z = refl
 handed_within (handed.Refused w) old z = absurd (omega (arith, refused_some w, z))
 
 pub shelugvar_hand_out_within :
-    LengthWithin shelugvar-hand-out.Post (λ r. r ≡ 0) (λ r e. e.1.1.1.1.0.now) (λ a. a.1.1.1.0.now)
+    LengthWithin shelugvar_hand_out.Post (λ r. r ≡ 0) (λ r e. e.1.1.1.1.0.now) (λ a. a.1.1.1.0.now)
 shelugvar_hand_out_within u a r e p d =
     let x = whole a.0.now a.1.0.now a.1.1.0.now a.1.1.1.0.now in
     rw (p.1.1, handed_within (hand_out_answer x) a.1.1.1.1.0.now (sym p.0 ∙ d)) (hand_within x)
@@ -203,7 +203,7 @@ write_within d p b = sides (verdict (write_tests d (length p) (length b))) refl
         ltb-false (length b) (length p + overhead) (clear (write_tests d (length p) (length b)) h).1.1.1.1.0
     sides (verdicts.Refused w) h = omega arith
 
-pub frame_write_within : LengthWithin frame-write.Post (λ r. Unit {0}) (λ r e. written_length r) (λ a. a.0.now)
+pub frame_write_within : LengthWithin frame_write.Post (λ r. Unit {0}) (λ r e. written_length r) (λ a. a.0.now)
 frame_write_within u a r e p d = rw p.0 (write_within a.1.0 a.1.1.0.now a.0.now)
 
 -- ---- the entry of an arrival
@@ -262,7 +262,7 @@ module _ (x : Lent) (long : length x.node ≡ node_words) where
       sides verdicts.Passed e = read_low (header_of f) (payload_of f) i w e
       sides (verdicts.Refused v) e = let z : ◌≡◌ {A = ℕ} 0 1 = cc in absurd (omega arith)
 
-pub node_arrival_entry : EntryWithin node-arrival.Post (λ a. a.0.now) (λ r. r)
+pub node_arrival_entry : EntryWithin node_arrival.Post (λ a. a.0.now) (λ r. r)
 node_arrival_entry u a r e p long i w is =
     let x = whole a.0.now a.1.0.now a.1.1.0.now a.1.1.1.0.now in
     arrival_low x long a.1.1.1.1.0.now i w (sym p.0 ∙ is)

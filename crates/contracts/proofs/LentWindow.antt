@@ -7,7 +7,7 @@ use mathlib.Core.Bool.{Bool}
 use Rattle.window.specs.declared.Found.{Found}
 use Rattle.window.specs.declared.Window.{Window}
 use Rattle.lent_window.specs.Lending.{Tests, Accepts, Passes, Resets}
-use Rattle.lent_window.proofs.receive.Reads as lent-window-receive
+use Rattle.lent_window.proofs.receive.Reads as lent_window_receive
 use Rattle.contracts.specs.Outcome.{OneAnswer}
 
 pub lent_window_inside_one : (w : Window) (s : ℕ) (r₁ r₂ : Bool) → Tests w s r₁ → Tests w s r₂ → r₁ ≡ r₂
@@ -24,5 +24,5 @@ lent_window_pass_one w r₁ r₂ w₁ w₂ p q = (cc (p.answer, q.answer), cc (p
 pub lent_window_reset_one : (w w₁ w₂ : Window) → Resets w w₁ → Resets w w₂ → w₁ ≡ w₂
 lent_window_reset_one w w₁ w₂ p q = cc (p.after, q.after)
 
-pub lent_window_receive_one : OneAnswer lent-window-receive.Post (λ r. r)
+pub lent_window_receive_one : OneAnswer lent_window_receive.Post (λ r. r)
 lent_window_receive_one u v a r₁ r₂ e₁ e₂ p q = cc

@@ -2,61 +2,61 @@
 use Prim.Native.Nat.{ℕ}
 use mathlib.Core.Path.{◌≡◌, ap}
 use mathlib.Core.List.{List, []}
-use Rattle.node.proofs.setup.Reads as node-setup
-use Rattle.node.proofs.open.Reads as node-open
-use Rattle.node.proofs.close.Reads as node-close
-use Rattle.node.proofs.counts.Reads as Node-Counts
-use Rattle.node.proofs.state.Reads as node-state
-use Rattle.node.proofs.store_need.Reads as node-store-need
-use Rattle.node.proofs.send.Reads as Node-send
-use Rattle.node.proofs.plan.Reads as node-plan
-use Rattle.node.proofs.urgent.Reads as node-urgent
-use Rattle.node.proofs.arrival.Reads as node-arrival
-use Rattle.node.proofs.hand_out.Reads as node-hand-out
-use Rattle.node.proofs.report.Reads as node-report
-use Rattle.node.proofs.tick.Reads as node-tick
+use Rattle.node.proofs.setup.Reads as node_setup
+use Rattle.node.proofs.open.Reads as node_open
+use Rattle.node.proofs.close.Reads as node_close
+use Rattle.node.proofs.counts.Reads as node_counts
+use Rattle.node.proofs.state.Reads as node_state
+use Rattle.node.proofs.store_need.Reads as node_store_need
+use Rattle.node.proofs.send.Reads as node_send
+use Rattle.node.proofs.plan.Reads as node_plan
+use Rattle.node.proofs.urgent.Reads as node_urgent
+use Rattle.node.proofs.arrival.Reads as node_arrival
+use Rattle.node.proofs.hand_out.Reads as node_hand_out
+use Rattle.node.proofs.report.Reads as node_report
+use Rattle.node.proofs.tick.Reads as node_tick
 use Rattle.end_points.specs.Lent.{Lent, bare, stored, whole}
 use Rattle.contracts.proofs.Stores.{but_store}
 use Rattle.contracts.specs.Outcome.{One, OneAnswer}
 
 -- ---- node
 
-pub node_setup_one : One node-setup.Post (λ e. bare e.0.now e.1.0.now)
+pub node_setup_one : One node_setup.Post (λ e. bare e.0.now e.1.0.now)
 node_setup_one u v a r₁ r₂ e₁ e₂ p q = (cc (p.0, q.0), but_store a.1.1.0.now (cc (p.0, q.0, p.1, q.1)))
 
-pub node_open_one : One node-open.Post (λ e. bare e.0.now e.1.0.now)
+pub node_open_one : One node_open.Post (λ e. bare e.0.now e.1.0.now)
 node_open_one u v a r₁ r₂ e₁ e₂ p q = (cc (p.0, q.0), cc (p.0, q.0, p.1, q.1))
 
-pub node_close_one : One node-close.Post (λ e. bare e.0.now e.1.0.now)
+pub node_close_one : One node_close.Post (λ e. bare e.0.now e.1.0.now)
 node_close_one u v a r₁ r₂ e₁ e₂ p q = (cc (p.0, q.0), cc (p.0, q.0, p.1, q.1))
 
-pub node_store_need_one : OneAnswer node-store-need.Post (λ r. r)
+pub node_store_need_one : OneAnswer node_store_need.Post (λ r. r)
 node_store_need_one u v a r₁ r₂ e₁ e₂ p q = cc
 
-pub node_state_one : OneAnswer node-state.Post (λ r. r)
+pub node_state_one : OneAnswer node_state.Post (λ r. r)
 node_state_one u v a r₁ r₂ e₁ e₂ p q = cc
 
-pub node_counts_one : OneAnswer Node-Counts.Post (λ r. r)
+pub node_counts_one : OneAnswer node_counts.Post (λ r. r)
 node_counts_one u v a r₁ r₂ e₁ e₂ p q = cc
 
-pub node_send_one : One Node-send.Post (λ e. stored e.0.now e.1.0.now e.1.1.0.now)
+pub node_send_one : One node_send.Post (λ e. stored e.0.now e.1.0.now e.1.1.0.now)
 node_send_one u v a r₁ r₂ e₁ e₂ p q = (cc (p.0, q.0), cc (p.0, q.0, p.1, q.1))
 
-pub node_plan_one : One node-plan.Post (λ e. stored e.0.now e.1.0.now e.1.1.0.now)
+pub node_plan_one : One node_plan.Post (λ e. stored e.0.now e.1.0.now e.1.1.0.now)
 node_plan_one u v a r₁ r₂ e₁ e₂ p q = (cc (p.0, q.0), cc (p.0, q.0, p.1, q.1))
 
-pub node_urgent_one : One node-urgent.Post (λ e. stored e.0.now e.1.0.now e.1.1.0.now)
+pub node_urgent_one : One node_urgent.Post (λ e. stored e.0.now e.1.0.now e.1.1.0.now)
 node_urgent_one u v a r₁ r₂ e₁ e₂ p q = (cc (p.0, q.0), cc (p.0, q.0, p.1, q.1))
 
-pub node_arrival_one : One node-arrival.Post (λ e. whole e.0.now e.1.0.now e.1.1.0.now
+pub node_arrival_one : One node_arrival.Post (λ e. whole e.0.now e.1.0.now e.1.1.0.now
     e.1.1.1.0.now)
 node_arrival_one u v a r₁ r₂ e₁ e₂ p q = (cc (p.0, q.0), cc (p.1, q.1))
 
-pub node_hand_out_one : One node-hand-out.Post (λ e. whole e.0.now e.1.0.now [] e.1.1.1.0.now)
+pub node_hand_out_one : One node_hand_out.Post (λ e. whole e.0.now e.1.0.now [] e.1.1.1.0.now)
 node_hand_out_one u v a r₁ r₂ e₁ e₂ p q = (cc (p.0, q.0), but_store a.1.1.0.now (cc (p.0, q.0, p.1, q.1)))
 
-pub node_report_one : One node-report.Post (λ e. bare e.0.now e.1.0.now)
+pub node_report_one : One node_report.Post (λ e. bare e.0.now e.1.0.now)
 node_report_one u v a r₁ r₂ e₁ e₂ p q = (cc (p.0, q.0), cc (p.0, q.0, p.1, q.1))
 
-pub node_tick_one : One node-tick.Post (λ e. bare e.0.now e.1.0.now)
+pub node_tick_one : One node_tick.Post (λ e. bare e.0.now e.1.0.now)
 node_tick_one u v a r₁ r₂ e₁ e₂ p q = (cc (p.0, q.0), cc (p.1, q.1))

@@ -37,77 +37,77 @@ use Rattle.call_hand_out.specs.Handing.{hand_out_answer, hand_out_after}
 use Rattle.call_report.specs.Reporting.{report_answer, report_after}
 use Rattle.firmware.specs.Firmware.{read_number, read_fields, fields_in, write_number}
 use Rattle.firmware.specs.Nodes.{refusal_in, value_in, pair_in, arrived_in}
-use Rattle.node.proofs.setup.Reads as node-setup
-use Rattle.node.proofs.open.Reads as node-open
-use Rattle.node.proofs.close.Reads as node-close
-use Rattle.node.proofs.send.Reads as Node-send
-use Rattle.node.proofs.plan.Reads as node-plan
-use Rattle.node.proofs.urgent.Reads as node-urgent
-use Rattle.node.proofs.arrival.Reads as node-arrival
-use Rattle.node.proofs.hand_out.Reads as node-hand-out
-use Rattle.node.proofs.report.Reads as node-report
-use Rattle.call_open.proofs.setup.Reads as call-open-setup
-use Rattle.call_open.proofs.open.Reads as call-open-open
-use Rattle.call_open.proofs.close.Reads as call-open-close
-use Rattle.call_send.proofs.send.Reads as call-send-send
-use Rattle.call_send.proofs.urgent.Reads as call-send-urgent
-use Rattle.call_plan.proofs.plan.Reads as call-plan-plan
-use Rattle.call_arrive.proofs.arrive.Reads as call-arrive-arrive
-use Rattle.call_hand_out.proofs.hand_out.Reads as call-hand-out-hand-out
-use Rattle.call_report.proofs.report.Reads as call-report-report
-use Rattle.frame.proofs.writing.write.Reads as frame-write
-use Rattle.firmware.proofs.shelugvar_frame_read.Reads as shelugvar-frame-read
-use Rattle.firmware.proofs.shelugvar_frame_write.Reads as shelugvar-frame-write
-use Rattle.firmware.proofs.nodes.shelugvar_setup.Reads as shelugvar-setup
-use Rattle.firmware.proofs.nodes.shelugvar_open.Reads as shelugvar-open
-use Rattle.firmware.proofs.nodes.shelugvar_close.Reads as shelugvar-close
-use Rattle.firmware.proofs.nodes.shelugvar_counts.Reads as shelugvar-counts
-use Rattle.firmware.proofs.nodes.shelugvar_entry_state.Reads as shelugvar-entry-state
-use Rattle.firmware.proofs.nodes.shelugvar_store_need.Reads as shelugvar-store-need
-use Rattle.firmware.proofs.nodes.shelugvar_send.Reads as shelugvar-send
-use Rattle.firmware.proofs.nodes.shelugvar_plan.Reads as shelugvar-plan
-use Rattle.firmware.proofs.nodes.shelugvar_urgent.Reads as shelugvar-urgent
-use Rattle.firmware.proofs.nodes.shelugvar_arrival.Reads as shelugvar-arrival
-use Rattle.firmware.proofs.nodes.shelugvar_hand_out.Reads as shelugvar-hand-out
-use Rattle.firmware.proofs.nodes.shelugvar_report.Reads as shelugvar-report
+use Rattle.node.proofs.setup.Reads as node_setup
+use Rattle.node.proofs.open.Reads as node_open
+use Rattle.node.proofs.close.Reads as node_close
+use Rattle.node.proofs.send.Reads as node_send
+use Rattle.node.proofs.plan.Reads as node_plan
+use Rattle.node.proofs.urgent.Reads as node_urgent
+use Rattle.node.proofs.arrival.Reads as node_arrival
+use Rattle.node.proofs.hand_out.Reads as node_hand_out
+use Rattle.node.proofs.report.Reads as node_report
+use Rattle.call_open.proofs.setup.Reads as call_open_setup
+use Rattle.call_open.proofs.open.Reads as call_open_open
+use Rattle.call_open.proofs.close.Reads as call_open_close
+use Rattle.call_send.proofs.send.Reads as call_send_send
+use Rattle.call_send.proofs.urgent.Reads as call_send_urgent
+use Rattle.call_plan.proofs.plan.Reads as call_plan_plan
+use Rattle.call_arrive.proofs.arrive.Reads as call_arrive_arrive
+use Rattle.call_hand_out.proofs.hand_out.Reads as call_hand_out_hand_out
+use Rattle.call_report.proofs.report.Reads as call_report_report
+use Rattle.frame.proofs.writing.write.Reads as frame_write
+use Rattle.firmware.proofs.shelugvar_frame_read.Reads as shelugvar_frame_read
+use Rattle.firmware.proofs.shelugvar_frame_write.Reads as shelugvar_frame_write
+use Rattle.firmware.proofs.nodes.shelugvar_setup.Reads as shelugvar_setup
+use Rattle.firmware.proofs.nodes.shelugvar_open.Reads as shelugvar_open
+use Rattle.firmware.proofs.nodes.shelugvar_close.Reads as shelugvar_close
+use Rattle.firmware.proofs.nodes.shelugvar_counts.Reads as shelugvar_counts
+use Rattle.firmware.proofs.nodes.shelugvar_entry_state.Reads as shelugvar_entry_state
+use Rattle.firmware.proofs.nodes.shelugvar_store_need.Reads as shelugvar_store_need
+use Rattle.firmware.proofs.nodes.shelugvar_send.Reads as shelugvar_send
+use Rattle.firmware.proofs.nodes.shelugvar_plan.Reads as shelugvar_plan
+use Rattle.firmware.proofs.nodes.shelugvar_urgent.Reads as shelugvar_urgent
+use Rattle.firmware.proofs.nodes.shelugvar_arrival.Reads as shelugvar_arrival
+use Rattle.firmware.proofs.nodes.shelugvar_hand_out.Reads as shelugvar_hand_out
+use Rattle.firmware.proofs.nodes.shelugvar_report.Reads as shelugvar_report
 use Rattle.contracts.specs.Outcome.{Spares, IsRefused, NotZero}
 use Rattle.contracts.proofs.Stores.{but_store}
 
 -- ---- the node's calls
 
-pub node_setup_refused : Spares node-setup.Post (IsRefused verdicts.Refused) (λ e. bare e.0.now e.1.0.now)
+pub node_setup_refused : Spares node_setup.Post (IsRefused verdicts.Refused) (λ e. bare e.0.now e.1.0.now)
 unfolding setup_after
 node_setup_refused u a r e p w = but_store a.1.1.0.now (cc (p.1, w.1))
 
-pub node_open_refused : Spares node-open.Post (IsRefused verdicts.Refused) (λ e. bare e.0.now e.1.0.now)
+pub node_open_refused : Spares node_open.Post (IsRefused verdicts.Refused) (λ e. bare e.0.now e.1.0.now)
 unfolding open_after
 node_open_refused u a r e p w = cc (p.1, w.1)
 
-pub node_close_refused : Spares node-close.Post (IsRefused verdicts.Refused) (λ e. bare e.0.now e.1.0.now)
+pub node_close_refused : Spares node_close.Post (IsRefused verdicts.Refused) (λ e. bare e.0.now e.1.0.now)
 unfolding close_after
 node_close_refused u a r e p w = cc (p.1, w.1)
 
-pub node_send_refused : Spares Node-send.Post (IsRefused verdicts.Refused)
+pub node_send_refused : Spares node_send.Post (IsRefused verdicts.Refused)
     (λ e. stored e.0.now e.1.0.now e.1.1.0.now)
 unfolding send_after
 node_send_refused u a r e p w = cc (p.1, w.1)
 
-pub node_plan_refused : Spares node-plan.Post (IsRefused planned.Refused)
+pub node_plan_refused : Spares node_plan.Post (IsRefused planned.Refused)
     (λ e. stored e.0.now e.1.0.now e.1.1.0.now)
 unfolding plan_after
 node_plan_refused u a r e p w = cc (p.1, w.1)
 
-pub node_urgent_refused : Spares node-urgent.Post (IsRefused verdicts.Refused)
+pub node_urgent_refused : Spares node_urgent.Post (IsRefused verdicts.Refused)
     (λ e. stored e.0.now e.1.0.now e.1.1.0.now)
 unfolding urgent_after
 node_urgent_refused u a r e p w = cc (p.1, w.1)
 
-pub node_hand_out_refused : Spares node-hand-out.Post (IsRefused handed.Refused)
+pub node_hand_out_refused : Spares node_hand_out.Post (IsRefused handed.Refused)
     (λ e. whole e.0.now e.1.0.now [] e.1.1.1.0.now)
 unfolding hand_out_after
 node_hand_out_refused u a r e p w = but_store a.1.1.0.now (cc (p.1, w.1))
 
-pub node_report_refused : Spares node-report.Post (IsRefused verdicts.Refused) (λ e. bare e.0.now e.1.0.now)
+pub node_report_refused : Spares node_report.Post (IsRefused verdicts.Refused) (λ e. bare e.0.now e.1.0.now)
 unfolding report_after
 node_report_refused u a r e p w = cc (p.1, w.1)
 
@@ -130,7 +130,7 @@ module _ (w : Refusal) where
   unfolding arrival_answer arrival_after
   arrival_spared x f e = judged (verdict (frame_tests x.node f)) _ x _ (read_on x (header_of f) (payload_of f)) e
 
-pub node_arrival_refused : Spares node-arrival.Post (IsRefused arrived.Refused)
+pub node_arrival_refused : Spares node_arrival.Post (IsRefused arrived.Refused)
     (λ e. whole e.0.now e.1.0.now e.1.1.0.now e.1.1.1.0.now)
 node_arrival_refused u a r e p w =
     let x = whole a.0.now a.1.0.now a.1.1.0.now a.1.1.1.0.now in
@@ -138,48 +138,48 @@ node_arrival_refused u a r e p w =
 
 -- ---- the calls on which those stand
 
-pub call_open_setup_refused : Spares call-open-setup.Post (IsRefused verdicts.Refused)
+pub call_open_setup_refused : Spares call_open_setup.Post (IsRefused verdicts.Refused)
     (λ e. bare e.0.now e.1.0.now)
 unfolding setup_after
 call_open_setup_refused u a r e p w = but_store a.1.1.0.now (cc (p.1, w.1))
 
-pub call_open_open_refused : Spares call-open-open.Post (IsRefused verdicts.Refused)
+pub call_open_open_refused : Spares call_open_open.Post (IsRefused verdicts.Refused)
     (λ e. bare e.0.now e.1.0.now)
 unfolding open_after
 call_open_open_refused u a r e p w = cc (p.1, w.1)
 
-pub call_open_close_refused : Spares call-open-close.Post (IsRefused verdicts.Refused)
+pub call_open_close_refused : Spares call_open_close.Post (IsRefused verdicts.Refused)
     (λ e. bare e.0.now e.1.0.now)
 unfolding close_after
 call_open_close_refused u a r e p w = cc (p.1, w.1)
 
-pub call_send_send_refused : Spares call-send-send.Post (IsRefused verdicts.Refused)
+pub call_send_send_refused : Spares call_send_send.Post (IsRefused verdicts.Refused)
     (λ e. stored e.0.now e.1.0.now e.1.1.0.now)
 unfolding send_after
 call_send_send_refused u a r e p w = cc (p.1, w.1)
 
-pub call_plan_plan_refused : Spares call-plan-plan.Post (IsRefused planned.Refused)
+pub call_plan_plan_refused : Spares call_plan_plan.Post (IsRefused planned.Refused)
     (λ e. stored e.0.now e.1.0.now e.1.1.0.now)
 unfolding plan_after
 call_plan_plan_refused u a r e p w = cc (p.1, w.1)
 
-pub call_send_urgent_refused : Spares call-send-urgent.Post (IsRefused verdicts.Refused)
+pub call_send_urgent_refused : Spares call_send_urgent.Post (IsRefused verdicts.Refused)
     (λ e. stored e.0.now e.1.0.now e.1.1.0.now)
 unfolding urgent_after
 call_send_urgent_refused u a r e p w = cc (p.1, w.1)
 
-pub call_arrive_arrive_refused : Spares call-arrive-arrive.Post (IsRefused arrived.Refused)
+pub call_arrive_arrive_refused : Spares call_arrive_arrive.Post (IsRefused arrived.Refused)
     (λ e. whole e.0.now e.1.0.now e.1.1.0.now e.1.1.1.0.now)
 call_arrive_arrive_refused u a r e p w =
     let x = whole a.0.now a.1.0.now a.1.1.0.now a.1.1.1.0.now in
     p.1 ∙ arrival_spared w.0 x a.1.1.1.1.0.now (sym p.0 ∙ w.1)
 
-pub call_hand_out_hand_out_refused : Spares call-hand-out-hand-out.Post (IsRefused handed.Refused)
+pub call_hand_out_hand_out_refused : Spares call_hand_out_hand_out.Post (IsRefused handed.Refused)
     (λ e. whole e.0.now e.1.0.now [] e.1.1.1.0.now)
 unfolding hand_out_after
 call_hand_out_hand_out_refused u a r e p w = but_store a.1.1.0.now (cc (p.1, w.1))
 
-pub call_report_report_refused : Spares call-report-report.Post (IsRefused verdicts.Refused)
+pub call_report_report_refused : Spares call_report_report.Post (IsRefused verdicts.Refused)
     (λ e. bare e.0.now e.1.0.now)
 unfolding report_after
 call_report_report_refused u a r e p w = cc (p.1, w.1)
@@ -196,7 +196,7 @@ write_spared : (d : Fields) (p b : List ℕ) (w : Refusal) → write_answer d p 
 unfolding write_answer written_of
 write_spared d p b w = as_written (verdict (write_tests d (length p) (length b))) _ _ _ w
 
-pub frame_write_refused : Spares frame-write.Post (IsRefused written.Refused) (λ e. e.0.now)
+pub frame_write_refused : Spares frame_write.Post (IsRefused written.Refused) (λ e. e.0.now)
 frame_write_refused u a r e p w =
     p.1 ∙ write_spared a.1.0 a.1.1.0.now a.0.now w.0 (sym p.0 ∙ w.1)
 
@@ -212,7 +212,7 @@ setup_told : (x : Lent) (t : List ℕ) → NotZero (refusal_in (answer_of (setup
 unfolding setup_after
 setup_told x t = told x (setup_after x t) (λ w. refl) (setup_answer x t)
 
-pub shelugvar_setup_refused : Spares shelugvar-setup.Post NotZero (λ e. bare e.0.now e.1.0.now)
+pub shelugvar_setup_refused : Spares shelugvar_setup.Post NotZero (λ e. bare e.0.now e.1.0.now)
 shelugvar_setup_refused u a r e p z =
     let x = stored a.0.now a.1.0.now a.1.1.0.now in but_store a.1.1.0.now
     (p.1 ∙ setup_told x a.1.1.1.0.now (subst NotZero p.0 z))
@@ -222,7 +222,7 @@ open_told : (x : Lent) (i : ℕ) → NotZero (refusal_in (answer_of (open_answer
 unfolding open_after
 open_told x i = told x (open_after x i) (λ w. refl) (open_answer x i)
 
-pub shelugvar_open_refused : Spares shelugvar-open.Post NotZero (λ e. bare e.0.now e.1.0.now)
+pub shelugvar_open_refused : Spares shelugvar_open.Post NotZero (λ e. bare e.0.now e.1.0.now)
 shelugvar_open_refused u a r e p z =
     let x = bare a.0.now a.1.0.now in p.1 ∙ open_told x a.1.1.0 (subst NotZero p.0 z)
 
@@ -231,7 +231,7 @@ close_told : (x : Lent) (i : ℕ) → NotZero (refusal_in (answer_of (close_answ
 unfolding close_after
 close_told x i = told x (close_after x i) (λ w. refl) (close_answer x i)
 
-pub shelugvar_close_refused : Spares shelugvar-close.Post NotZero (λ e. bare e.0.now e.1.0.now)
+pub shelugvar_close_refused : Spares shelugvar_close.Post NotZero (λ e. bare e.0.now e.1.0.now)
 shelugvar_close_refused u a r e p z =
     let x = bare a.0.now a.1.0.now in p.1 ∙ close_told x a.1.1.0 (subst NotZero p.0 z)
 
@@ -240,7 +240,7 @@ send_told : (x : Lent) (i : ℕ) (p : List ℕ) → NotZero (refusal_in (answer_
 unfolding send_after
 send_told x i p = told x (send_after x i p) (λ w. refl) (send_answer x i p)
 
-pub shelugvar_send_refused : Spares shelugvar-send.Post NotZero
+pub shelugvar_send_refused : Spares shelugvar_send.Post NotZero
     (λ e. stored e.0.now e.1.0.now e.1.1.0.now)
 shelugvar_send_refused u a r e p z =
     let x = stored a.0.now a.1.0.now a.1.1.0.now in p.1 ∙ send_told x a.1.1.1.0
@@ -251,7 +251,7 @@ urgent_told : (x : Lent) (i : ℕ) (p : List ℕ) → NotZero (refusal_in (answe
 unfolding urgent_after
 urgent_told x i p = told x (urgent_after x i p) (λ w. refl) (urgent_answer x i p)
 
-pub shelugvar_urgent_refused : Spares shelugvar-urgent.Post NotZero
+pub shelugvar_urgent_refused : Spares shelugvar_urgent.Post NotZero
     (λ e. stored e.0.now e.1.0.now e.1.1.0.now)
 shelugvar_urgent_refused u a r e p z =
     let x = stored a.0.now a.1.0.now a.1.1.0.now in p.1 ∙ urgent_told x a.1.1.1.0
@@ -261,7 +261,7 @@ report_told : (x : Lent) → NotZero (refusal_in (answer_of (report_answer x))) 
 unfolding report_after
 report_told x = told x (report_after x) (λ w. refl) (report_answer x)
 
-pub shelugvar_report_refused : Spares shelugvar-report.Post NotZero (λ e. bare e.0.now e.1.0.now)
+pub shelugvar_report_refused : Spares shelugvar_report.Post NotZero (λ e. bare e.0.now e.1.0.now)
 shelugvar_report_refused u a r e p z =
     let x = bare a.0.now a.1.0.now in p.1 ∙ report_told x (subst NotZero p.0 z)
 
@@ -278,15 +278,15 @@ arrived_spared : (a old : List ℕ) → NotZero (refusal_in a) → arrived_in a 
 unfolding arrived_in
 arrived_spared a old z = rw (ne_eqb (refusal_in a) 0 z)
 
-pub shelugvar_counts_refused : Spares shelugvar-counts.Post NotZero (λ e. e.1.1.0.now)
+pub shelugvar_counts_refused : Spares shelugvar_counts.Post NotZero (λ e. e.1.1.0.now)
 shelugvar_counts_refused u a r e p z =
     p.1 ∙ pair_spared (counted_of (counts_answer a.0.now a.1.0)) a.1.1.0.now (subst NotZero p.0 z)
 
-pub shelugvar_entry_state_refused : Spares shelugvar-entry-state.Post NotZero (λ e. e.1.1.0.now)
+pub shelugvar_entry_state_refused : Spares shelugvar_entry_state.Post NotZero (λ e. e.1.1.0.now)
 shelugvar_entry_state_refused u a r e p z =
     p.1 ∙ value_spared (stated_of (state_answer a.0.now a.1.0)) a.1.1.0.now (subst NotZero p.0 z)
 
-pub shelugvar_store_need_refused : Spares shelugvar-store-need.Post NotZero (λ e. e.1.0.now)
+pub shelugvar_store_need_refused : Spares shelugvar_store_need.Post NotZero (λ e. e.1.0.now)
 shelugvar_store_need_refused u a r e p z =
     p.1 ∙ value_spared (needed_of (need_answer a.0.now)) a.1.0.now (subst NotZero p.0 z)
 
@@ -295,7 +295,7 @@ unfolding plan_after
 plan_told x i block (planned.Accepted n stop) z = absurd (z refl)
 plan_told x i block (planned.Refused w) z = refl
 
-pub shelugvar_plan_refused : Spares {M = Lent × List ℕ} shelugvar-plan.Post NotZero
+pub shelugvar_plan_refused : Spares {M = Lent × List ℕ} shelugvar_plan.Post NotZero
     (λ e. (stored e.0.now e.1.0.now e.1.1.0.now, e.1.1.1.1.1.0.now))
 shelugvar_plan_refused u a r e p z =
     let x = stored a.0.now a.1.0.now a.1.1.0.now in
@@ -310,7 +310,7 @@ arrival_told : (x : Lent) (f : List ℕ) (a : Arrived) → arrival_answer x f �
 arrival_told x f (arrived.At i was) e z = absurd (z refl)
 arrival_told x f (arrived.Refused w) e z = arrival_spared w x f e
 
-pub shelugvar_arrival_refused : Spares {M = Lent × List ℕ} shelugvar-arrival.Post NotZero
+pub shelugvar_arrival_refused : Spares {M = Lent × List ℕ} shelugvar_arrival.Post NotZero
     (λ e. (whole e.0.now e.1.0.now e.1.1.0.now e.1.1.1.0.now, e.1.1.1.1.1.0.now))
 shelugvar_arrival_refused u a r e p z =
     let x = whole a.0.now a.1.0.now a.1.1.0.now a.1.1.1.0.now in
@@ -324,7 +324,7 @@ unfolding hand_out_after
 hand_out_told x (handed.Length n) z = absurd (z refl)
 hand_out_told x (handed.Refused w) z = refl
 
-pub shelugvar_hand_out_refused : Spares {M = Lent × ℕ} shelugvar-hand-out.Post NotZero
+pub shelugvar_hand_out_refused : Spares {M = Lent × ℕ} shelugvar_hand_out.Post NotZero
     (λ e. (whole e.0.now e.1.0.now [] e.1.1.1.0.now, e.1.1.1.1.0.now))
 shelugvar_hand_out_refused u a r e p z =
     let x = whole a.0.now a.1.0.now a.1.1.0.now a.1.1.1.0.now in
@@ -340,7 +340,7 @@ unfolding read_fields
 read_in (read.Frame h) fields z = absurd (z refl)
 read_in (read.Refused w) fields z = refl
 
-pub shelugvar_frame_read_refused : Spares shelugvar-frame-read.Post NotZero (λ e. e.1.0.now)
+pub shelugvar_frame_read_refused : Spares shelugvar_frame_read.Post NotZero (λ e. e.1.0.now)
 shelugvar_frame_read_refused u a r e p z =
     p.1 ∙ read_in (read_of a.0.now) a.1.0.now (subst NotZero p.0 z)
 
@@ -352,6 +352,6 @@ write_told : (d : Fields) (p b : List ℕ) → NotZero (write_number (write_answ
 unfolding write_answer written_of
 write_told d p b = written_in (verdict (write_tests d (length p) (length b))) _ _ _
 
-pub shelugvar_frame_write_refused : Spares shelugvar-frame-write.Post NotZero (λ e. e.0.now)
+pub shelugvar_frame_write_refused : Spares shelugvar_frame_write.Post NotZero (λ e. e.0.now)
 shelugvar_frame_write_refused u a r e p z =
     p.1 ∙ write_told (fields_in a.1.0.now) a.1.1.0.now a.0.now (subst NotZero p.0 z)

@@ -27,63 +27,63 @@ use Rattle.trace_lines.specs.Lines.{replay_lent}
 use Rattle.replayed.specs.Replayed.{table_in}
 use Rattle.replayed.proofs.Made.{made}
 use Rattle.replayed.proofs.Replaying.{first_is, step_made, step_sets_up}
-use Rattle.trace.proofs.kinds.is_kind.Reads as trace-is-kind
-use Rattle.trace.proofs.kinds.takes_index.Reads as trace-takes-index
-use Rattle.trace.proofs.kinds.takes_bytes.Reads as trace-takes-bytes
-use Rattle.trace.proofs.layout.count.Reads as trace-count
-use Rattle.trace.proofs.layout.begin.Reads as trace-begin
-use Rattle.trace.proofs.layout.head.Reads as trace-head
-use Rattle.trace.proofs.layout.bytes.Reads as trace-bytes
-use Rattle.trace.proofs.is_good.Reads as trace-is-good
-use Rattle.trace_step.proofs.call.Reads as trace-step-call
-use Rattle.trace_step.proofs.step.Reads as trace-step-step
-use Rattle.trace_lines.proofs.begun.Reads as trace-lines-begun
-use Rattle.trace_lines.proofs.replay.Reads as trace-lines-replay
+use Rattle.trace.proofs.kinds.is_kind.Reads as trace_is_kind
+use Rattle.trace.proofs.kinds.takes_index.Reads as trace_takes_index
+use Rattle.trace.proofs.kinds.takes_bytes.Reads as trace_takes_bytes
+use Rattle.trace.proofs.layout.count.Reads as trace_count
+use Rattle.trace.proofs.layout.begin.Reads as trace_begin
+use Rattle.trace.proofs.layout.head.Reads as trace_head
+use Rattle.trace.proofs.layout.bytes.Reads as trace_bytes
+use Rattle.trace.proofs.is_good.Reads as trace_is_good
+use Rattle.trace_step.proofs.call.Reads as trace_step_call
+use Rattle.trace_step.proofs.step.Reads as trace_step_step
+use Rattle.trace_lines.proofs.begun.Reads as trace_lines_begun
+use Rattle.trace_lines.proofs.replay.Reads as trace_lines_replay
 use Rattle.contracts.specs.Gives.{Makes, Steps, Replays}
 use Rattle.contracts.specs.Outcome.{One, OneAnswer, Spares, ToldRefused}
 use Rattle.contracts.proofs.Refused.{arrival_spared}
 
 -- ---- one outcome: the file
 
-pub trace_is_kind_one : OneAnswer trace-is-kind.Post (λ r. r)
+pub trace_is_kind_one : OneAnswer trace_is_kind.Post (λ r. r)
 trace_is_kind_one u v a r₁ r₂ e₁ e₂ p q = cc
 
-pub trace_takes_index_one : OneAnswer trace-takes-index.Post (λ r. r)
+pub trace_takes_index_one : OneAnswer trace_takes_index.Post (λ r. r)
 trace_takes_index_one u v a r₁ r₂ e₁ e₂ p q = cc
 
-pub trace_takes_bytes_one : OneAnswer trace-takes-bytes.Post (λ r. r)
+pub trace_takes_bytes_one : OneAnswer trace_takes_bytes.Post (λ r. r)
 trace_takes_bytes_one u v a r₁ r₂ e₁ e₂ p q = cc
 
-pub trace_count_one : OneAnswer trace-count.Post (λ r. r)
+pub trace_count_one : OneAnswer trace_count.Post (λ r. r)
 trace_count_one u v a r₁ r₂ e₁ e₂ p q = cc
 
-pub trace_begin_one : OneAnswer trace-begin.Post (λ r. r)
+pub trace_begin_one : OneAnswer trace_begin.Post (λ r. r)
 trace_begin_one u v a r₁ r₂ e₁ e₂ p q = cc
 
-pub trace_head_one : OneAnswer trace-head.Post (λ r. r)
+pub trace_head_one : OneAnswer trace_head.Post (λ r. r)
 trace_head_one u v a r₁ r₂ e₁ e₂ p q = cc
 
-pub trace_bytes_one : OneAnswer trace-bytes.Post (λ r. r.now)
+pub trace_bytes_one : OneAnswer trace_bytes.Post (λ r. r.now)
 trace_bytes_one u v a r₁ r₂ e₁ e₂ p q = cc
 
-pub trace_is_good_one : OneAnswer trace-is-good.Post (λ r. r)
+pub trace_is_good_one : OneAnswer trace_is_good.Post (λ r. r)
 trace_is_good_one u v a r₁ r₂ e₁ e₂ p q = cc
 
 -- ---- one outcome: a record's call, and the lines
 
-pub trace_step_call_one : One trace-step-call.Post (λ e. whole e.0.now e.1.0.now e.1.1.0.now
+pub trace_step_call_one : One trace_step_call.Post (λ e. whole e.0.now e.1.0.now e.1.1.0.now
     e.1.1.1.0.now)
 trace_step_call_one u v a r₁ r₂ e₁ e₂ p q = (cc (p.0, q.0), cc (p.1, q.1))
 
-pub trace_step_step_one : One trace-step-step.Post (λ e. whole e.0.now e.1.0.now e.1.1.0.now
+pub trace_step_step_one : One trace_step_step.Post (λ e. whole e.0.now e.1.0.now e.1.1.0.now
     e.1.1.1.0.now)
 trace_step_step_one u v a r₁ r₂ e₁ e₂ p q = (cc (p.0, q.0), cc (p.1, q.1))
 
 module _ (T : RattleType) (L : Laws T) (W : Write.Ghosts T.Denot) (D : Dict) where
-  pub trace_lines_begun_one : One (trace-lines-begun.Post T L W D) (λ e. e.1.0.now)
+  pub trace_lines_begun_one : One (trace_lines_begun.Post T L W D) (λ e. e.1.0.now)
   trace_lines_begun_one u v a r₁ r₂ e₁ e₂ p q = (cc (p.0, q.0), cc (p.1.0, q.1.0))
 
-  pub trace_lines_replay_one : One {M = List ℕ × Lent} (trace-lines-replay.Post T L W D)
+  pub trace_lines_replay_one : One {M = List ℕ × Lent} (trace_lines_replay.Post T L W D)
       (λ e. (
         e.1.0.now,
         whole e.1.1.1.1.0.now e.1.1.1.1.1.0.now e.1.1.1.1.1.1.0.now
@@ -122,13 +122,13 @@ module _ (x : Lent) where
       let at = begin_of f k in
       either Keeps (ltb k (count_of f)) (called (head_from f at).kind (head_from f at).index (bytes_from f at)) (λ r. refl)
 
-pub trace_step_call_refused : Spares trace-step-call.Post ToldRefused
+pub trace_step_call_refused : Spares trace_step_call.Post ToldRefused
     (λ e. whole e.0.now e.1.0.now e.1.1.0.now e.1.1.1.0.now)
 trace_step_call_refused u a r e p w =
     let x = whole a.0.now a.1.0.now a.1.1.0.now a.1.1.1.0.now in
     p.1 ∙ called x a.1.1.1.1.0 a.1.1.1.1.1.0 a.1.1.1.1.1.1.0.now (subst ToldRefused p.0 w)
 
-pub trace_step_step_refused : Spares trace-step-step.Post ToldRefused
+pub trace_step_step_refused : Spares trace_step_step.Post ToldRefused
     (λ e. whole e.0.now e.1.0.now e.1.1.0.now e.1.1.1.0.now)
 trace_step_step_refused u a r e p w =
     let x = whole a.0.now a.1.0.now a.1.1.0.now a.1.1.1.0.now in
@@ -137,7 +137,7 @@ trace_step_step_refused u a r e p w =
 -- ---- from contract to call
 
 -- a record's call is one single call of the node
-pub call_makes : Makes trace-step-call.Post
+pub call_makes : Makes trace_step_call.Post
     (λ a. whole a.0.now a.1.0.now a.1.1.0.now a.1.1.1.0.now) (λ a. a.1.1.1.1.0)
     (λ a. a.1.1.1.1.1.0) (λ a. a.1.1.1.1.1.1.0.now)
 call_makes u a r e p bytes known other =
@@ -148,7 +148,7 @@ call_makes u a r e p bytes known other =
     rw (p.0, p.1) (made x i b bytes kind known other)
 
 -- so is the step to a record of a good file, and the first is a setup
-pub step_makes : Steps trace-step-step.Post
+pub step_makes : Steps trace_step_step.Post
     (λ a. whole a.0.now a.1.0.now a.1.1.0.now a.1.1.1.0.now) (λ a. a.1.1.1.1.0.now)
     (λ a. a.1.1.1.1.1.0)
 step_makes u a r e p given l =
@@ -172,7 +172,7 @@ step_makes u a r e p given l =
 
 -- a replay leaves what its records leave
 pub replay_leaves : (T : RattleType) (L : Laws T) (W : Write.Ghosts T.Denot) (D : Dict)
-    → Replays (trace-lines-replay.Post T L W D)
+    → Replays (trace_lines_replay.Post T L W D)
     (λ a. whole a.1.1.1.1.0.now a.1.1.1.1.1.0.now a.1.1.1.1.1.1.0.now a.1.1.1.1.1.1.1.0.now)
     (λ a. a.1.1.1.0.now)
 unfolding replay_lent
