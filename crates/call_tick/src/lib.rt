@@ -12,7 +12,7 @@ ghost use Rattle.units.specs.Refusals.{pick};
 ghost use Rattle.end_points.specs.Ends.{end_of};
 ghost use Rattle.end_points.specs.Lent.{bare};
 ghost use Rattle.call_tick.specs.Ticking.{ticked, tick_enabled, tick_open, tick_failing, tick_entry, tick_entries};
-ghost use Rattle.call_tick.specs.Ticking.{recover as recovered, recover_all, entries as entriesOf, scan_after};
+ghost use Rattle.call_tick.specs.Ticking.{recover as recovered, recover_all, entries as entries_of, scan_after};
 ghost use Rattle.call_tick.specs.Ticking.{scan_of, tick_answer, tick_after};
 ghost use Rattle.end_points.specs.States.{is_over};
 
@@ -179,7 +179,7 @@ fn recover_all(node: &mut [u64], book: &mut [u16], n: u8) -> u16
 
 // How many entries there are: at most 16, whatever the memory says.
 fn entries(node: &[u64]) -> u8
-    ensures { result ≡ entriesOf (bare node.now []) }
+    ensures { result ≡ entries_of (bare node.now []) }
 {
     let n = heads::count(node);
     if n < 16 {

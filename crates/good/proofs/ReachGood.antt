@@ -25,7 +25,7 @@ use Rattle.frame.specs.declared.FrameType.{FrameType}
 use Rattle.frame.specs.declared.FrameType.TheVariants as type
 use Rattle.end_points.specs.Runs.{is_new}
 use Rattle.end_points.specs.declared.EndPoint.{EndPoint}
-use Rattle.arrive_data.specs.Receiving.{reset_after, first_time, repeated, data_after, urgent_after as receivedUrgent}
+use Rattle.arrive_data.specs.Receiving.{reset_after, first_time, repeated, data_after, urgent_after as received_urgent}
 use Rattle.units.specs.Refusals.{pick}
 use Rattle.call_arrive.specs.Arriving.{taken_in_after}
 use Rattle.good.specs.Good.{Lists, Good}
@@ -88,7 +88,7 @@ data_long x i e s p = sides (is_new (accept_of e.run.window s).found)
     sides false = refl
 
 taken_long : (x : Lent) (i : ℕ) (e : EndPoint) (q : FrameType) (s : ℕ) (p : List ℕ) → length (taken_in_after x i e q s p).store ≡ length x.store
-unfolding taken_in_after reset_after receivedUrgent
+unfolding taken_in_after reset_after received_urgent
 taken_long x i e type.Data s p = data_long x i e s p
 taken_long x i e type.Acknowledge s p = refl
 taken_long x i e type.Reset s p = refl

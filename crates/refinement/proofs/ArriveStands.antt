@@ -15,7 +15,7 @@ use Rattle.units.specs.declared.refusals.Refusal.TheVariants as refusal
 use Rattle.units.specs.declared.refusals.Verdict.{Verdict}
 use Rattle.units.specs.declared.refusals.Verdict.TheVariants.{Passed, Refused}
 use Rattle.units.proofs.Judging.{clear}
-use Rattle.waiting.specs.Acks.{place_of as oldestPlace, waiting_of}
+use Rattle.waiting.specs.Acks.{place_of as oldest_place, waiting_of}
 use Rattle.waiting.specs.Order.{acks_in}
 use Rattle.waiting.proofs.Ringed.{from_length}
 use Rattle.table.specs.Layout.{count_of}
@@ -176,7 +176,7 @@ module _ (t : List ℕ) (n : Memory) (l : Lists) (g : Good t n.node n.book l) (r
 
     waiting_is : length (M.waiting acks) ≡ waiting_of n.node
     unfolding waiting_for
-    waiting_is = length-map (acks_in n.node) ack_item ∙ from_length n.node (oldestPlace n.node) (waiting_of n.node)
+    waiting_is = length-map (acks_in n.node) ack_item ∙ from_length n.node (oldest_place n.node) (waiting_of n.node)
 
     -- the tests are the same: how many acknowledgements wait, the store that is needed, the window in force
     same : verdict (machine.entry_tests M (end_at n i) h.kind h.length (length block)) ≡ entry_verdict x i h

@@ -4,7 +4,7 @@
 #![tactic(auto)]
 
 ghost use Rattle.std.specs.Prelude.{◌≡◌, ◌-◌, min};
-ghost use Rattle.timing.specs.Timing.{clock_in, quiet_in, later as laterThan, left_of, soonest as soonestOf};
+ghost use Rattle.timing.specs.Timing.{clock_in, quiet_in, later as later_than, left_of, soonest as soonest_of};
 ghost use Rattle.timing.specs.Timing.{passed, heeded, roused};
 
 use memory::{layout, put_word, word_at};
@@ -31,7 +31,7 @@ pub fn quiet(node: &[u64]) -> u64
 
 // The number of the tick n ticks after tick c.
 pub fn later(c: u16, n: u16) -> u16
-    ensures { result ≡ laterThan c n }
+    ensures { result ≡ later_than c n }
 {
     let s = c as u32 + n as u32;
     if s <= ROUND as u32 {
@@ -55,7 +55,7 @@ pub fn left(c: u16, d: u16) -> u16
 
 // The smaller of `least` and what is left, after tick c, of a timer that runs out at tick d.
 pub fn soonest(least: u16, c: u16, d: u16) -> u16
-    ensures { result ≡ soonestOf least c d }
+    ensures { result ≡ soonest_of least c d }
 {
     let n = left(c, d);
     if least <= n {
