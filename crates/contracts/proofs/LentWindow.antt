@@ -1,6 +1,6 @@
--- One outcome: the window that is lent. Its functions are walked by hand, and their contracts are the records of
--- crates/lent_window/specs/Lending.antt; only `receive`, which is lent nothing, has a reading of its text. Assumes
--- nothing.
+-- One outcome: the window that is lent. The contracts of those functions are the records of
+-- crates/lent_window/specs/Lending.antt, and the theorems are over these; that of `receive`, which is lent nothing, is
+-- over its contract's own text. Assumes nothing.
 use Prim.Native.Nat.{ℕ}
 use mathlib.Core.Path.{◌≡◌}
 use mathlib.Core.Bool.{Bool}

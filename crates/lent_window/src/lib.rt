@@ -1,7 +1,7 @@
 // A receive window as a record that its driver lends and finds altered: thin functions over the steps by value. The
 // record is the window itself, so its driver may also use it by value.
-// Proved, by hand: afterwards the record is the window's own step applied to the record as it was lent, and the answer
-// is that step's, for every record and number. None asks anything of its caller.
+// Proved: afterwards the record is the window's own step applied to the record as it was lent, and the answer is that
+// step's, for every record and number. None asks anything of its caller.
 #![tactic(auto)]
 
 ghost use Rattle.std.specs.Prelude.{◌≡◌};
