@@ -6,11 +6,11 @@ Goes through crates/*/src, programs left out, and looks in crates/contracts/proo
 crate and the function (`node_send`; a function for C by its own name): only one outcome is possible. The theorem has to
 be over the reading of the contract (`use Rattle.node.proofs.send.Reads as NAME` in its file), and has to speak of
 everything that is lent to be altered: of each `&mut` parameter, by its place among the arguments. A function that is
-lent such memory and may refuse also needs `pub NAME_refused`: refused, all is as it was. What is lent as a struct has
-no such reading: there the contract has to be one record of specs/, which the theorem names. A symbol of the archive has
-no theorem of its own, since nothing can stand on an archive: it has to promise, word for word, what firmware's function
-of its name does, and to do nothing but call that. The exceptions stand below with their reasons, and in
-docs/CONTRACTS.md.
+lent such memory and may refuse also needs `pub NAME_refused`: refused, all is as it was. Of a function that is lent a
+sink the theorem speaks of any two sinks, whatever writers they have (`OneBehind`). The contract of what is lent a
+struct has to be one record of specs/, which the theorem names. A symbol of the archive has no theorem of its own, since
+nothing can stand on an archive: it has to promise, word for word, what firmware's function of its name does, and to do
+nothing but call that. The exceptions stand below with their reasons, and in docs/CONTRACTS.md.
 """
 import pathlib
 import re
@@ -24,14 +24,17 @@ PUBLIC = {"node", "firmware", "frame", "check8", "window", "lent_window", "table
 RECORDS = "lent_window"  # lent as a struct: crates/lent_window/specs/Lending.antt
 ARCHIVE, BEHIND = "firmware_c", "firmware"  # the symbols, and the functions that they call
 EXCEPT = {
-    "lines_flush": "answers nothing and alters no lent memory",
+    "lines_flush": "answers nothing, and what it alters is the writer's to say",
     "lines_new": "what a writer does with its bytes is the writer's to say",
     "lines_put": "what a writer does with its bytes is the writer's to say",
     "lines_finish": "what a writer does with its bytes is the writer's to say",
     "intake_read_full": "how much a reader gives at a time is the reader's to say",
 }
 OUTSIDE = ": &mut Sink<"  # where text goes: a writer, and no lent memory
-WRITERS = "module _ (T : RattleType) (L : Laws T) (W : Write.Ghosts T.Denot) (D : Dict) where"  # every type of writer
+# every two types of writers: a theorem in such a module is of any two sinks
+WRITERS = ("module _ (T T' : RattleType) (L : Laws T) (L' : Laws T') (W : Write.Ghosts T.Denot)"
+           " (W' : Write.Ghosts T'.Denot)")
+BEHIND_SINK = r"OneBehind(?: \{[^}]*\})?\s+\(([^\s.()]+)\.Post T L W D\)\s+\(\1\.Post T' L' W' D'\)"
 REFUSES = {"Verdict", "Planned", "Arrived", "HandedOut", "Written", "Told"}  # and for C a number
 NO_REFUSAL = {"shelugvar_tick"}
 FUNCTION = re.compile(r'( *)pub (?:const |unsafe |extern "C" )*fn (\w+)(?:<[^>]*>)?\(')
@@ -112,21 +115,24 @@ def statements(proofs: list[str], name: str) -> list[Theorem]:
             for text in proofs for found in pattern.finditer(text)]
 
 
-def spoken_of(text: str) -> set[int]:
-    """Which arguments at exit a statement projects: `e.1.1.0` is the third."""
-    return {steps.count(".1") for steps in re.findall(r"(?<![\w.])e((?:\.1)*)\.0\b", text)}
+def leaves_out(theorem: Theorem, altered: list[int]) -> bool:
+    """Whether a statement projects not all of these arguments at exit, each time that it says what is left: `e.1.1.0`
+    is the third."""
+    said = theorem.stated.split("(λ e. ")[1:] or [""]
+    return any(set(altered) - {steps.count(".1") for steps in re.findall(r"(?<![\w.])e((?:\.1)*)\.0\b", text)}
+               for text in said)
 
 
 def over_contract(crate: str, name: str, theorem: Theorem, kind: str) -> bool:
     """Whether a theorem is of a kind and over the reading of the function's contract, which its file names. One that is
-    indented is over every type of writer, and assumes nothing else."""
-    post = r"([^\s.()]+)\.Post\b"
+    indented is of a function that is lent a sink: over every two types of writers, and it assumes nothing else."""
     if theorem.indent:
         opened = re.findall(r"^(?!--)\S.*", theorem.before, re.M)[-1:]
         if opened != [WRITERS]:
             return False
-        post = rf"\({post} T L W D\)"
-    found = re.match(rf"\s+{kind}(?: \{{[^}}]*\}})?\s+{post}", theorem.stated)
+        found = re.match(rf"\s+{BEHIND_SINK}", theorem.stated)
+    else:
+        found = re.match(rf"\s+{kind}(?: \{{[^}}]*\}})?\s+([^\s.()]+)\.Post\b", theorem.stated)
     reading = rf"^use Rattle\.{crate}\.proofs\.(?:\w+\.)*{name}\.Reads as (\S+)$"
     return bool(found) and found[1] in re.findall(reading, theorem.file, re.M)
 
@@ -140,7 +146,7 @@ def lacks(crate: str, one: Function, name: str, proofs: list[str]) -> list[str]:
         found = [it for it in statements(proofs, theorem) if over_contract(crate, one.name, it, kind)]
         if len(found) != 1:
             wrong.append(f"has no theorem {theorem} over its contract")
-        elif set(one.altered) - spoken_of(found[0].stated):
+        elif leaves_out(found[0], one.altered):
             wrong.append(f"{theorem} does not speak of all that it may alter")
     return wrong
 

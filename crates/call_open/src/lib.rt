@@ -22,8 +22,8 @@ use waiting::{acks, queues};
 // The host opens an end point: it becomes Enabled, and a sender's Reset waits.
 #[tactic(auto, unfolding(crate::specs::Opening::open_answer, crate::specs::Opening::open_after))]
 pub fn open(node: &mut [u64], book: &mut [u16], index: usize) -> Verdict
-    ensures value { result ≡ open_answer (bare node.old book.old) index }
-    ensures book_after { let x = bare node.old book.old in
+    ensures answer { result ≡ open_answer (bare node.old book.old) index }
+    ensures after { let x = bare node.old book.old in
         bare node.new book.new ≡ open_after x index result }
 {
     if heads::count(node) as usize <= index {
@@ -48,8 +48,8 @@ pub fn open(node: &mut [u64], book: &mut [u16], index: usize) -> Verdict
 // The host closes an end point: what of it waits, waits no more.
 #[tactic(auto, unfolding(crate::specs::Opening::close_answer, crate::specs::Opening::close_after))]
 pub fn close(node: &mut [u64], book: &mut [u16], index: usize) -> Verdict
-    ensures value { result ≡ close_answer (bare node.old book.old) index }
-    ensures book_after { let x = bare node.old book.old in
+    ensures answer { result ≡ close_answer (bare node.old book.old) index }
+    ensures after { let x = bare node.old book.old in
         bare node.new book.new ≡ close_after x index result }
 {
     if heads::count(node) as usize <= index {

@@ -34,9 +34,9 @@ pub fn store_need(table: &[u8]) -> Needed
 // The node is set up from a table.
 #[tactic(auto, unfolding(crate::specs::Setup::setup_answer, crate::specs::Setup::setup_after))]
 pub fn setup(node: &mut [u64], book: &mut [u16], store: &[u8], table: &[u8]) -> Verdict
-    ensures result_value { let x = stored node.old book.old store.now in
+    ensures answer { let x = stored node.old book.old store.now in
         result ≡ setup_answer x table.now }
-    ensures store_after { let x = stored node.old book.old store.now in
+    ensures after { let x = stored node.old book.old store.now in
         stored node.new book.new store.now ≡ setup_after x table.now result }
 {
     if !table::is_good(table) {

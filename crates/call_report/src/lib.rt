@@ -70,8 +70,8 @@ fn data_start(book: &[u16], i: u8, r: Run, u: u16) -> Starting
 // The timer in cell g of entry i starts at T, which is answered.
 #[tactic(auto, unfolding(end_points::specs::Ends::end_of))]
 fn start_data(node: &[u64], book: &mut [u16], i: u8, g: u16) -> u16
-    ensures value { result ≡ (end_of node.now i).entry.timeout }
-    ensures book_after { book.new ≡ set book.old (timer_at g) (later (clock_in node.now) result) }
+    ensures answer { result ≡ (end_of node.now i).entry.timeout }
+    ensures after { book.new ≡ set book.old (timer_at g) (later (clock_in node.now) result) }
 {
     let timeout = load_entry(node, i as usize).timeout;
     cells::put_timer(book, g, timing::later(timing::clock(node), timeout));
@@ -151,8 +151,8 @@ fn start(node: &mut [u64], book: &mut [u16], i: u8, u: u16)
 // The end of the frame under way: Passed, or refusal 20 where none is.
 #[tactic(auto, unfolding(crate::specs::Reporting::report_answer, crate::specs::Reporting::report_after))]
 pub fn report(node: &mut [u64], book: &mut [u16]) -> Verdict
-    ensures value { result ≡ report_answer (bare node.old book.old) }
-    ensures book_after { bare node.new book.new
+    ensures answer { result ≡ report_answer (bare node.old book.old) }
+    ensures after { bare node.new book.new
         ≡ report_after (bare node.old book.old) result }
 {
     let u = port::under(book);

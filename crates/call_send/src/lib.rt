@@ -53,9 +53,9 @@ pub fn send(
     index: usize,
     payload: &[u8],
 ) -> Verdict
-    ensures result_value { let x = stored node.old book.old store.old in
+    ensures answer { let x = stored node.old book.old store.old in
         result ≡ send_answer x index payload.now }
-    ensures store_after { let x = stored node.old book.old store.old in
+    ensures after { let x = stored node.old book.old store.old in
         stored node.new book.new store.new
         ≡ send_after x index payload.now result }
 {
@@ -81,9 +81,9 @@ pub fn urgent(
     index: usize,
     payload: &[u8],
 ) -> Verdict
-    ensures result_value { let x = stored node.old book.old store.old in
+    ensures answer { let x = stored node.old book.old store.old in
         result ≡ urgent_answer x index payload.now }
-    ensures store_after { let x = stored node.old book.old store.old in
+    ensures after { let x = stored node.old book.old store.old in
         stored node.new book.new store.new
         ≡ urgent_after x index payload.now result }
 {

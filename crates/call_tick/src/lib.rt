@@ -204,8 +204,8 @@ fn scan(node: &mut [u64], book: &mut [u16], c: u16) -> u16
 // A tick. Answers 16 bits, entry 0 lowest: the entries that became Enabled in it.
 #[tactic(auto, unfolding(crate::specs::Ticking::tick_both, crate::specs::Ticking::tick_answer, crate::specs::Ticking::tick_after))]
 pub fn tick(node: &mut [u64], book: &mut [u16]) -> u16
-    ensures value { result ≡ tick_answer (bare node.old book.old) }
-    ensures book_after { bare node.new book.new
+    ensures answer { result ≡ tick_answer (bare node.old book.old) }
+    ensures after { bare node.new book.new
         ≡ tick_after (bare node.old book.old) }
 {
     let c = timing::later(timing::clock(node), 1);

@@ -133,7 +133,7 @@ pub fn tick_slots(
     mut failing: bool,
     mut least: u16,
 ) -> Timers
-    ensures least_value { let t = result in
+    ensures after { let t = result in
         record { book = book.new; failing = t.failing; running = t.running; least = t.least }
         ≡ ticked c i e failing book.old least }
     ensures running_bound { result.running < 256 }

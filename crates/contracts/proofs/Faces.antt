@@ -42,7 +42,7 @@ use Rattle.lines.proofs.answers.handed.Reads as lines_handed
 use Rattle.lines.proofs.answers.arrived.Reads as lines_arrived
 use Rattle.end_points.specs.Lent.{Lent, bare, stored, whole}
 use Rattle.contracts.proofs.Stores.{but_store}
-use Rattle.contracts.specs.Outcome.{One, OneAnswer}
+use Rattle.contracts.specs.Outcome.{One, OneAnswer, OneBehind}
 
 -- ---- firmware
 
@@ -107,50 +107,51 @@ shelugvar_store_need_one u v a r₁ r₂ e₁ e₂ p q = (cc (p.0, q.0), cc (p.1
 pub shelugvar_version_one : OneAnswer shelugvar_version.Post (λ r. r)
 shelugvar_version_one u v a r₁ r₂ e₁ e₂ p q = cc
 
--- ---- lines: over every type W of sinks' writers
+-- ---- lines: over every two types of sinks' writers
 
-module _ (T : RattleType) (L : Laws T) (W : Write.Ghosts T.Denot) (D : Dict) where
-  pub lines_text_one : One (lines_text.Post T L W D) (λ e. e.1.0.now)
-  lines_text_one u v a r₁ r₂ e₁ e₂ p q = (cc (p.0, q.0), cc (p.1.0, q.1.0))
+module _ (T T' : RattleType) (L : Laws T) (L' : Laws T') (W : Write.Ghosts T.Denot) (W' : Write.Ghosts T'.Denot)
+    (D D' : Dict) where
+  pub lines_text_one : OneBehind (lines_text.Post T L W D) (lines_text.Post T' L' W' D') (λ e. e.1.0.now) (λ e. e.1.0.now)
+  lines_text_one u v s t a r₁ r₂ e₁ e₂ p q = (cc (p.0, q.0), cc (p.1.0, q.1.0))
 
-  pub lines_number_one : One (lines_number.Post T L W D) (λ e. e.1.0.now)
-  lines_number_one u v a r₁ r₂ e₁ e₂ p q = (cc (p.0, q.0), cc (p.1.0, q.1.0))
+  pub lines_number_one : OneBehind (lines_number.Post T L W D) (lines_number.Post T' L' W' D') (λ e. e.1.0.now) (λ e. e.1.0.now)
+  lines_number_one u v s t a r₁ r₂ e₁ e₂ p q = (cc (p.0, q.0), cc (p.1.0, q.1.0))
 
-  pub lines_value_one : One (lines_value.Post T L W D) (λ e. e.1.0.now)
-  lines_value_one u v a r₁ r₂ e₁ e₂ p q = (cc (p.0, q.0), cc (p.1.0, q.1.0))
+  pub lines_value_one : OneBehind (lines_value.Post T L W D) (lines_value.Post T' L' W' D') (λ e. e.1.0.now) (λ e. e.1.0.now)
+  lines_value_one u v s t a r₁ r₂ e₁ e₂ p q = (cc (p.0, q.0), cc (p.1.0, q.1.0))
 
-  pub lines_numbers_one : One (lines_numbers.Post T L W D) (λ e. e.1.0.now)
-  lines_numbers_one u v a r₁ r₂ e₁ e₂ p q = (cc (p.0, q.0), cc (p.1.0, q.1.0))
+  pub lines_numbers_one : OneBehind (lines_numbers.Post T L W D) (lines_numbers.Post T' L' W' D') (λ e. e.1.0.now) (λ e. e.1.0.now)
+  lines_numbers_one u v s t a r₁ r₂ e₁ e₂ p q = (cc (p.0, q.0), cc (p.1.0, q.1.0))
 
-  pub lines_values_one : One (lines_values.Post T L W D) (λ e. e.1.0.now)
-  lines_values_one u v a r₁ r₂ e₁ e₂ p q = (cc (p.0, q.0), cc (p.1.0, q.1.0))
+  pub lines_values_one : OneBehind (lines_values.Post T L W D) (lines_values.Post T' L' W' D') (λ e. e.1.0.now) (λ e. e.1.0.now)
+  lines_values_one u v s t a r₁ r₂ e₁ e₂ p q = (cc (p.0, q.0), cc (p.1.0, q.1.0))
 
-  pub lines_refused_one : One (lines_refused.Post T L W D) (λ e. e.1.0.now)
-  lines_refused_one u v a r₁ r₂ e₁ e₂ p q = (cc (p.0, q.0), cc (p.1.0, q.1.0))
+  pub lines_refused_one : OneBehind (lines_refused.Post T L W D) (lines_refused.Post T' L' W' D') (λ e. e.1.0.now) (λ e. e.1.0.now)
+  lines_refused_one u v s t a r₁ r₂ e₁ e₂ p q = (cc (p.0, q.0), cc (p.1.0, q.1.0))
 
-  pub lines_torn_one : One (lines_torn.Post T L W D) (λ e. e.1.0.now)
-  lines_torn_one u v a r₁ r₂ e₁ e₂ p q = (cc (p.0, q.0), cc (p.1.0, q.1.0))
+  pub lines_torn_one : OneBehind (lines_torn.Post T L W D) (lines_torn.Post T' L' W' D') (λ e. e.1.0.now) (λ e. e.1.0.now)
+  lines_torn_one u v s t a r₁ r₂ e₁ e₂ p q = (cc (p.0, q.0), cc (p.1.0, q.1.0))
 
-  pub lines_unknown_one : One (lines_unknown.Post T L W D) (λ e. e.1.0.now)
-  lines_unknown_one u v a r₁ r₂ e₁ e₂ p q = (cc (p.0, q.0), cc (p.1.0, q.1.0))
+  pub lines_unknown_one : OneBehind (lines_unknown.Post T L W D) (lines_unknown.Post T' L' W' D') (λ e. e.1.0.now) (λ e. e.1.0.now)
+  lines_unknown_one u v s t a r₁ r₂ e₁ e₂ p q = (cc (p.0, q.0), cc (p.1.0, q.1.0))
 
-  pub lines_refused_all_one : One (lines_refused_all.Post T L W D) (λ e. e.1.0.now)
-  lines_refused_all_one u v a r₁ r₂ e₁ e₂ p q = (cc (p.0, q.0), cc (p.1.0, q.1.0))
+  pub lines_refused_all_one : OneBehind (lines_refused_all.Post T L W D) (lines_refused_all.Post T' L' W' D') (λ e. e.1.0.now) (λ e. e.1.0.now)
+  lines_refused_all_one u v s t a r₁ r₂ e₁ e₂ p q = (cc (p.0, q.0), cc (p.1.0, q.1.0))
 
-  pub lines_done_one : One (lines_done.Post T L W D) (λ e. e.1.0.now)
-  lines_done_one u v a r₁ r₂ e₁ e₂ p q = (cc (p.0, q.0), cc (p.1.0, q.1.0))
+  pub lines_done_one : OneBehind (lines_done.Post T L W D) (lines_done.Post T' L' W' D') (λ e. e.1.0.now) (λ e. e.1.0.now)
+  lines_done_one u v s t a r₁ r₂ e₁ e₂ p q = (cc (p.0, q.0), cc (p.1.0, q.1.0))
 
-  pub lines_verdict_one : One (lines_verdict.Post T L W D) (λ e. e.1.0.now)
-  lines_verdict_one u v a r₁ r₂ e₁ e₂ p q = (cc (p.0, q.0), cc (p.1.0, q.1.0))
+  pub lines_verdict_one : OneBehind (lines_verdict.Post T L W D) (lines_verdict.Post T' L' W' D') (λ e. e.1.0.now) (λ e. e.1.0.now)
+  lines_verdict_one u v s t a r₁ r₂ e₁ e₂ p q = (cc (p.0, q.0), cc (p.1.0, q.1.0))
 
-  pub lines_counted_one : One (lines_counted.Post T L W D) (λ e. e.1.0.now)
-  lines_counted_one u v a r₁ r₂ e₁ e₂ p q = (cc (p.0, q.0), cc (p.1.0, q.1.0))
+  pub lines_counted_one : OneBehind (lines_counted.Post T L W D) (lines_counted.Post T' L' W' D') (λ e. e.1.0.now) (λ e. e.1.0.now)
+  lines_counted_one u v s t a r₁ r₂ e₁ e₂ p q = (cc (p.0, q.0), cc (p.1.0, q.1.0))
 
-  pub lines_planned_one : One (lines_planned.Post T L W D) (λ e. e.1.0.now)
-  lines_planned_one u v a r₁ r₂ e₁ e₂ p q = (cc (p.0, q.0), cc (p.1.0, q.1.0))
+  pub lines_planned_one : OneBehind (lines_planned.Post T L W D) (lines_planned.Post T' L' W' D') (λ e. e.1.0.now) (λ e. e.1.0.now)
+  lines_planned_one u v s t a r₁ r₂ e₁ e₂ p q = (cc (p.0, q.0), cc (p.1.0, q.1.0))
 
-  pub lines_handed_one : One (lines_handed.Post T L W D) (λ e. e.1.0.now)
-  lines_handed_one u v a r₁ r₂ e₁ e₂ p q = (cc (p.0, q.0), cc (p.1.0, q.1.0))
+  pub lines_handed_one : OneBehind (lines_handed.Post T L W D) (lines_handed.Post T' L' W' D') (λ e. e.1.0.now) (λ e. e.1.0.now)
+  lines_handed_one u v s t a r₁ r₂ e₁ e₂ p q = (cc (p.0, q.0), cc (p.1.0, q.1.0))
 
-  pub lines_arrived_one : One (lines_arrived.Post T L W D) (λ e. e.1.0.now)
-  lines_arrived_one u v a r₁ r₂ e₁ e₂ p q = (cc (p.0, q.0), cc (p.1.0, q.1.0))
+  pub lines_arrived_one : OneBehind (lines_arrived.Post T L W D) (lines_arrived.Post T' L' W' D') (λ e. e.1.0.now) (λ e. e.1.0.now)
+  lines_arrived_one u v s t a r₁ r₂ e₁ e₂ p q = (cc (p.0, q.0), cc (p.1.0, q.1.0))

@@ -40,7 +40,7 @@ use Rattle.trace_step.proofs.step.Reads as trace_step_step
 use Rattle.trace_lines.proofs.begun.Reads as trace_lines_begun
 use Rattle.trace_lines.proofs.replay.Reads as trace_lines_replay
 use Rattle.contracts.specs.Gives.{Makes, Steps, Replays}
-use Rattle.contracts.specs.Outcome.{One, OneAnswer, Spares, ToldRefused}
+use Rattle.contracts.specs.Outcome.{One, OneAnswer, OneBehind, Spares, ToldRefused}
 use Rattle.contracts.proofs.Refused.{arrival_spared}
 
 -- ---- one outcome: the file
@@ -79,17 +79,17 @@ pub trace_step_step_one : One trace_step_step.Post (λ e. whole e.0.now e.1.0.no
     e.1.1.1.0.now)
 trace_step_step_one u v a r₁ r₂ e₁ e₂ p q = (cc (p.0, q.0), cc (p.1, q.1))
 
-module _ (T : RattleType) (L : Laws T) (W : Write.Ghosts T.Denot) (D : Dict) where
-  pub trace_lines_begun_one : One (trace_lines_begun.Post T L W D) (λ e. e.1.0.now)
-  trace_lines_begun_one u v a r₁ r₂ e₁ e₂ p q = (cc (p.0, q.0), cc (p.1.0, q.1.0))
+module _ (T T' : RattleType) (L : Laws T) (L' : Laws T') (W : Write.Ghosts T.Denot) (W' : Write.Ghosts T'.Denot)
+    (D D' : Dict) where
+  pub trace_lines_begun_one :
+      OneBehind (trace_lines_begun.Post T L W D) (trace_lines_begun.Post T' L' W' D') (λ e. e.1.0.now) (λ e. e.1.0.now)
+  trace_lines_begun_one u v s t a r₁ r₂ e₁ e₂ p q = (cc (p.0, q.0), cc (p.1.0, q.1.0))
 
-  pub trace_lines_replay_one : One {M = List ℕ × Lent} (trace_lines_replay.Post T L W D)
-      (λ e. (
-        e.1.0.now,
-        whole e.1.1.1.1.0.now e.1.1.1.1.1.0.now e.1.1.1.1.1.1.0.now
-            e.1.1.1.1.1.1.1.0.now,
-      ))
-  trace_lines_replay_one u v a r₁ r₂ e₁ e₂ p q = (cc (p.0, q.0), cc (p.1.0, q.1.0, p.1.1.0, q.1.1.0))
+  pub trace_lines_replay_one : OneBehind {M = List ℕ × Lent}
+      (trace_lines_replay.Post T L W D) (trace_lines_replay.Post T' L' W' D')
+      (λ e. (e.1.0.now, whole e.1.1.1.1.0.now e.1.1.1.1.1.0.now e.1.1.1.1.1.1.0.now e.1.1.1.1.1.1.1.0.now))
+      (λ e. (e.1.0.now, whole e.1.1.1.1.0.now e.1.1.1.1.1.0.now e.1.1.1.1.1.1.0.now e.1.1.1.1.1.1.1.0.now))
+  trace_lines_replay_one u v s t a r₁ r₂ e₁ e₂ p q = (cc (p.0, q.0), cc (p.1.0, q.1.0, p.1.1.0, q.1.1.0))
 
 -- ---- a record's call that is refused alters nothing
 

@@ -36,6 +36,13 @@ abbrev pub OneAfter : {L A R E M : Type 0} → (L → A → R → E → Type 0) 
 OneAfter {L} {A} {R} {E} Post lent =
     (u v : L) (a : A) (r₁ r₂ : R) (e₁ e₂ : E) → Post u a r₁ e₁ → Post v a r₂ e₂ → lent e₁ ≡ lent e₂
 
+-- of a function that is lent a sink before all else: whatever the two sinks are, and whatever writers they have [O1]
+abbrev pub OneBehind : {L L' S S' A R E E' M : Type 0}
+    → (L → S × A → R → E → Type 0) → (L' → S' × A → R → E' → Type 0) → (E → M) → (E' → M) → Type 0
+OneBehind {L} {L'} {S} {S'} {A} {R} {E} {E'} Post Post' lent lent' =
+    (u : L) (v : L') (s : S) (t : S') (a : A) (r₁ r₂ : R) (e₁ : E) (e₂ : E')
+    → Post u (s, a) r₁ e₁ → Post' v (t, a) r₂ e₂ → (r₁ ≡ r₂) × (lent e₁ ≡ lent' e₂)
+
 -- ---- refused calls
 
 -- where the answer is one that refuses, all memory that was lent and may alter is as it was [R44]

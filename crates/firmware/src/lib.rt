@@ -1,5 +1,6 @@
-// What the drive box's C firmware calls, on numbers and byte slices: the frame reader, the byte at fault, the frame
-// writer and the window test here, the whole node in nodes.rt. `include/shelugvar.h` declares them.
+// What the drive box's C firmware calls, by the symbols of `firmware_c`, on numbers and byte slices: the frame reader,
+// the byte at fault, the frame writer and the window test here, the whole node in nodes.rt. `include/shelugvar.h`
+// declares the symbols.
 // Proved: each is the frame's, the window's or the node's own definition, for every input (specs/ says in which
 // numbers); a refused call alters nothing. That the header's declarations are these functions nothing proves.
 #![tactic(auto)]
