@@ -22,6 +22,9 @@ use trace::layout;
 use trace_step::{Told, step};
 use units::refusals::{Refusal, Verdict};
 
+// The record that has the table.
+const FIRST: usize = 0;
+
 // What a call answered, each number a value.
 fn told<W: Write>(to: &mut Sink<W>, out: &mut [u8], at: usize, t: Told) -> usize
     ensures answer { result ≡ (valued_all (page out.old at) (told_of t)).taken }
@@ -128,7 +131,7 @@ pub fn replay<W: Write>(
     while k < n {
         let t = step(node, book, store, buffer, file, k);
         next = line(to, out, next, file, k, t);
-        if k == 0 && is_refused(t) {
+        if k == FIRST && is_refused(t) {
             return next;
         }
         k += 1;

@@ -17,7 +17,7 @@ use Rattle.trace_step.specs.Steps.{step_of}
 use Rattle.trace_step.specs.Replay.{state_after, told_at, is_refused, made_of}
 use Rattle.trace_lines.specs.Lines.{lines_text, line_text, replay_text, line_of, kind_of, lines_after, replay_page, replay_lent}
 use Rattle.trace_lines.proofs.replay.Invariants.{Replayed}
-use Rattle.trace_lines.proofs.replay.Goals.{else-k-eq0-via-then-k-eq0+else-is_refused, else-k-eq0-via-else-k-eq0}
+use Rattle.trace_lines.proofs.replay.Goals.{else-k-eq-FIRST-via-then-k-eq-FIRST+else-is_refused, else-k-eq-FIRST-via-else-k-eq-FIRST}
 use Rattle.trace_lines.proofs.replay.Goals as goal
 
 -- one record more
@@ -86,7 +86,7 @@ returns-then-is_refused-clause-answer g c =
     let r = c.loop-k.invariant.replayed in
     let s = c.step-t.ensures in
     let line = pages.whole c.line-next.ensures.answer c.line-next.ensures.after in
-    let first = c.if-k-eq0.true in
+    let first = c.if-k-eq-FIRST.true in
     let t = sym (first_told r s.answer s.after line first) ∙ sym c.is_refused.ensures ∙ c.if-is_refused.true in
     let good = r.good in
     let lines = rw first at (lines_more r s.answer s.after line) in
@@ -98,7 +98,7 @@ returns-then-is_refused-clause-text g c =
     let r = c.loop-k.invariant.replayed in
     let s = c.step-t.ensures in
     let line = pages.whole c.line-next.ensures.answer c.line-next.ensures.after in
-    let first = c.if-k-eq0.true in
+    let first = c.if-k-eq-FIRST.true in
     let t = sym (first_told r s.answer s.after line first) ∙ sym c.is_refused.ensures ∙ c.if-is_refused.true in
     let good = r.good in
     let lines = rw first at (lines_more r s.answer s.after line) in
@@ -110,7 +110,7 @@ returns-then-is_refused-clause-after g c =
     let r = c.loop-k.invariant.replayed in
     let s = c.step-t.ensures in
     let line = pages.whole c.line-next.ensures.answer c.line-next.ensures.after in
-    let first = c.if-k-eq0.true in
+    let first = c.if-k-eq-FIRST.true in
     let t = sym (first_told r s.answer s.after line first) ∙ sym c.is_refused.ensures ∙ c.if-is_refused.true in
     let good = r.good in
     let state = rw first at (state_more r s.answer s.after line) in
@@ -131,9 +131,9 @@ loop-k-preserved g c =
             lines = lines_more r s.answer s.after line;
             state = state_more r s.answer s.after line;
             goes_on = λ _.
-                elim c.else-k-eq0.branch [
-                  | else-k-eq0-via-then-k-eq0+else-is_refused w ↦ sym (first_told r s.answer s.after line w.if-k-eq0.true) ∙ sym w.is_refused.ensures ∙ w.if-is_refused.false
-                  | else-k-eq0-via-else-k-eq0 w ↦ r.goes_on (omega (arith, w.if-k-eq0.false))
+                elim c.else-k-eq-FIRST.branch [
+                  | else-k-eq-FIRST-via-then-k-eq-FIRST+else-is_refused w ↦ sym (first_told r s.answer s.after line w.if-k-eq-FIRST.true) ∙ sym w.is_refused.ensures ∙ w.if-is_refused.false
+                  | else-k-eq-FIRST-via-else-k-eq-FIRST w ↦ r.goes_on (omega (arith, w.if-k-eq-FIRST.false))
                 ];
             text_long = c.line-next.auto.out ∙ r.text_long;
             store_long = c.step-t.auto.store ∙ r.store_long;
@@ -187,7 +187,7 @@ returns-then-is_refused-clause-written g c room =
     let r = c.loop-k.invariant.replayed in
     let s = c.step-t.ensures in
     let line = pages.whole c.line-next.ensures.answer c.line-next.ensures.after in
-    let first = c.if-k-eq0.true in
+    let first = c.if-k-eq-FIRST.true in
     let t = sym (first_told r s.answer s.after line first) ∙ sym c.is_refused.ensures ∙ c.if-is_refused.true in
     let good = r.good in
     let said = said_more r s.answer s.after line room c.line-next.auto.out (c.loop-k.invariant.said room) c.line-next.ensures.written in
