@@ -7,7 +7,7 @@ PROGRAM is tests/costs.c, built; OBJDUMP reads x86-64; RUN.. is what runs x86-64
 deepest way through the machine code, which no stack that PROGRAM painted may exceed; instructions are the difference of
 a run with the call and one without, by tools/icount. A stack has to be as the table has it; instructions may be 20 or
 1 in 100 off, since an emulator counts whole runs of instructions. And the page names the registers that the code uses
-beyond the integer ones.
+beyond the integer ones, and no instruction is one that the first x86-64 processors lacked.
 """
 import concurrent.futures
 import os
@@ -60,6 +60,13 @@ ADD = re.compile(r"\tadd +\$0x[0-9a-f]+,%rsp$")
 UNKNOWN = re.compile(r"\t(?!cmp|test).*,%rsp$|\tcall +\*")
 RED = re.compile(r"-0x([0-9a-f]+)\(%rsp")
 REGISTER = re.compile(r"%((?:[xyz]?mm|k|st)\d*)\b")
+MNEMONIC = re.compile(r"^ +[0-9a-f]+:\t(?:(?:data16|cs|rep\w*|lock|notrack) )*([a-z]\w*)")
+# what came after them: SSE3, SSSE3, SSE4, POPCNT and LZCNT, MOVBE, AVX, BMI, ADX; `tzcnt` is read as `bsf` there
+LATER = re.compile(r"""(?x) movddup | movs[hl]dup | addsub\w+ | h(add|sub)p[sd] | lddqu | p(abs|sign)[bwd] | ph(add|sub)\w+
+    | pshufb | palignr | pmaddubsw | pmulhrsw | p?blend\w+ | pextr[bdq] | pinsr[bdq] | (extract|insert)ps | pmov[sz]x\w+
+    | ptest | pmul(ld|dq) | pcmp(eqq|gtq|[ei]str\w) | p(min|max)(sb|uw|[su]d) | packusdw | round[ps][sd] | dpp[sd]
+    | mpsadbw | phminposuw | movntdqa | crc32\w? | popcnt\w? | lzcnt\w? | movbe\w? | v\w+ | andn\w? | bextr\w?
+    | bls(i|r|msk)\w? | bzhi\w? | mulx\w? | p(dep|ext)[lq]? | rorx\w? | (sar|shl|shr)x\w? | ad[co]x\w?""")
 
 
 class Function:
@@ -115,6 +122,13 @@ def unnamed(listing: list[str], page: str) -> list[str]:
     last = len(used) - 1
     fits = used == {f"xmm{k}" for k in range(last + 1)} and f"`xmm0` to `xmm{last}`" in page
     return [] if fits else [f"docs/C.md does not name the registers {sorted(used)}"]
+
+
+def later(listing: list[str]) -> list[str]:
+    """Which instructions not every x86-64 processor has."""
+    used = {found[1] for line in listing if (found := MNEMONIC.match(line))}
+    return [f"the archive's {name} is none of the first x86-64 processors'" for name in sorted(used)
+            if LATER.fullmatch(name)]
 
 
 def stacks(lines: list[str], found: dict[str, Function]) -> tuple[dict[str, int], list[str]]:
@@ -179,7 +193,7 @@ def main() -> int:
     page = PAGE.read_text(encoding="utf-8")
     listing = printed(objdump, "-dr", "--no-show-raw-insn", archive)
     rows, wrong = measured(run, program, listing)
-    wrong += unnamed(listing, page)
+    wrong += unnamed(listing, page) + later(listing)
     before, rest = page.split(BEGIN)
     table, after = rest.split(END)
     if write:
@@ -190,7 +204,7 @@ def main() -> int:
     print("\n".join(wrong), end="\n" if wrong else "")
     if wrong:
         print("tests/costs --write writes the table")
-    print(f"{max(0, len(rows) + 1 - len(wrong))} passed, {len(wrong)} failed")
+    print(f"{max(0, len(rows) + 2 - len(wrong))} passed, {len(wrong)} failed")
     return 1 if wrong else 0
 
 

@@ -45,7 +45,8 @@ without_proved() {
 		/^(only=0 proved=0$|so far: )/d'
 }
 
-# build_archive: proves and builds the archive, where it is not there or older than the crates.
+# build_archive: proves and builds the archive, where it is not there or older than the crates. It is for every x86-64
+# processor: what rt takes where nothing is said wants one of about 2009 or later, and an archive does not look.
 build_archive() {
 	local made=crates/firmware_c/out/libfirmware_c.a
 	[ ! -f "$archive" ] || [ -n "$(newer_than "$archive")" ] || return 0
@@ -53,7 +54,7 @@ build_archive() {
 	# as old as the build's start in the end, so that what is edited meanwhile counts as newer
 	touch target/started
 	rm -f "$made"
-	(cd crates/firmware_c && rt lib </dev/null 2>&1) | without_proved
+	(cd crates/firmware_c && rt lib --cpu=x86-64 </dev/null 2>&1) | without_proved
 	[ "${PIPESTATUS[0]}" = 0 ] || return 1
 	cp "$made" "$archive.new" && touch -r target/started "$archive.new" && mv "$archive.new" "$archive"
 }
