@@ -62,11 +62,12 @@ RED = re.compile(r"-0x([0-9a-f]+)\(%rsp")
 REGISTER = re.compile(r"%((?:[xyz]?mm|k|st)\d*)\b")
 MNEMONIC = re.compile(r"^ +[0-9a-f]+:\t(?:(?:data16|cs|rep\w*|lock|notrack) )*([a-z]\w*)")
 # what came after them: SSE3, SSSE3, SSE4, POPCNT and LZCNT, MOVBE, AVX, BMI, ADX; `tzcnt` is read as `bsf` there
-LATER = re.compile(r"""(?x) movddup | movs[hl]dup | addsub\w+ | h(add|sub)p[sd] | lddqu | p(abs|sign)[bwd] | ph(add|sub)\w+
-    | pshufb | palignr | pmaddubsw | pmulhrsw | p?blend\w+ | pextr[bdq] | pinsr[bdq] | (extract|insert)ps | pmov[sz]x\w+
-    | ptest | pmul(ld|dq) | pcmp(eqq|gtq|[ei]str\w) | p(min|max)(sb|uw|[su]d) | packusdw | round[ps][sd] | dpp[sd]
-    | mpsadbw | phminposuw | movntdqa | crc32\w? | popcnt\w? | lzcnt\w? | movbe\w? | v\w+ | andn\w? | bextr\w?
-    | bls(i|r|msk)\w? | bzhi\w? | mulx\w? | p(dep|ext)[lq]? | rorx\w? | (sar|shl|shr)x\w? | ad[co]x\w?""")
+LATER = re.compile(r"""(?x)
+    movddup | movs[hl]dup | addsub\w+ | h(add|sub)p[sd] | lddqu | p(abs|sign)[bwd] | ph(add|sub)\w+ | pshufb | palignr
+    | pmaddubsw | pmulhrsw | p?blend\w+ | pextr[bdq] | pinsr[bdq] | (extract|insert)ps | pmov[sz]x\w+ | ptest
+    | pmul(ld|dq) | pcmp(eqq|gtq|[ei]str\w) | p(min|max)(sb|uw|[su]d) | packusdw | round[ps][sd] | dpp[sd] | mpsadbw
+    | phminposuw | movntdqa | crc32\w? | popcnt\w? | lzcnt\w? | movbe\w? | v\w+ | andn\w? | bextr\w? | bls(i|r|msk)\w?
+    | bzhi\w? | mulx\w? | p(dep|ext)[lq]? | rorx\w? | (sar|shl|shr)x\w? | ad[co]x\w?""")
 
 
 class Function:

@@ -2,7 +2,6 @@
 use Rattle.std.proofs.Common.{◌≡◌, ℕ, Bool, true, false, refl, arith}
 use Rattle.units.specs.Refusals.{pick}
 use Rattle.end_points.specs.declared.Run.{Run}
-use Rattle.arrive_ack.specs.declared.Tally.{Tally}
 use Rattle.arrive_ack.specs.declared.Tally.TheVariants as tally
 use Rattle.arrive_ack.specs.Acking.{counts, passing, acked_run, tallied}
 

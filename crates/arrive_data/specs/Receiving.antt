@@ -1,6 +1,6 @@
 -- A Reset, Data or an Urgent taken in by a receiver: what it was, and what all that was lent holds afterwards. Cited
 -- by arrival. Assumes nothing.
-use Rattle.std.specs.Prelude.{ℕ, ◌+◌, ◌*◌, List, [], ◌∷◌, length, set}
+use Rattle.std.specs.Prelude.{ℕ, ◌+◌, List, [], ◌∷◌, length, set}
 use Rattle.std.proofs.lemmas.List.Edits.{sets}
 use Rattle.units.specs.Refusals.{pick}
 use Rattle.memory.specs.Layout.{ack_word, entry_at, start_word, low_marks_word, high_marks_word, length_at}

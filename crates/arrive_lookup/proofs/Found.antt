@@ -1,20 +1,18 @@
 -- On an index that says what the table does the entry found is the first that fits: what is found fits, and an entry that fits alone is
 -- found. Assumes nothing.
-use Prim.Native.Nat.{ℕ, zero, ◌≤◌, ◌<◌, zero-le}
+use Prim.Native.Nat.{ℕ, ◌<◌, zero-le}
 use mathlib.Core.Bool.{Bool, true, false, ◌&&◌, true≢false}
 use mathlib.Core.List.{List}
-use mathlib.Core.Path.{◌≡◌, refl, sym, ap, ap₂, subst, ◌∙◌}
+use mathlib.Core.Path.{◌≡◌, refl, sym, ap₂, ◌∙◌}
 use native.Mathlib.Omega.{arith}
 use lib.Dec.{eqb, ltb}
 use borrow.Author.Tests.{eq-eqb, eqb-true, lt-ltb, ltb-true}
-use Rattle.frame.specs.declared.FrameType.{FrameType}
 use Rattle.table.specs.declared.Entry.{Entry}
 use Rattle.table.proofs.Every.{both}
 use Rattle.end_points.specs.Ends.{load_entry}
 use Rattle.end_points.specs.Heads.{count_in}
 use Rattle.end_points.specs.States.{is_sends}
-use Rattle.arrive_lookup.specs.Lookup.{Indexed, listed, first_from, entry_for}
-use Rattle.frame.specs.Types.{for_sender}
+use Rattle.arrive_lookup.specs.Lookup.{Indexed, listed, first_from}
 use Rattle.arrive_lookup.specs.Fitting.{same, fits}
 use Rattle.arrive_lookup.proofs.First.{first_holds, first_is, first_ext}
 

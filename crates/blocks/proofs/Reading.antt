@@ -1,10 +1,10 @@
 -- What is read out of a block is what it was made of, whatever stands behind it. Assumes nothing.
 use mathlib.Core.Path.{◌≡◌, refl, ap, ◌∙◌}
 use mathlib.Core.List.{List, [], ◌∷◌, ◌++◌, append_assoc}
-use Prim.Native.Nat.{ℕ, suc, ◌+◌, ◌*◌, ◌-◌, ◌/◌, ◌%◌, ◌≤◌}
+use Prim.Native.Nat.{ℕ, suc, ◌+◌, ◌*◌, ◌-◌, ◌/◌, ◌%◌}
 use native.Mathlib.Omega.{arith}
 use lib.ListN.{length, get_or, drop, length-append}
-use lib.Seq.{sets, sets-eq, get_or-append-add, append_snoc, take_at, drop_at}
+use lib.Seq.{sets-eq, get_or-append-add, append_snoc, take_at, drop_at}
 use Rattle.units.specs.Bytes.{get16_of, get32_of, be16, be32}
 use Rattle.blocks.specs.Blocks.{offsets, joined_up, block_of}
 use Rattle.blocks.specs.Reading.{payload_in, payloads_in, read_block, ReadsBack}

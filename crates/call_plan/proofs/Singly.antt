@@ -1,17 +1,15 @@
 -- A plan is so many single sends (specs/Planning.antt). Assumes nothing.
-use Prim.Native.Nat.{ℕ, zero, suc, ◌+◌, ◌≤◌, ◌<◌}
-use mathlib.Core.Path.{◌≡◌, refl, sym, ap, subst, ◌∙◌}
+use Prim.Native.Nat.{ℕ, zero, suc, ◌+◌, ◌<◌}
+use mathlib.Core.Path.{◌≡◌, refl}
 use mathlib.Core.Bool.{Bool, true, false}
 use mathlib.Core.List.{List, [], ◌∷◌}
 use native.Mathlib.Omega.{arith}
-use lib.ListN.{length}
 use Rattle.units.specs.Refusals.{pick}
 use Rattle.units.specs.declared.refusals.Refusal.TheVariants as refusal
 use Rattle.units.specs.declared.refusals.Verdict.{Verdict}
 use Rattle.units.specs.declared.refusals.Verdict.TheVariants.{Passed, Refused}
 use Rattle.blocks.specs.Reading.{is_plan, read_block}
 use Rattle.end_points.specs.Lent.{Lent}
-use Rattle.end_points.specs.declared.answers.Planned.{Planned}
 use Rattle.end_points.specs.declared.answers.Planned.TheVariants as planned
 use Rattle.call_send.specs.Sending.{send_answer, send_after}
 use Rattle.call_plan.specs.Planning.{InOrder, goes_on, sent_in_order, sent_block, plan_answer, plan_after, sent_singly, answer_at, Singly, PlanIsSends}

@@ -3,16 +3,14 @@
 use Prim.Native.Nat.{ℕ, zero, suc, ◌+◌, ◌-◌, ◌%◌, ◌≤◌, ◌<◌}
 use mathlib.Core.Path.{◌≡◌, refl, sym, ap, ◌∙◌}
 use mathlib.Core.Logic.{◌≢◌}
-use mathlib.Core.Bool.{Bool, true, false}
 use mathlib.Core.List.{List, [], ◌∷◌}
 use native.Mathlib.Decide.{dec_lt}
 use native.Mathlib.Nat.{add-zero, mod-eq_of_lt}
 use native.Mathlib.Omega.{arith}
 use lib.ListN.{length, get_or, set, length-set, get_or-eq_default}
 use lib.Seq.{get_or-set_same, get_or-set_other, set-set, set_comm}
-use lib.Dec.{eqb}
 use borrow.Author.Tests.{lt-leb, ne_eqb}
-use Rattle.units.specs.Refusals.{pick, verdict}
+use Rattle.units.specs.Refusals.{verdict}
 use Rattle.units.specs.declared.refusals.Refusal.{Refusal}
 use Rattle.units.specs.declared.refusals.Verdict.TheVariants.{Passed, Refused}
 use Rattle.memory.specs.Layout.{node_words, entry_at, taken_word, accepted_word}
@@ -20,11 +18,10 @@ use Rattle.blocks.specs.Reading.{payload_in, payloads_in}
 use Rattle.end_points.specs.Ends.{word, state_of, load_entry, load_run, end_of}
 use Rattle.end_points.specs.Heads.{count_in, need_in}
 use Rattle.end_points.specs.Lent.{stored}
-use Rattle.end_points.specs.declared.State.{State}
 use Rattle.end_points.specs.declared.State.TheVariants.{Closed, Open}
 use Rattle.end_points.specs.declared.EndPoint.{EndPoint}
 use Rattle.call_send.specs.Sending.{send_tests, send_answer, send_after, sent_node, laid_book, laid_store}
-use Rattle.call_send.proofs.Passing.{MaySend, may_send}
+use Rattle.call_send.proofs.Passing.{may_send}
 use Rattle.call_plan.specs.Planning.{InOrder, sent_in_order}
 use Rattle.call_plan.specs.Steps.{advanced, accepted_node}
 

@@ -1,8 +1,5 @@
 -- One outcome: the base: units, the check byte, the window, the table, frames. A theorem a function, over its
 -- contract's own text. Assumes nothing.
-use Prim.Native.Nat.{ℕ}
-use mathlib.Core.Path.{◌≡◌, ap}
-use mathlib.Core.List.{List, []}
 use Rattle.units.proofs.bytes.byte_at.Reads as units_byte_at
 use Rattle.units.proofs.bytes.get16.Reads as units_get16
 use Rattle.units.proofs.bytes.get32.Reads as units_get32

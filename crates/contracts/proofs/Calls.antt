@@ -1,6 +1,6 @@
 -- From contract to call, for each call of a node. Assumes nothing.
 use Prim.Native.Nat.{ℕ}
-use mathlib.Core.Path.{◌≡◌, refl, sym, ap, ◌∙◌}
+use mathlib.Core.Path.{refl, sym, ap, ◌∙◌}
 use mathlib.Core.List.{List, [], ◌∷◌}
 use Rattle.node.proofs.setup.Reads as node_setup
 use Rattle.node.proofs.open.Reads as node_open

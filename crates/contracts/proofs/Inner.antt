@@ -1,7 +1,6 @@
 -- One outcome: the inner calls, on which those of the node stand. A theorem a function, over its contract's own
 -- text. Assumes nothing.
 use Prim.Native.Nat.{ℕ}
-use mathlib.Core.Path.{◌≡◌, ap}
 use mathlib.Core.List.{List, []}
 use Rattle.arrive_lookup.proofs.entry_for.Reads as arrive_lookup_entry_for
 use Rattle.arrive_lookup.proofs.put_in_index.Reads as arrive_lookup_put_in_index
@@ -32,7 +31,7 @@ use Rattle.call_arrive.proofs.arrive.Reads as call_arrive_arrive
 use Rattle.call_hand_out.proofs.hand_out.Reads as call_hand_out_hand_out
 use Rattle.call_report.proofs.report.Reads as call_report_report
 use Rattle.call_tick.proofs.tick.Reads as call_tick_tick
-use Rattle.end_points.specs.Lent.{Lent, bare, stored, whole}
+use Rattle.end_points.specs.Lent.{bare, stored, whole}
 use Rattle.contracts.proofs.Stores.{but_store}
 use Rattle.contracts.specs.Outcome.{One, OneAnswer, OneAfter}
 

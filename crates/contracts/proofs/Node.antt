@@ -1,7 +1,5 @@
 -- One outcome: the node's calls. A theorem a function, over its contract's own text. Assumes nothing.
-use Prim.Native.Nat.{ℕ}
-use mathlib.Core.Path.{◌≡◌, ap}
-use mathlib.Core.List.{List, []}
+use mathlib.Core.List.{[]}
 use Rattle.node.proofs.setup.Reads as node_setup
 use Rattle.node.proofs.open.Reads as node_open
 use Rattle.node.proofs.close.Reads as node_close
@@ -15,7 +13,7 @@ use Rattle.node.proofs.arrival.Reads as node_arrival
 use Rattle.node.proofs.hand_out.Reads as node_hand_out
 use Rattle.node.proofs.report.Reads as node_report
 use Rattle.node.proofs.tick.Reads as node_tick
-use Rattle.end_points.specs.Lent.{Lent, bare, stored, whole}
+use Rattle.end_points.specs.Lent.{bare, stored, whole}
 use Rattle.contracts.proofs.Stores.{but_store}
 use Rattle.contracts.specs.Outcome.{One, OneAnswer}
 

@@ -1,8 +1,5 @@
 -- One outcome: the state's crates: memory, what waits, timers, end points, slots. A theorem a function, over its
 -- contract's own text. Assumes nothing.
-use Prim.Native.Nat.{ℕ}
-use mathlib.Core.Path.{◌≡◌, ap}
-use mathlib.Core.List.{List, []}
 use Rattle.memory.proofs.word_at.Reads as memory_word_at
 use Rattle.memory.proofs.put_word.Reads as memory_put_word
 use Rattle.memory.proofs.half_at.Reads as memory_half_at

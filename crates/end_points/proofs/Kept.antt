@@ -1,8 +1,8 @@
 -- Laws of saving and loading an end point. Assumes nothing.
-use Prim.Native.Nat.{ℕ, suc, ◌+◌, ◌*◌, ◌%◌, ◌≤◌, ◌<◌, ◌^◌}
-use mathlib.Core.Path.{◌≡◌, refl, sym, ap, ◌∙◌}
+use Prim.Native.Nat.{ℕ, ◌+◌, ◌%◌, ◌≤◌, ◌<◌}
+use mathlib.Core.Path.{◌≡◌, refl, ◌∙◌}
 use mathlib.Core.Bool.{Bool, true, false}
-use mathlib.Core.List.{List, [], ◌∷◌, ◌++◌}
+use mathlib.Core.List.{List, ◌++◌}
 use mathlib.Core.Logic.{◌≢◌, ◌⊎◌, inl, inr}
 use native.Mathlib.Decide.{dec_lt}
 use native.Mathlib.Nat.{mod-eq_of_lt}
@@ -12,11 +12,10 @@ use lib.Seq.{get_or-append-add}
 use lib.Dec.{eqb}
 use Rattle.units.proofs.Runs.{get_d_sets_before, get_d_sets_after, get_d_sets_at}
 use Rattle.memory.specs.Layout.{entry_at, node_words}
-use Rattle.end_points.specs.Ends.{word, kind_of, state_of, load_entry, place_in, load_state, load_run, end_of, flag_of, state_words, run_words, saved}
+use Rattle.end_points.specs.Ends.{word, state_of, load_entry, place_in, load_state, load_run, end_of, flag_of, state_words, run_words, saved}
 use Rattle.end_points.specs.declared.State.{State}
 use Rattle.end_points.specs.declared.State.TheVariants.{Closed, Enabled, Open, Failing}
 use Rattle.end_points.specs.declared.Run.{Run}
-use Rattle.end_points.specs.declared.EndPoint.{EndPoint}
 
 -- ---- an end point is its nineteen words
 

@@ -19,7 +19,7 @@ use Rattle.check8.specs.Polynomial.{check_of}
 use Rattle.check8.proofs.Laws.{own_check}
 use Rattle.frame.specs.declared.Fields.{Fields}
 use Rattle.frame.specs.declared.Header.{Header}
-use Rattle.frame.specs.declared.Read.TheVariants.{Frame, Refused}
+use Rattle.frame.specs.declared.Read.TheVariants.{Frame}
 use Rattle.frame.specs.Types.{type_of, suits, seq_reads, seq_writes}
 use Rattle.frame.specs.Layout.{type_at, user_at, payload_of, head_bytes, body_bytes, frame_bytes}
 use Rattle.frame.specs.Reading.{sound_of, header_tests, header_at, read_as, read_of}

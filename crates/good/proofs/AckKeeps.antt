@@ -10,7 +10,7 @@ use lib.ListN.{get_or, set}
 use lib.Dec.{eqb}
 use borrow.Author.Tests.{eqb-true, ltb-true}
 use Rattle.units.specs.Refusals.{pick}
-use Rattle.memory.specs.Layout.{all_cells, cells_at, resets, urgents, resends, datas, reset_id, length_at, timer_at, quiet_at}
+use Rattle.memory.specs.Layout.{all_cells, cells_at, resets, urgents, datas, reset_id, length_at, timer_at, quiet_at}
 use Rattle.waiting.specs.Queues.{unlinked}
 use Rattle.waiting.specs.Port.{under_in}
 use Rattle.window.specs.Windows.{offset_of}

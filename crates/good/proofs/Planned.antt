@@ -1,7 +1,7 @@
 -- A plan by its single sends: what holds from what a send leaves, and so from what was there before it, holds from
 -- before a plan. Assumes nothing.
 use Prim.Native.Nat.{ℕ, ◌+◌}
-use mathlib.Core.Path.{◌≡◌, refl, sym, subst}
+use mathlib.Core.Path.{◌≡◌, refl, subst}
 use mathlib.Core.Bool.{Bool, true, false}
 use mathlib.Core.List.{List, [], ◌∷◌}
 use Rattle.units.specs.Refusals.{pick}

@@ -34,7 +34,7 @@ use Rattle.arrive_lookup.proofs.Rows.{row_zero}
 use Rattle.waiting.specs.Port.{ended}
 use Rattle.good.proofs.Lined.{port_lines}
 use Rattle.good.proofs.Porting.{ended_under}
-use Rattle.call_open.specs.Setup.{setup_answer, headed, entered, tabled, emptied, setup_after}
+use Rattle.call_open.specs.Setup.{setup_answer, headed, tabled, emptied, setup_after}
 use Rattle.timing.specs.Timing.{clock_in, quiet_in}
 use Rattle.good.specs.Good.{Lines, Entered, Timely, Tabled, Good}
 use Rattle.good.proofs.Entering.{closed_at, tabled_long, tabled_head, tabled_at}

@@ -20,7 +20,7 @@ use Rattle.blocks.specs.Reading.{read_block}
 use Rattle.machine.specs.Calls.{opens, closes, counts, sends, urges, plans, arrives, hands_out, reports, ticks}
 use Rattle.machine.specs.Machine.{End, Item, Sort, acks, resets, urgents, resends, datas, Out, Machine, Outcome, port, rank, answers, send_tests, handed, entry_for, going_out, in_order, opening, closing, counting, sending, urgent_sending, sending_all, planning, reading, arriving, handing_out, reporting, is_of, step, without}
 use Rattle.machine.specs.Sound.{Sound}
-use Rattle.machine.specs.Laws.{answer, item, share_of, Next, RefusedStays, Untouched, OthersStay}
+use Rattle.machine.specs.Laws.{item, share_of, Next, RefusedStays, Untouched, OthersStay}
 use Rattle.machine.specs.LawsHanding.{NextOrNone}
 use Rattle.machine.proofs.Entries.{elem_set_other}
 use Rattle.machine.proofs.Items.{rank_is, without_append, share_kept, share_other}

@@ -26,7 +26,7 @@ use Rattle.frame.proofs.WriteLaws.{length_frame}
 use Rattle.end_points.specs.Answers.{answer_of, handed_of}
 use Rattle.end_points.specs.declared.answers.HandedOut.TheVariants.{Length}
 use Rattle.machine.specs.Calls.{hands_out}
-use Rattle.machine.specs.Machine.{End, Item, Sort, acks, resets, urgents, resends, datas, Out, Machine, Outcome, number, numbered, port, turned, rank, only, waiting_as, answers, unless, too_short, is_some, offset, number_at, timed, type_of, carried, frame_of, handed, going_out, in_order, handing_out, step}
+use Rattle.machine.specs.Machine.{End, Item, Sort, acks, resets, urgents, resends, datas, Out, Machine, Outcome, numbered, port, turned, rank, only, waiting_as, answers, unless, too_short, is_some, offset, number_at, timed, type_of, carried, frame_of, handed, going_out, in_order, handing_out, step}
 use Rattle.machine.specs.Sound.{Sound, Sized, Owned, Waits, WaitsData}
 use Rattle.machine.specs.Laws.{Is, answer, after, Next}
 use Rattle.machine.specs.LawsHanding.{NextOrNone, NumberOut, Sent, HandsOut, WaitingGoesOut, TooShortStays, NothingOut, UnderWayRefuses, ReadsBack, PairedTakes, HandedComes}

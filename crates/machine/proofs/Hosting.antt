@@ -18,9 +18,8 @@ use Rattle.end_points.specs.States.{is_sends, is_closed, is_open}
 use Rattle.end_points.specs.declared.State.{State}
 use Rattle.end_points.specs.declared.State.TheVariants.{Closed, Enabled, Open, Failing}
 use Rattle.end_points.specs.declared.answers.Counted.TheVariants.{Counts}
-use Rattle.machine.specs.Calls.{counts, sends}
 use Rattle.machine.specs.Machine.{End, resets, urgents, datas, Machine, Outcome, turned, waits, silent, past, anew, enabled, answers, done, too_short, opening, closing, counting, sender_tests, send_tests, taking, sending, is_some, urging, urgent_sending, step}
-use Rattle.machine.specs.Laws.{Is, answer, Anew, of_entry}
+use Rattle.machine.specs.Laws.{Is, Anew, of_entry}
 use Rattle.machine.specs.LawsCalls.{OpenGoes, Enables, OpenEnables, CloseGoes, Closes, CloseCloses, CountsGo, CountsTell, MaySend, SendGoes, Takes, SendTakes, MayUrge, UrgentGoes, Urges, UrgentTakes}
 use Rattle.machine.proofs.Entries.{elem_lt, elem_set_same}
 use Rattle.machine.proofs.Items.{share_gone, waits_last}

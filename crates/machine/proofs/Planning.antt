@@ -1,22 +1,18 @@
 -- A plan by what each of its sends does, and its laws (specs/LawsPlan.antt). Assumes nothing.
-use Prim.Native.Nat.{ℕ, zero, suc, ◌+◌, ◌≤◌, ◌<◌}
+use Prim.Native.Nat.{ℕ, zero, suc, ◌+◌, ◌<◌}
 use mathlib.Core.Path.{◌≡◌, refl, sym, subst}
-use mathlib.Core.Logic.{◌≢◌}
 use mathlib.Core.Bool.{Bool, true, false, not}
 use mathlib.Core.List.{List, [], ◌∷◌}
 use native.Mathlib.Omega.{arith}
-use lib.ListN.{length, get_or}
-use lib.Dec.{eqb}
+use lib.ListN.{get_or}
 use borrow.Author.Tests.{eqb-true, eqb-false}
-use Rattle.units.specs.Refusals.{number_of, pick}
+use Rattle.units.specs.Refusals.{number_of}
 use Rattle.units.specs.declared.refusals.Refusal.{Refusal}
 use Rattle.units.specs.declared.refusals.Refusal.TheVariants as refusal
 use Rattle.units.proofs.Judging.{refused_some}
 use Rattle.frame.specs.Faults.{refused_of}
 use Rattle.blocks.specs.Reading.{read_block, is_plan}
-use Rattle.machine.specs.Calls.{sends, plans}
 use Rattle.machine.specs.Machine.{Machine, Outcome, answers, unless, send_tests, sending, accepts, sending_all, planning, step}
-use Rattle.machine.specs.Laws.{answer, after}
 use Rattle.machine.specs.LawsPlan.{PlanGoes, sent_singly, answer_at, Singly, PlanIsSends}
 use Rattle.machine.proofs.Hosting.{sent}
 use Rattle.machine.proofs.Judged.{by_verdict}

@@ -36,7 +36,7 @@ use Rattle.blocks.specs.Reading.{read_block}
 use Rattle.machine.specs.Calls.{opens, closes, counts, sends, urges, plans, arrives, hands_out, reports, ticks}
 use Rattle.machine.specs.Machine.{End, Item, Sort, acks, resets, urgents, resends, datas, Out, Machine, Outcome, judged, unless, on_entry, send_tests, sending_all, planning, block_room, entry_tests, entry_for, carried, frame_of, going_out, in_order, opening, closing, counting, sending, urgent_sending, reading, arriving, handing_out, reporting, ticking, step, offset, number_at}
 use Rattle.machine.specs.Sound.{Sized, WaitsData, Waits, Sound}
-use Rattle.machine.specs.Laws.{Is, answer, Next}
+use Rattle.machine.specs.Laws.{Is, Next}
 use Rattle.machine.specs.LawsHanding.{NextOrNone}
 use Rattle.machine.specs.LawsRoom.{most_out, NeverShort, BuffersStay}
 use Rattle.machine.proofs.Entries.{elem_lt, elem_in, get_d_elem}

@@ -1,7 +1,6 @@
 -- A plan on the sender's machine: what of it is accepted are so many payloads, one after the other. Assumes nothing.
 use Prim.Native.Nat.{ℕ, suc, ◌+◌}
-use mathlib.Core.Path.{◌≡◌, refl, sym, ap, subst, ◌∙◌}
-use mathlib.Core.Bool.{Bool}
+use mathlib.Core.Path.{◌≡◌, refl, sym, subst}
 use mathlib.Core.Option.{some}
 use mathlib.Core.List.{List, [], ◌∷◌}
 use native.Mathlib.Decide.{ℕ_discrete}
@@ -9,7 +8,6 @@ use native.Mathlib.Omega.{arith}
 use lib.ListN.{length, take, get_elem?}
 use borrow.Author.Tests.{eq-eqb, ne_eqb}
 use Rattle.units.specs.Refusals.{pick}
-use Rattle.units.specs.declared.refusals.Refusal.{Refusal}
 use Rattle.units.proofs.Judging.{Clear, clear, refused_not_zero}
 use Rattle.table.specs.Layout.{entry_of}
 use Rattle.table.specs.declared.Entry.{Entry}

@@ -13,7 +13,6 @@ use lib.Dec.{leb, ltb, eqb}
 use borrow.Author.Tests.{eq-eqb, ne_eqb, leb-false, ltb-false, le-ltb, lt-ltb}
 use Rattle.units.specs.Refusals.{pick}
 use Rattle.units.specs.declared.refusals.Refusal.TheVariants.{TooShort, UnderWay}
-use Rattle.units.specs.declared.refusals.Verdict.TheVariants.{Refused}
 use Rattle.memory.specs.Layout.{all_cells, cells_at, reset_id, reset_entry, urgent_entry, length_at, timer_at, retries_at}
 use Rattle.waiting.specs.Acks.{waiting_of, ack_of}
 use Rattle.waiting.specs.Port.{under_in, per_type, out_word, out_entry, out_number, no_number, data_out}

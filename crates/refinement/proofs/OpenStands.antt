@@ -29,7 +29,7 @@ use Rattle.good.proofs.OpenKeeps.{open_keeps, open_passed}
 use Rattle.good.proofs.Payloads.{unaltered}
 use Rattle.good.proofs.Known.{silent_nil}
 use Rattle.good.proofs.CloseKeeps.{close_keeps, close_passed}
-use Rattle.machine.specs.Machine.{resets, Machine, anew, turned, waits, enabled, done, node, opening, step, silent}
+use Rattle.machine.specs.Machine.{resets, Machine, anew, turned, waits, enabled, done, opening, step, silent}
 use Rattle.machine.specs.Machine.{answers, closing, counting}
 use Rattle.refinement.specs.Standing.{read_at, end_for, end_at, stands_for, Stands, Follows}
 use Rattle.refinement.proofs.Elsewhere.{Leaves, leaves, end_at_holds, turned_stands, still}

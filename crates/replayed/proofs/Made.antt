@@ -8,7 +8,7 @@ use native.Mathlib.Decide.{ℕ_discrete, dec_lt}
 use native.Mathlib.Omega.{arith}
 use borrow.Author.Tests.{leb-true}
 use lib.Dec.{leb}
-use lib.ListN.{length, get_or, take, drop, get_or-eq_default, length-take}
+use lib.ListN.{get_or, take, drop, get_or-eq_default, length-take}
 use lib.Seq.{get_or-take, get_or-drop}
 use Rattle.table.proofs.Every.{both}
 use Rattle.end_points.specs.Lent.{Lent}

@@ -1,7 +1,6 @@
 -- How large a slot, a cell and a spot can be, for whatever the memory holds. Assumes nothing.
-use Prim.Native.Nat.{ℕ, ◌+◌, ◌*◌, ◌%◌, ◌≤◌, ◌<◌}
+use Prim.Native.Nat.{ℕ, ◌*◌, ◌%◌, ◌≤◌, ◌<◌}
 use mathlib.Core.Bool.{Bool, true, false}
-use mathlib.Core.Path.{◌≡◌, refl}
 use native.Mathlib.Nat.{mod-le, mul-le-mul}
 use native.Mathlib.Omega.{arith}
 use lib.Dec.{eqb}

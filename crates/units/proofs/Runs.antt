@@ -2,14 +2,13 @@
 -- Assumes nothing.
 use mathlib.Core.Path.{◌≡◌, refl, sym, ap, ◌∙◌}
 use mathlib.Core.List.{List, [], ◌∷◌, ◌++◌}
-use mathlib.Core.Logic.{◌⊎◌, inl, inr}
-use Prim.Native.Nat.{ℕ, zero, suc, ◌+◌, ◌*◌, ◌-◌, ◌≤◌, ◌<◌, min}
+use Prim.Native.Nat.{ℕ, zero, suc, ◌+◌, ◌-◌, ◌≤◌, ◌<◌, min}
 use native.Mathlib.Nat.{add-zero, add-suc, suc-add}
 use native.Mathlib.Numerals.{add-one}
 use native.Mathlib.Decide.{dec_le}
 use native.Mathlib.Omega.{arith}
-use lib.ListN.{length, get_or, set, take, drop, length-set, length-take, get_or-eq_default}
-use lib.Seq.{sets, set_out, length-sets, get_or-set_same, get_or-set_other, take-suc, take_all}
+use lib.ListN.{length, get_or, set, take, length-set, length-take, get_or-eq_default}
+use lib.Seq.{sets, set_out, get_or-set_same, get_or-set_other, take-suc, take_all}
 use Rattle.units.specs.Bytes.{get16_of, get32_of}
 
 -- a number past the end

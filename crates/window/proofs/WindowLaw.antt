@@ -1,6 +1,6 @@
 -- The window law, once over W: where counts are near enough, the test on their bytes is the order of the counts;
 -- and the numbers of one window have slots of their own. Assumes nothing.
-use Rattle.std.proofs.Common.{◌≡◌, ℕ, ◌+◌, ◌-◌, ◌*◌, ◌/◌, ◌%◌, ◌^◌, ◌<◌, ◌≤◌, true, ◌↔◌, sym, ap, ◌∙◌, mul-le-mul_right, mod-lt, div-add-mod', arith}
+use Rattle.std.proofs.Common.{◌≡◌, ℕ, ◌+◌, ◌-◌, ◌*◌, ◌/◌, ◌%◌, ◌^◌, ◌<◌, ◌≤◌, true, sym, ap, ◌∙◌, mul-le-mul_right, mod-lt, div-add-mod', arith}
 use mathlib.Core.Logic.{by_cases}
 use native.Mathlib.Decide.{dec_le, dec_lt}
 use lib.Pow.{mod-mod-pow}

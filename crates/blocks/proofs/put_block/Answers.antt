@@ -1,6 +1,5 @@
 -- `blocks::put_block` meets its contract. The loop's invariant: the first j payloads are written, with their offsets. Assumes nothing.
 use mathlib.Core.Path.{◌≡◌, ◌∙◌}
-use Prim.Native.Nat.{◌-◌}
 use native.Mathlib.Omega.{arith}
 use Rattle.blocks.proofs.Appending.{begun_more, begun_long, begun_done, payloads_more}
 use Rattle.blocks.proofs.put_block.Goals as goal

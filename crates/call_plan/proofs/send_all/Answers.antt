@@ -1,7 +1,6 @@
 -- `call_plan::send_all` meets its contract. The loop's invariant: the first j payloads are laid, and what all of them come to
 -- is what the others come to, sent by an entry that has accepted j more. Assumes nothing.
 use mathlib.Core.Path.{◌≡◌, sym, ◌∙◌}
-use Prim.Native.Nat.{◌-◌}
 use native.Mathlib.Omega.{arith}
 use Rattle.blocks.specs.Reading.{payload_in}
 use Rattle.call_plan.specs.Planning.{sent_in_order}

@@ -1,6 +1,6 @@
 -- `check8::check` meets its contract. The loop's invariant: what is left, from c on, gives the whole's check byte. Assumes nothing.
 use mathlib.Core.Path.{sym, ap, ◌∙◌}
-use Prim.Native.Nat.{ℕ, ◌+◌, ◌-◌}
+use Prim.Native.Nat.{ℕ, ◌+◌}
 use native.Mathlib.Omega.{arith}
 use lib.ListN.{drop}
 use Rattle.check8.specs.Polynomial.{check_from}

@@ -1,6 +1,5 @@
 -- `check8::step` meets its contract. The loop's invariant: after n steps r is times x^n what came in. Assumes nothing.
 use mathlib.Core.Path.{◌≡◌, refl, ap, ◌∙◌}
-use Prim.Native.Nat.{◌-◌}
 use native.Mathlib.Numerals.{add-one}
 use native.Mathlib.Omega.{arith}
 use Rattle.check8.specs.Polynomial.{times_x, times_xs, step_byte}

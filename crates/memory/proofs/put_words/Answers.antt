@@ -1,6 +1,6 @@
 -- `memory::put_words` meets its contract. The loop's invariant: the first k words are stored. Assumes nothing.
 use mathlib.Core.Path.{sym, ◌∙◌}
-use Prim.Native.Nat.{◌<◌, ◌-◌}
+use Prim.Native.Nat.{◌<◌}
 use native.Mathlib.Omega.{arith}
 use lib.ListN.{length}
 use Rattle.units.proofs.Runs.{sets_out, sets_more, sets_whole}

@@ -1,7 +1,7 @@
 -- `blocks::lent::never_fall` meets its contract. The loop's invariant: whether the offsets behind offset j fall is left to
 -- tell, and `last` is that offset. Assumes nothing.
 use mathlib.Core.Path.{◌∙◌}
-use Prim.Native.Nat.{◌+◌, ◌-◌}
+use Prim.Native.Nat.{◌+◌}
 use native.Mathlib.Omega.{arith}
 use borrow.Author.Tests.{le-leb}
 use Rattle.blocks.specs.Reading.{offset_in}

@@ -1,6 +1,6 @@
 -- `table::areas::store_need` meets its contract. The loop's invariant: `need` is the place of entry i, and no area
 -- so far came to 2^32 bytes. Assumes nothing.
-use Prim.Native.Nat.{◌-◌, ◌<◌}
+use Prim.Native.Nat.{◌<◌}
 use native.Mathlib.Omega.{arith}
 use native.Mathlib.Numerals.{add-one}
 use Rattle.table.specs.Areas.{place_of}

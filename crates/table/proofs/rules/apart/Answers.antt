@@ -1,7 +1,5 @@
 -- `table::rules::apart` meets its contract. The loop's invariant: entry i agrees with none of the first j. Assumes nothing.
-use Prim.Native.Nat.{◌-◌}
 use mathlib.Core.Path.{◌≡◌, sym}
-use mathlib.Core.Bool.{true}
 use native.Mathlib.Omega.{arith}
 use Rattle.table.specs.Layout.{entry_of}
 use Rattle.table.specs.Rules.{agree, apart}

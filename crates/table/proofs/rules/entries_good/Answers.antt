@@ -1,9 +1,7 @@
 -- `table::rules::entries_good` meets its contract. The loop's invariant: the first i entries keep their rules. Assumes nothing.
-use Prim.Native.Nat.{◌-◌}
 use mathlib.Core.Path.{sym}
 use native.Mathlib.Omega.{arith}
 use borrow.Author.Tests.{not-true, not-false}
-use Rattle.table.specs.Rules.{entry_good}
 use Rattle.table.proofs.Every.{every_none, every_more, every_fails}
 use Rattle.table.proofs.rules.entries_good.Goals as goal
 

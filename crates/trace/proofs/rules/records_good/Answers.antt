@@ -1,11 +1,8 @@
 -- `trace::rules::records_good` meets its contract. The loop's invariant: the first k records keep their rules. Assumes
 -- nothing.
-use Prim.Native.Nat.{◌-◌}
 use mathlib.Core.Path.{sym}
-use mathlib.Core.Bool.{true}
 use native.Mathlib.Omega.{arith}
 use Rattle.table.proofs.Every.{every_none, every_more, every_fails}
-use Rattle.trace.specs.Rules.{record_good}
 use Rattle.trace.proofs.rules.records_good.Goals as goal
 
 pub loop-k-init : goal.loop-k-init

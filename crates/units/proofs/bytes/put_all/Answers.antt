@@ -1,6 +1,6 @@
 -- `units::bytes::put_all` meets its contract. The loop's invariant: the first k bytes are stored. Assumes nothing.
 use mathlib.Core.Path.{sym, ◌∙◌}
-use Prim.Native.Nat.{◌<◌, ◌-◌}
+use Prim.Native.Nat.{◌<◌}
 use native.Mathlib.Omega.{arith}
 use lib.ListN.{length}
 use Rattle.units.proofs.Runs.{sets_out, sets_more, sets_whole}
