@@ -26,8 +26,8 @@ place_fits size at n l = go (leb (at + n) size) refl
     go false e = omega (arith, l)
 
 -- what is taken once text is in its place
-pub take-sets : (xs ys : List ℕ) (i : ℕ) → i + length ys ≤ length xs → take (i + length ys) (sets xs i ys) ≡ take i xs ++ ys
-take-sets xs ys i l =
+pub take_sets : (xs ys : List ℕ) (i : ℕ) → i + length ys ≤ length xs → take (i + length ys) (sets xs i ys) ≡ take i xs ++ ys
+take_sets xs ys i l =
     let first : length (take i xs) ≡ i = length-take-le i xs (omega arith) in
     let long : length (take i xs ++ ys) ≡ i + length ys = omega (arith, length-append (take i xs) ys, first) in
     rw (sets-eq ys xs i l) (take_at (take i xs ++ ys) (drop (i + length ys) xs) (i + length ys) long)
@@ -62,7 +62,7 @@ module _ {W : Type 0} {contents : W → Option (List ℕ)} where
       says_then x
       (record {
         within = omega (arith, length-sets out from bytes);
-        grown = λ n. (n, known_grown (contents t.writer) (take from out) _ bytes (take-sets out bytes from l));
+        grown = λ n. (n, known_grown (contents t.writer) (take from out) _ bytes (take_sets out bytes from l));
       })
 
 -- ---- the text of numbers

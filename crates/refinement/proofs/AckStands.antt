@@ -235,8 +235,8 @@ module _ (t : List ℕ) (n : Memory) (l : Lists) (g : Good t n.node n.book l) (r
       abbrev x₀ : ℕ
       x₀ = cell_id c₀
 
-      x₀-is : id_at i w at ≡ x₀
-      x₀-is = ap (λ (z : ℕ). cell_id (cell i w z)) number_here
+      x₀_is : id_at i w at ≡ x₀
+      x₀_is = ap (λ (z : ℕ). cell_id (cell i w z)) number_here
 
       -- it waits as a retransmission, in queue 2, where its timer stands
       waits_if : timer_in n.book c₀ ≡ 0 → Memᴰ x₀ (l 2)
@@ -247,14 +247,14 @@ module _ (t : List ℕ) (n : Memory) (l : Lists) (g : Good t n.node n.book l) (r
             handed = C.handed;
             missing = C.missing;
             idle = ap (λ (y : ℕ). timer_in n.book (cell i w y)) number_here ∙ z;
-            is = sym x₀-is;
+            is = sym x₀_is;
           }))).0
 
       waits_not : timer_in n.book c₀ ≢ 0 → Memᴰ x₀ (l 2) → ⊥
       waits_not d m =
-          let z = O.resends.each x₀ (mine_all i x₀ (l 2) m (ap owner_of (sym x₀-is) ∙ id_owner i low w window at)) in
+          let z = O.resends.each x₀ (mine_all i x₀ (l 2) m (ap owner_of (sym x₀_is) ∙ id_owner i low w window at)) in
           let h : z.at < w.size = omega (arith, z.handed, O.sending.handed, O.sending.taken) in
-          let y = id_inj w window i z.at at h inside (sym z.is ∙ sym x₀-is) in
+          let y = id_inj w window i z.at at h inside (sym z.is ∙ sym x₀_is) in
           d (ap (λ (k : ℕ). timer_in n.book (cell i w k)) (sym number_here ∙ ap (past w) (sym y)) ∙ z.idle)
 
       record Book (b' : List ℕ) : Type 0 where
@@ -307,18 +307,18 @@ module _ (t : List ℕ) (n : Memory) (l : Lists) (g : Good t n.node n.book l) (r
       tests_it y m = sides (ℕ_discrete (owner_of y) i)
         where
           owned : owner_of x₀ ≡ i
-          owned = ap owner_of (sym x₀-is) ∙ id_owner i low w window at
+          owned = ap owner_of (sym x₀_is) ∙ id_owner i low w window at
 
           one : (z : ℕ) → z < w.size → y ≡ id_at i w z → Dec (z ≡ at) → test (record { entry = i; number = past w z }) ≡ eqb y x₀
           one z h v (yes u) =
-              rw (eq-eqb i i refl, eq-eqb (past w z) s (ap (past w) u ∙ number_here)) (sym (eq-eqb y x₀ (v ∙ ap (id_at i w) u ∙ x₀-is)))
+              rw (eq-eqb i i refl, eq-eqb (past w z) s (ap (past w) u ∙ number_here)) (sym (eq-eqb y x₀ (v ∙ ap (id_at i w) u ∙ x₀_is)))
           one z h v (no u) =
               rw (
                 eq-eqb i i refl,
                 ne_eqb (past w z) s
                     (λ f. u (let b = window.byte in let d = size_le w.size window.sized in omega arith)),
               )
-              (sym (ne_eqb y x₀ (λ f. u (id_inj w window i z at h inside (sym v ∙ f ∙ sym x₀-is)))))
+              (sym (ne_eqb y x₀ (λ f. u (id_inj w window i z at h inside (sym v ∙ f ∙ sym x₀_is)))))
 
           sides : Dec (owner_of y ≡ i) → test (slot_item n.node y) ≡ eqb y x₀
           sides (no d) = rw (ne_eqb (owner_of y) i d) (sym (ne_eqb y x₀ (λ z. d (ap owner_of z ∙ owned))))

@@ -174,8 +174,8 @@ module _ (t : List ℕ) (n : Memory) (l : Lists) (g : Good t n.node n.book l) (r
 
   -- ---- Data
 
-  module _ (o : e.state ≡ Open) (s : ℕ) (hs : s < 256) (p : List ℕ) (some-p : 1 ≤ length p)
-      (most-p : length p ≤ e.entry.largest) (few : waiting_of n.node < 32) (roomy : block_room e ≤ length block) where
+  module _ (o : e.state ≡ Open) (s : ℕ) (hs : s < 256) (p : List ℕ) (some_p : 1 ≤ length p)
+      (most_p : length p ≤ e.entry.largest) (few : waiting_of n.node < 32) (roomy : block_room e ≤ length block) where
     abbrev now_d : Lent
     now_d = data_after x i e s p
 
@@ -183,7 +183,7 @@ module _ (t : List ℕ) (n : Memory) (l : Lists) (g : Good t n.node n.book l) (r
     at = offset_of w s
 
     left_d : (st : List ℕ) → Stored t n st i → Leaves t n (record { node = now_d.node; book = now_d.book; store = st }) l i
-    left_d = leaves (data_keeps t x l g i li kind o s hs p some-p most-p few)
+    left_d = leaves (data_keeps t x l g i li kind o s hs p some_p most_p few)
 
     -- one acknowledgement more waits, and the queues are as they were
     data_stands : Stored t n now_d.store i → (b' : List ℕ) → now_d.book ≡ b' → Lines b' l
@@ -194,7 +194,7 @@ module _ (t : List ℕ) (n : Memory) (l : Lists) (g : Good t n.node n.book l) (r
         turned_stands g room li k here
         (waits_only k.apart (silent_steady quiet) acks
         (λ xs. xs ++ (record { entry = i; number = s } ∷ []))
-        (ap (map ack_item) (a ∙ data_acks t x l g i li kind o s hs p some-p most-p few)
+        (ap (map ack_item) (a ∙ data_acks t x l g i li kind o s hs p some_p most_p few)
         ∙ map-append ack_item (acks_in n.node) ((i * 256 + s) ∷ []) ∙ rw (ack_item_holds i s low hs))
         (λ z. absurd (z refl)) (λ r h z. lists_are b-is k.good.lines L r h))
 
@@ -266,12 +266,12 @@ module _ (t : List ℕ) (n : Memory) (l : Lists) (g : Good t n.node n.book l) (r
       here : payload_for st' b' i e at ≡ p
       here =
           rw (length_own n.book g.lines.long i low w window s hs new (length p), number_here)
-          (put_read n g room li (slot_for w s) p r_low most-p)
+          (put_read n g room li (slot_for w s) p r_low most_p)
 
       there : (j : ℕ) → held w j ≡ true → j ≢ at → payload_for st' b' i e j ≡ payload_for n.store n.book i e j
       there j h d =
           let hj = held_below_holds w window j h in
-          payload_apart t n l g i li room (slot_for w s) p r_low most-p b' j (r_filled t n.node n.book l g i li kind j h)
+          payload_apart t n l g i li room (slot_for w s) p r_low most_p b' j (r_filled t n.node n.book l g i li kind j h)
           (λ c. d (slot_inj w window j at hj inside (c ∙ ap (slot_for w) (sym number_here))))
           (length_other n.book g.lines.long i low w window s hs new (length p) j hj d)
 
@@ -293,11 +293,11 @@ module _ (t : List ℕ) (n : Memory) (l : Lists) (g : Good t n.node n.book l) (r
       end : end_of now_d.node i ≡ turned_to e e.state (with_window e.run u)
       end =
           ap (λ (y : Lent). end_of y.node i) now_new
-          ∙ data_end t x l g i li kind o s hs p some-p most-p few
+          ∙ data_end t x l g i li kind o s hs p some_p most_p few
           ∙ ap (λ (z : State). turned_to e z (with_window e.run u)) (sym o)
 
       new_stored : Stored t n now_d.store i
-      new_stored = put (slot_for w s) p li r_low most-p (ap (λ (y : Lent). y.store) now_new)
+      new_stored = put (slot_for w s) p li r_low most_p (ap (λ (y : Lent). y.store) now_new)
 
       E-new : end_at (kept now_d) i ≡ handing_on (length (held_run ps)) ps (end_at n i)
       unfolding end_for with_window listed
@@ -317,7 +317,7 @@ module _ (t : List ℕ) (n : Memory) (l : Lists) (g : Good t n.node n.book l) (r
       new_stands =
           data_stands new_stored b' (ap (λ (y : Lent). y.book) now_new)
           (set_lines n.book l g.lines (length_at (cell i w s)) (length p) (omega arith))
-          (ap (λ (y : Lent). acks_in y.node) now_new ∙ (data_puts t x l g i li kind o s hs p some-p most-p few).2)
+          (ap (λ (y : Lent). acks_in y.node) now_new ∙ (data_puts t x l g i li kind o s hs p some_p most_p few).2)
           (handing_on (length (held_run ps)) ps (end_at n i)) E-new
 
     -- both
@@ -336,7 +336,7 @@ module _ (t : List ℕ) (n : Memory) (l : Lists) (g : Good t n.node n.book l) (r
         let entry = b.entry in
         run_fits e.entry placed (length-set (end_at n i).places at (some p) ∙ b.places ∙ ap (λ (y : Entry). y.window) (sym entry))
         (put_short (end_at n i).places e.entry.largest at p
-        (λ k q h. rw entry (b.held q (elem_in (end_at n i).places k h)).most) most-p)
+        (λ k q h. rw entry (b.held q (elem_in (end_at n i).places k h)).most) most_p)
 
     abbrev received : Bool → Outcome
     received z =

@@ -90,7 +90,7 @@ kind_of u least most = sides (ℕ_discrete (u / 4096) 1) (ℕ_discrete (u / 4096
         rw h (of_urgent (data_not a) (reset_not c))
 
 module _ (t : List ℕ) (n : Memory) (l : Lists) (g : Good t n.node n.book l) (room : store_of t ≤ length n.store)
-    (some-under : under_in n.book ≢ 0) where
+    (some_under : under_in n.book ≢ 0) where
   abbrev M : Machine
   M = stands_for t n l
 
@@ -119,7 +119,7 @@ module _ (t : List ℕ) (n : Memory) (l : Lists) (g : Good t n.node n.book l) (r
   E = end_at n i
 
   known : i < count_in n.node
-  known = (g.under some-under).known
+  known = (g.under some_under).known
 
   low : i < 16
   low = low_at g known
@@ -128,7 +128,7 @@ module _ (t : List ℕ) (n : Memory) (l : Lists) (g : Good t n.node n.book l) (r
   window = (g.entered i known).window
 
   kind : Kind u i (type_for u)
-  kind = kind_of u (g.under some-under).least (g.under some-under).most
+  kind = kind_of u (g.under some_under).least (g.under some_under).most
 
   -- ---- what the machine makes of its end where nothing starts
 
@@ -252,13 +252,13 @@ module _ (t : List ℕ) (n : Memory) (l : Lists) (g : Good t n.node n.book l) (r
     k = offset_of w s
 
     number_here : past w k ≡ s
-    number_here = keeps.number_here t (bare n) l g some-under
+    number_here = keeps.number_here t (bare n) l g some_under
 
     -- its timer starts where the number counts: handed out, and not acknowledged
     starts_counted : is_data u i ≡ true → counts ≡ true → data_starts n.book i e.run u ≡ true
     starts_counted d c =
         let C = counts_says e.run s (counts_is L zero_left n.store n.book i e s S ∙ c) in
-        let o : past w k ≡ data_out n.book i = number_here ∙ sym (keeps.under_number t (bare n) l g some-under d) in
+        let o : past w k ≡ data_out n.book i = number_here ∙ sym (keeps.under_number t (bare n) l g some_under d) in
         let z = ap (λ (v : ℕ). eqb (timer_in n.book (cell i w v)) 0) (sym number_here)
         ∙ ne_eqb (timer_in n.book (cell i w (past w k))) 0 (stands k C.handed C.missing o) in
         rw (d, lt-ltb k e.run.handed C.handed, z)
@@ -293,18 +293,18 @@ module _ (t : List ℕ) (n : Memory) (l : Lists) (g : Good t n.node n.book l) (r
       book₁ = set n.book (timer_at (cell i w s)) over
 
       T : Timed n.book book₁ i w k over
-      T = keeps.start_timed t (bare n) l g some-under kind! d S
+      T = keeps.start_timed t (bare n) l g some_under kind! d S
 
       C : Counts e.run s
       C = counts_says e.run s (counts_is L zero_left n.store n.book i e s S ∙ counted_starts d)
 
       none_then : data_out (ended book₁) i ≡ no_number
-      none_then = (none_idle (ended book₁) i (ended_under book₁ l (keeps.start_within t (bare n) l g some-under kind! d S).lines)).data!
+      none_then = (none_idle (ended book₁) i (ended_under book₁ l (keeps.start_within t (bare n) l g some_under kind! d S).lines)).data!
 
       others_not : (v : ℕ) → v < 256 → v ≢ past w k → eqb v (data_out (ended book₁) i) ≡ eqb v (data_out n.book i)
       others_not v h m =
           ne_eqb v (data_out (ended book₁) i) (λ z. let y : v ≡ no_number = z ∙ none_then in omega (arith, y, h))
-          ∙ sym (ne_eqb v (data_out n.book i) (λ z. m (z ∙ keeps.under_number t (bare n) l g some-under d.data! ∙ sym number_here)))
+          ∙ sym (ne_eqb v (data_out n.book i) (λ z. m (z ∙ keeps.under_number t (bare n) l g some_under d.data! ∙ sym number_here)))
 
       reads_full : timer_for L (ended book₁) i e.run k ≡ e.entry.timeout
       reads_full =
@@ -405,7 +405,7 @@ module _ (t : List ℕ) (n : Memory) (l : Lists) (g : Good t n.node n.book l) (r
       sides : (r z : Bool) → is_reset u i ≡ r → e.state ≡ Enabled d z → EnabledSender n.book l i e d z
           → end_for L n.store (ended n.book) i (end_of (said r z) i) ≡ machine.ended (type_for u) E s
       sides true true r q A =
-          ap (end_for L n.store (ended n.book) i) (keeps.reset_end t (bare n) l g some-under ke d q A r) ∙ reset_ends ke d q A r
+          ap (end_for L n.store (ended n.book) i) (keeps.reset_end t (bare n) l g some_under ke d q A r) ∙ reset_ends ke d q A r
       sides true false r q A =
           nothing_starts (Enabled d false) q (none_handed A.fresh.handed) (λ z. A.unsent refl) (λ z. none_counts A.fresh.taken) (λ z. refl)
       sides false z r q A =
@@ -435,7 +435,7 @@ module _ (t : List ℕ) (n : Memory) (l : Lists) (g : Good t n.node n.book l) (r
       sides true z =
           let b₁ = ended (set n.book (timer_at (cell i w s)) (later (clock_in n.node) e.entry.timeout)) in
           ap (end_for L n.store b₁ i) heeded_end ∙ starts k ke A (data_starts_holds n.book i e u z)
-      sides false z = nothing_starts Open q (keeps.stopped t (bare n) l g some-under z) tt (not_counts k ke A z) (λ y. tt)
+      sides false z = nothing_starts Open q (keeps.stopped t (bare n) l g some_under z) tt (not_counts k ke A z) (λ y. tt)
 
   failing_ends : (m : ℕ) → is_sends e.entry.kind ≡ true → e.state ≡ Failing m → FailingSender n.book l i e m → ends_as (Failing m)
   unfolding started_node started_book
@@ -450,7 +450,7 @@ module _ (t : List ℕ) (n : Memory) (l : Lists) (g : Good t n.node n.book l) (r
           ∙ data_ends ke A.sending A.standing (data_starts_holds n.book i e u z) (Failing m) q (inr (m, refl))
       sides false z =
           ap (end_for L n.store (ended n.book) i) roused_end
-          ∙ nothing_starts (Failing m) q (keeps.stopped t (bare n) l g some-under z) tt (not_counted ke A.sending A.standing z) (λ y. tt)
+          ∙ nothing_starts (Failing m) q (keeps.stopped t (bare n) l g some_under z) tt (not_counted ke A.sending A.standing z) (λ y. tt)
 
   by_state : (k : Bool) → is_sends e.entry.kind ≡ k → (z : State) → e.state ≡ z → Stated n.book l i e k z → ends_as z
   unfolding started_node started_book
@@ -466,13 +466,13 @@ module _ (t : List ℕ) (n : Memory) (l : Lists) (g : Good t n.node n.book l) (r
   x = bare n
 
   K : Ends t x (report_after x (report_answer x)) l i
-  K = report_keeps t x l g some-under
+  K = report_keeps t x l g some_under
 
   abbrev now : Memory
   now = kept_bare n (report_after x Passed)
 
   K-now : Ends t x (report_after x Passed) l i
-  K-now = subst (λ (v : Verdict). Ends t x (report_after x v) l i) (report_goes x some-under) K
+  K-now = subst (λ (v : Verdict). Ends t x (report_after x v) l i) (report_goes x some_under) K
 
   end_now : end_at now i ≡ machine.ended (type_for u) E s
   unfolding report_after
@@ -498,12 +498,12 @@ module _ (t : List ℕ) (n : Memory) (l : Lists) (g : Good t n.node n.book l) (r
 
   step_is : step M reports ≡ done ended_machine
   unfolding step reporting reported
-  step_is = rw (ne_eqb u 0 some-under, elem_listed (count_of t) (end_at n) i (omega (arith, known, g.tabled.count)))
+  step_is = rw (ne_eqb u 0 some_under, elem_listed (count_of t) (end_at n) i (omega (arith, known, g.tabled.count)))
 
   under_follows : Follows t n M reports
   unfolding answer after
   under_follows =
-      let a = report_goes x some-under in
+      let a = report_goes x some_under in
       record { answers = rw (a, step_is); stands = rw (a, step_is) stands_now }
 
 pub report_follows : (t : List ℕ) (n : Memory) (l : Lists) → Good t n.node n.book l → store_of t ≤ length n.store

@@ -413,7 +413,7 @@ module _ (st b : List ℕ) (l : Lists) (L : Lines b l) (i : ℕ) (low : i < 16) 
   on_beyond = beyond good_to e.run.handed (λ k h. on_more M (not f) N k ∙ rw (le-ltb k e.run.handed h) (and-true (good_to k)))
 
   -- of the end point in another state and with another run of the same window and as many handed out, in the book then
-  module _ (st' : State) (r' : Run) (same_window : r'.window ≡ w) (same-handed : r'.handed ≡ e.run.handed)
+  module _ (st' : State) (r' : Run) (same_window : r'.window ≡ w) (same_handed : r'.handed ≡ e.run.handed)
       (narrow : e.run.taken ≤ w.size) where
     abbrev b' : List ℕ
     b' = (turns e.run.handed).book
@@ -458,8 +458,8 @@ module _ (st b : List ℕ) (l : Lists) (L : Lines b l) (i : ℕ) (low : i < 16) 
     number_falls j h =
         number_as (payload_stays j)
         (ap (λ (u : Window). retries_in b' (cell i u (past u j))) same_window ∙ retries_then j h (dec_lt j e.run.handed))
-        (ap (ltb j) same-handed) (ap (λ (u : Window). held u j) same_window)
-        (timer_as (left_of now) b' b' i i e.run r' j j (ap (ltb j) same-handed) (ap (λ (u : Window). eqb (past u j) (data_out b' i)) same_window)
+        (ap (ltb j) same_handed) (ap (λ (u : Window). held u j) same_window)
+        (timer_as (left_of now) b' b' i i e.run r' j j (ap (ltb j) same_handed) (ap (λ (u : Window). eqb (past u j) (data_out b' i)) same_window)
         (ap (λ (u : Window). timer_in b' (cell i u (past u j))) same_window)
         ∙ timer_then j (dec_lt j e.run.handed) (ℕ_discrete (past w j) (data_out b i)))
 
