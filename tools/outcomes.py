@@ -33,8 +33,9 @@ EXCEPT = {
 OUTSIDE = ": &mut Sink<"  # where text goes: a writer, and no lent memory
 # every two types of writers: a theorem in such a module is of any two sinks
 WRITERS = ("module _ (T T' : RattleType) (L : Laws T) (L' : Laws T') (W : Write.Ghosts T.Denot)"
-           " (W' : Write.Ghosts T'.Denot)")
-BEHIND_SINK = r"OneBehind(?: \{[^}]*\})?\s+\(([^\s.()]+)\.Post T L W D\)\s+\(\1\.Post T' L' W' D'\)"
+           " (W' : Write.Ghosts T'.Denot) (D D' : Dict) where")
+BEHIND_SINK = (r"OneBehind(?: \{[^}]*\})?\s+\(([^\s.()]+)\.Post T L W D\)\s+\(\1\.Post T' L' W' D'\)"
+               r"(?:\s+\(λ e\. [^λ→⊎]*\)){2}\s*")
 REFUSES = {"Verdict", "Planned", "Arrived", "HandedOut", "Written", "Told"}  # and for C a number
 NO_REFUSAL = {"shelugvar_tick"}
 FUNCTION = re.compile(r'( *)pub (?:const |unsafe |extern "C" )*fn (\w+)(?:<[^>]*>)?\(')
@@ -127,12 +128,13 @@ def over_contract(crate: str, name: str, theorem: Theorem, kind: str) -> bool:
     """Whether a theorem is of a kind and over the reading of the function's contract, which its file names. One that is
     indented is of a function that is lent a sink: over every two types of writers, and it assumes nothing else."""
     if theorem.indent:
-        opened = re.findall(r"^(?!--)\S.*", theorem.before, re.M)[-1:]
-        if opened != [WRITERS]:
+        # what stands at the margin last, with the lines that go on with it, up to its `where`
+        opened = re.split(r"^(?=[^\s-])", theorem.before, flags=re.M)[-1]
+        if kind == "Spares" or " ".join(re.split(r"(?<= where)\n", opened)[0].split()) != WRITERS:
             return False
-        found = re.match(rf"\s+{BEHIND_SINK}", theorem.stated)
+        found = re.fullmatch(rf"\s+{BEHIND_SINK}", theorem.stated)
     else:
-        found = re.match(rf"\s+{kind}(?: \{{[^}}]*\}})?\s+([^\s.()]+)\.Post\b", theorem.stated)
+        found = re.fullmatch(rf"\s+{kind}(?: \{{[^}}]*\}})?\s+([^\s.()]+)\.Post\b[^→⊎×]*", theorem.stated)
     reading = rf"^use Rattle\.{crate}\.proofs\.(?:\w+\.)*{name}\.Reads as (\S+)$"
     return bool(found) and found[1] in re.findall(reading, theorem.file, re.M)
 

@@ -5,7 +5,7 @@ A rule is a line `- **F3** One sentence. (01, The frame)` of docs/RULES.md. A ci
 line above a declaration, `-- .. [F3, R12]` in crates/*/specs/**/*.antt, `// .. [F3]` in crates/*/src/**/*.rt. What is
 cited is named by the declaration's first identifier. It is a theorem where proofs/ of the same crate has a declaration
 `pub proof : Statement` at the left margin whose type is that name, alone or with plain arguments (the last of which may
-be the name: `pub starred : Claim worked`), or that over every type of writer; else it is a definition.
+be the name: `pub starred : Claim worked`), or that over every type of writer, or every two; else it is a definition.
 
 Fails, naming file and line or the rule, where a rule is cited nowhere in specs/, where a citation names no rule of the
 page or stands anywhere but above a declaration, where a number is given twice, and where the table at the end of
@@ -35,6 +35,12 @@ NO_DECLARATION = ("use", "ghost", "mod", "module", "import")
 WRITERS = r"\(T : RattleType\) \(L : Laws T\) \(W : Write\.Ghosts T\.Denot\) \(D : Dict\)"
 PROOF = re.compile(rf"^pub \S+ :\s+(?:(?:\{{[^}}]*\}} ?)+→ |{WRITERS}\s+→ )?"
                    r"([^\s(){}→×]+)(?!\S)(?![^\n]*→)", re.MULTILINE)
+
+# the theorems of a module over every two types of writers, which assumes nothing either
+TWO_WRITERS = (r"\(T T' : RattleType\) \(L : Laws T\) \(L' : Laws T'\) \(W : Write\.Ghosts T\.Denot\)"
+               r" \(W' : Write\.Ghosts T'\.Denot\)\s+\(D D' : Dict\)")
+MODULE = re.compile(rf"^module _ {TWO_WRITERS} where\n((?:(?:  .*)?\n)+)", re.MULTILINE)
+WITHIN = re.compile(r"^  pub \S+ :\s+([^\s(){}→×]+)(?!\S)(?![^\n]*→)", re.MULTILINE)
 
 
 class Citation(NamedTuple):
@@ -81,7 +87,8 @@ def proved(crate: str) -> set[str]:
     """The names of which, with what they are applied to, a proof of the crate has the type."""
     names: set[str] = set()
     for path in sorted((ROOT / "crates" / crate / "proofs").glob("**/*.antt")):
-        names |= set(PROOF.findall(path.read_text(encoding="utf-8")))
+        text = path.read_text(encoding="utf-8")
+        names |= set(PROOF.findall(text)) | {name for inside in MODULE.findall(text) for name in WITHIN.findall(inside)}
     return names
 
 
