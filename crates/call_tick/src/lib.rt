@@ -190,6 +190,7 @@ fn entries(node: &[u64]) -> u8
 
 // Tick c, where a timer can run out.
 #[tactic(auto, unfolding(crate::specs::Ticking::scan_after, crate::specs::Ticking::scan_both))]
+#[inline(never)]
 fn scan(node: &mut [u64], book: &mut [u16], c: u16) -> u16
     ensures { record { lent = bare node.new book.new; bits = result }
         ≡ scan_after c (bare node.old book.old) }

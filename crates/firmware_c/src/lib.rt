@@ -26,6 +26,7 @@ use node::{Book, Node};
 // Reads a frame: 0 with its fields, or the refusal (10, 15, 16, 17, 18) with `fields` as they were. The payload is the
 // frame's own bytes from 8 on, all but the last. [G5]
 #[unsafe(no_mangle)]
+#[inline(never)]
 pub extern "C" fn shelugvar_frame_read(frame: &[u8], fields: &mut [u8; 7]) -> u8
     ensures answer { result ≡ read_number (read_of frame.now) }
     ensures after { fields.new ≡ read_fields (read_of frame.now) fields.old }
@@ -45,6 +46,7 @@ pub extern "C" fn shelugvar_fault_byte(refusal: u8) -> u8
 // Writes a frame: 0 with payload + 9 bytes at the buffer's start, or the refusal (15, 16, 18, 5, 6) with the
 // buffer as it was. [G5]
 #[unsafe(no_mangle)]
+#[inline(never)]
 pub extern "C" fn shelugvar_frame_write(buffer: &mut [u8], fields: &[u8; 7], payload: &[u8]) -> u8
     ensures answer { result ≡ write_number (write_answer (fields_in fields.now) payload.now
         buffer.old) }
@@ -65,6 +67,7 @@ pub extern "C" fn shelugvar_window_test(start: u8, size: u16, seq: u8) -> u8
 
 // The table is read into a node, a new one or any other. Refuses 1, 6.
 #[unsafe(no_mangle)]
+#[inline(never)]
 pub extern "C" fn shelugvar_setup(
     node: &mut Node,
     book: &mut Book,
@@ -114,6 +117,7 @@ pub extern "C" fn shelugvar_counts(node: &Node, index: usize, values: &mut [u32;
 
 // A payload is accepted and waits. Refuses 2, 3, 4, 5, 8, 7, 6.
 #[unsafe(no_mangle)]
+#[inline(never)]
 pub extern "C" fn shelugvar_send(
     node: &mut Node,
     book: &mut Book,
@@ -132,6 +136,7 @@ pub extern "C" fn shelugvar_send(
 
 // An Urgent waits. Refuses 2, 3, 4, 5, 9, 6.
 #[unsafe(no_mangle)]
+#[inline(never)]
 pub extern "C" fn shelugvar_urgent(
     node: &mut Node,
     book: &mut Book,
@@ -151,6 +156,7 @@ pub extern "C" fn shelugvar_urgent(
 // The payloads of a block are sent in order, up to and including the first that is refused: how many were accepted,
 // and what refused the next, 0 where none was. Refuses 22.
 #[unsafe(no_mangle)]
+#[inline(never)]
 pub extern "C" fn shelugvar_plan(
     node: &mut Node,
     book: &mut Book,
@@ -174,6 +180,7 @@ pub extern "C" fn shelugvar_plan(
 // was for, and the numbers passed, the payloads held or the block's length. Refuses 10, 11, 15, 16, 17, 18, 13, 5,
 // 14, 6.
 #[unsafe(no_mangle)]
+#[inline(never)]
 pub extern "C" fn shelugvar_arrival(
     node: &mut Node,
     book: &mut Book,
@@ -195,6 +202,7 @@ pub extern "C" fn shelugvar_arrival(
 
 // What goes out next is written into the frame buffer: its length, 0 where nothing waits. Refuses 6.
 #[unsafe(no_mangle)]
+#[inline(never)]
 pub extern "C" fn shelugvar_hand_out(
     node: &mut Node,
     book: &mut Book,
@@ -246,6 +254,7 @@ pub extern "C" fn shelugvar_entry_state(node: &Node, index: usize, state: &mut u
 
 // How many bytes of store a table needs. Refuses 1.
 #[unsafe(no_mangle)]
+#[inline(never)]
 pub extern "C" fn shelugvar_store_need(table: &[u8], need: &mut usize) -> u8
     ensures answer { result ≡ refusal_in (needed_of (need_answer table.now)) }
     ensures value { need.new

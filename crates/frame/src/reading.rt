@@ -55,6 +55,7 @@ fn typed_header(frame: &[u8], kind: FrameType) -> Read
 
 // The second half: the header, or refusal 15, 16, 17 or 18.
 #[tactic(auto, unfolding(crate::specs::Reading::header_of))]
+#[inline(always)]
 pub fn header(frame: &[u8]) -> Read
     ensures { result ≡ header_of frame.now }
 {

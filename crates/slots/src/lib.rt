@@ -113,6 +113,7 @@ pub fn drop_slots(book: &mut [u16], i: u8, w: Window, taken: u8, handed: u8)
 
 // Nothing of an open sender waits any more.
 #[tactic(auto, unfolding(crate::specs::Slots::idled))]
+#[inline(always)]
 pub fn idle(book: &mut [u16], i: u8, r: Run)
     ensures { book.new ≡ idled i r book.old }
 {

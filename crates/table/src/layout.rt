@@ -102,6 +102,7 @@ pub fn entry_from(table: &[u8], at: usize) -> Entry
 }
 
 // Entry i. Past the table's end every byte of it is 0.
+#[inline(always)]
 pub fn entry_at(table: &[u8], i: usize) -> Entry
     ensures { result ≡ entry_of table.now i }
 {
