@@ -37,10 +37,8 @@ fn never_fall(block: &[u8], k: u8) -> bool
     ensures { result ≡ never_fall block.now 0 k }
 {
     let mut last = offset(block, 0);
-    let mut j: u8 = 0;
-    while j < k {
-        j += 1;
-        let next = offset(block, j);
+    for j in 0..k {
+        let next = offset(block, j + 1);
         if next < last {
             return false;
         }

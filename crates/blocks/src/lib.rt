@@ -71,13 +71,11 @@ pub fn put_block(out: &mut [u8], store: &[u8], book: &[u16], o: Owner, k: u8) ->
 {
     put16(out, 0, k as u16);
     let mut end = layout::EMPTY + layout::OFFSET_BYTES * k as usize;
-    let mut j: u8 = 0;
-    while j < k {
+    for j in 0..k {
         let p = payload(store, book, o, j);
         put_offset(out, j, end);
         put_all(out, end, p);
         end += p.len();
-        j += 1;
     }
     put_offset(out, k, end);
     if out.len() < end {

@@ -57,10 +57,8 @@ pub fn setup(node: &mut [u64], book: &mut [u16], store: &[u8], table: &[u8]) -> 
 fn clear(ws: &mut [u64])
     ensures { ws.new ≡ replicate (length ws.old) 0 }
 {
-    let mut k = 0;
-    while k < ws.len() {
-        ws[k] = 0;
-        k += 1;
+    for w in ws.iter_mut() {
+        *w = 0;
     }
 }
 
@@ -92,12 +90,10 @@ fn put_entries(node: &mut [u64], table: &[u8])
 {
     let n = table::count(table) as usize;
     let mut place: usize = 0;
-    let mut k = 0;
-    while k < n {
+    for k in 0..n {
         let e = table::entry_at(table, k);
         put_entry(node, k, e, place as u16);
         place += table::area(e);
-        k += 1;
     }
 }
 

@@ -87,14 +87,12 @@ fn send_all(
     let e = load(node, i as usize);
     let need = heads::need(node);
     let mut from = lent::offset(block, 0);
-    let mut j: u8 = 0;
-    while j < k {
+    for j in 0..k {
         let to = lent::offset(block, j + 1);
         let p = lent::between(block, from, to);
         let v = send_one(book, store, i, more(e, j), need, p);
         let Verdict::Refused(why) = v else {
             from = to;
-            j += 1;
             continue;
         };
         return Sent {

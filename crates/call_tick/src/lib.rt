@@ -121,10 +121,8 @@ fn tick_entries(node: &mut [u64], book: &mut [u16], n: u8, c: u16) -> u16
         ≡ tick_entries c n (scan_of node.old book.old 65535) }
 {
     let mut least: u16 = 65535;
-    let mut i: u8 = 0;
-    while i < n {
+    for i in 0..n {
         least = tick_entry(node, book, i, c, least);
-        i += 1;
     }
     least
 }
@@ -169,10 +167,8 @@ fn recover_all(node: &mut [u64], book: &mut [u16], n: u8) -> u16
         ≡ recover_all n (record { lent = bare node.old book.old; bits = 0 }) }
 {
     let mut bits: u16 = 0;
-    let mut i: u8 = 0;
-    while i < n {
+    for i in 0..n {
         bits = recover(node, book, i, bits);
-        i += 1;
     }
     bits
 }

@@ -141,8 +141,7 @@ pub fn tick_slots(
     let handed = e.run.handed;
     let out = port::data_out(book, i);
     let mut running: u64 = 0;
-    let mut k: u8 = 0;
-    while k < handed {
+    for k in 0..handed {
         let t = tick_slot(
             book,
             i,
@@ -159,7 +158,6 @@ pub fn tick_slots(
         failing = t.failing;
         running = t.running;
         least = t.least;
-        k += 1;
     }
     Timers {
         failing,

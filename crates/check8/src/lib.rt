@@ -24,14 +24,13 @@ fn times_x(r: u8) -> u8
 }
 
 // A byte's eight steps: the check byte c with one byte more. [C1, C4]
+#[tactic(auto, unfolding(crate::specs::Polynomial::times_xs, crate::specs::Polynomial::step_byte))]
 pub fn step(c: u8, b: u8) -> u8
     ensures { result ≡ step_byte c b }
 {
     let mut r = c ^ b;
-    let mut n: u8 = 0;
-    while n < 8 {
+    for _ in 0..8u8 {
         r = times_x(r);
-        n += 1;
     }
     r
 }
@@ -41,10 +40,8 @@ pub fn check(bytes: &[u8]) -> u8
     ensures { result ≡ check_of bytes.now }
 {
     let mut c = START;
-    let mut i = 0;
-    while i < bytes.len() {
-        c = step(c, bytes[i]);
-        i += 1;
+    for b in bytes {
+        c = step(c, *b);
     }
     c
 }

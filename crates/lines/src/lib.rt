@@ -90,10 +90,8 @@ pub fn numbers<W: Write>(to: &mut Sink<W>, out: &mut [u8], at: usize, vs: &[u64]
         Says W.contents to.old (page out.old at) to.new (page out.new result) (values_text vs.now) }
 {
     let mut next = at;
-    let mut i = 0;
-    while i < vs.len() {
-        next = value(to, out, next, vs[i]);
-        i += 1;
+    for v in vs {
+        next = value(to, out, next, *v);
     }
     next
 }
@@ -106,11 +104,8 @@ pub fn values<W: Write>(to: &mut Sink<W>, out: &mut [u8], at: usize, bytes: &[u8
         Says W.contents to.old (page out.old at) to.new (page out.new result) (values_text bytes.now) }
 {
     let mut next = at;
-    let mut i = 0;
-    while i < bytes.len() {
-        let b = bytes[i];
-        next = value(to, out, next, b as u64);
-        i += 1;
+    for b in bytes {
+        next = value(to, out, next, *b as u64);
     }
     next
 }

@@ -57,9 +57,7 @@ pub fn put_words(ws: &mut [u64], i: usize, words: &[u64])
         return;
     }
     let n = least(ws.len() - i, words.len());
-    let mut k = 0;
-    while k < n {
+    for k in 0..n {
         ws[i + k] = words[k];
-        k += 1;
     }
 }

@@ -104,10 +104,8 @@ fn drop_slot(book: &mut [u16], i: u8, w: Window, handed: u8, k: u8)
 pub fn drop_slots(book: &mut [u16], i: u8, w: Window, taken: u8, handed: u8)
     ensures { book.new ≡ drop_slots i w handed taken book.old }
 {
-    let mut k: u8 = 0;
-    while k < taken {
+    for k in 0..taken {
         drop_slot(book, i, w, handed, k);
-        k += 1;
     }
 }
 

@@ -30,10 +30,8 @@ pub fn store_need(table: &[u8]) -> usize
 {
     let n = count(table) as usize;
     let mut need = 0;
-    let mut i = 0;
-    while i < n {
+    for i in 0..n {
         need += area(entry_at(table, i));
-        i += 1;
     }
     need
 }

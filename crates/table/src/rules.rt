@@ -48,12 +48,10 @@ fn entries_good(table: &[u8]) -> bool
     ensures { result ≡ every_below (count_of table.now) (entry_good table.now) }
 {
     let n = count(table) as usize;
-    let mut i = 0;
-    while i < n {
+    for i in 0..n {
         if !entry_good(table, i) {
             return false;
         }
-        i += 1;
     }
     true
 }
@@ -114,12 +112,10 @@ fn apart(table: &[u8], i: usize) -> bool
     ensures { result ≡ Rules·apart table.now i }
 {
     let e = entry_at(table, i);
-    let mut j = 0;
-    while j < i {
+    for j in 0..i {
         if agree(e, entry_at(table, j)) {
             return false;
         }
-        j += 1;
     }
     true
 }

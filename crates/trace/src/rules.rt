@@ -35,12 +35,10 @@ fn records_good(file: &[u8]) -> bool
     ensures { result ≡ every_below (count_of file.now) (record_good file.now) }
 {
     let n = count(file) as usize;
-    let mut k = 0;
-    while k < n {
+    for k in 0..n {
         if !record_good(file, k) {
             return false;
         }
-        k += 1;
     }
     true
 }
@@ -90,13 +88,10 @@ fn placed(k: usize, kind: u8) -> bool
 fn unused_good(file: &[u8]) -> bool
     ensures { result ≡ unused_good file.now }
 {
-    let first = count(file) as usize + 1;
-    let mut k = first;
-    while k <= layout::RECORDS {
+    for k in count(file) as usize + 1..layout::RECORDS + 1 {
         if begin(file, k) != 0 {
             return false;
         }
-        k += 1;
     }
     true
 }

@@ -127,14 +127,12 @@ pub fn replay<W: Write>(
     }
     let n = layout::count(file) as usize;
     let mut next = at;
-    let mut k = 0;
-    while k < n {
+    for k in 0..n {
         let t = step(node, book, store, buffer, file, k);
         next = line(to, out, next, file, k, t);
         if k == FIRST && is_refused(t) {
             return next;
         }
-        k += 1;
     }
     next
 }

@@ -109,9 +109,7 @@ pub fn put_all(s: &mut [u8], i: usize, bytes: &[u8])
         return;
     }
     let n = least(s.len() - i, bytes.len());
-    let mut k = 0;
-    while k < n {
+    for k in 0..n {
         s[i + k] = bytes[k];
-        k += 1;
     }
 }

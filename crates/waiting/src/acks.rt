@@ -98,9 +98,7 @@ pub fn drop(node: &mut [u64], i: u8)
     ensures { node.new ≡ dropped i node.old }
 {
     let n = waiting(node);
-    let mut k: u8 = 0;
-    while k < n {
+    for _ in 0..n {
         turn(node, i);
-        k += 1;
     }
 }

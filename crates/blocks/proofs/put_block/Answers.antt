@@ -5,42 +5,40 @@ use Rattle.blocks.proofs.Appending.{begun_more, begun_long, begun_done, payloads
 use Rattle.blocks.proofs.put_block.Goals as goal
 
 pub loop-j-preserved : goal.loop-j-preserved
-loop-j-preserved c = (
-  omega arith,
-  begun_more
-      c.payload-p.result.now
-      c.loop-j.invariant.1
-      (omega arith)
-      c.payload-p.ensures.short
-      c.put_offset.ensures
-      c.put_all.ensures
-      (payloads_more _ _ _ _ _ _ _ _ c.payload-p.ensures.is),
-)
+loop-j-preserved c =
+    begun_more
+    c.payload-p.result.now
+    c.loop-j.invariant
+    (omega arith)
+    c.payload-p.ensures.short
+    c.put_offset.ensures
+    c.put_all.ensures
+    (payloads_more _ _ _ _ _ _ _ _ c.payload-p.ensures.is)
 
 pub returns-then-out-end-clause-length : goal.returns-then-out-end-clause-length
 returns-then-out-end-clause-length c =
     let l = c.loop-j in
     let a = c.args in
     let h : l.j ≡ a.k = omega arith in
-    let w = begun_done a.out.now (rw h at l.invariant.1) c.put16.ensures c.put_offset-2.ensures in omega (arith, w.0, (c.put_offset-2.auto.out ∙ begun_long c.loop-j.invariant.1 ∙ c.put16.auto.s))
+    let w = begun_done a.out.now (rw h at l.invariant) c.put16.ensures c.put_offset-2.ensures in omega (arith, w.0, (c.put_offset-2.auto.out ∙ begun_long c.loop-j.invariant ∙ c.put16.auto.s))
 
 pub returns-then-out-end-clause-written : goal.returns-then-out-end-clause-written
 returns-then-out-end-clause-written c =
     let l = c.loop-j in
     let a = c.args in
     let h : l.j ≡ a.k = omega arith in
-    let w = begun_done a.out.now (rw h at l.invariant.1) c.put16.ensures c.put_offset-2.ensures in w.1
+    let w = begun_done a.out.now (rw h at l.invariant) c.put16.ensures c.put_offset-2.ensures in w.1
 
 pub returns-clause-length : goal.returns-clause-length
 returns-clause-length c =
     let l = c.loop-j in
     let a = c.args in
     let h : l.j ≡ a.k = omega arith in
-    let w = begun_done a.out.now (rw h at l.invariant.1) c.put16.ensures c.put_offset-2.ensures in omega (arith, w.0, (c.put_offset-2.auto.out ∙ begun_long c.loop-j.invariant.1 ∙ c.put16.auto.s))
+    let w = begun_done a.out.now (rw h at l.invariant) c.put16.ensures c.put_offset-2.ensures in omega (arith, w.0, (c.put_offset-2.auto.out ∙ begun_long c.loop-j.invariant ∙ c.put16.auto.s))
 
 pub returns-clause-written : goal.returns-clause-written
 returns-clause-written c =
     let l = c.loop-j in
     let a = c.args in
     let h : l.j ≡ a.k = omega arith in
-    let w = begun_done a.out.now (rw h at l.invariant.1) c.put16.ensures c.put_offset-2.ensures in w.1
+    let w = begun_done a.out.now (rw h at l.invariant) c.put16.ensures c.put_offset-2.ensures in w.1

@@ -20,9 +20,6 @@ loop-i-preserved c =
     let l = c.loop-i in
     let t = c.recover-bits in
     record {
-      within = omega (arith, c.loop-i-test.true);
       below = below_more _ _ _ l.invariant.below t.ensures;
-      long = t.auto.node ∙ l.invariant.long;
-      long_2 = t.auto.book ∙ l.invariant.long_2;
       is = one_more _ _ _ _ l.invariant.is t.ensures;
     }

@@ -7,14 +7,14 @@ use Rattle.check8.specs.Polynomial.{check_from}
 use Rattle.check8.proofs.Laws.{one_more, at_end}
 use Rattle.check8.proofs.check.Goals as goal
 
-pub loop-i-preserved : goal.loop-i-preserved
-loop-i-preserved c =
+pub loop-b-preserved : goal.loop-b-preserved
+loop-b-preserved c =
     let bs = c.args.bytes.now in
-    let l = c.loop-i in
-    (omega arith, ap (λ (x : ℕ). check_from x (drop (l.i + 1) bs)) c.step-c.ensures ∙ one_more bs l.c l.i (omega arith) ∙ l.invariant.1)
+    let l = c.loop-b in
+    ap (λ (x : ℕ). check_from x (drop (l.b-index + 1) bs)) c.step-c.ensures ∙ one_more bs l.c l.b-index (omega arith) ∙ l.invariant
 
 pub returns : goal.returns
 returns c =
     let bs = c.args.bytes.now in
-    let l = c.loop-i in
-    sym (at_end bs l.c l.i (omega arith)) ∙ l.invariant.1
+    let l = c.loop-b in
+    sym (at_end bs l.c l.b-index (omega arith)) ∙ l.invariant

@@ -5,29 +5,29 @@ use Rattle.lines.proofs.Pages.{whole, more, all}
 use Rattle.lines.proofs.Saying.{says_nothing, says_more}
 use Rattle.lines.proofs.values.Goals as goal
 
-pub loop-i-init : goal.loop-i-init
+pub loop-b-init : goal.loop-b-init
 unfolding valued_all
-loop-i-init g c = record {
+loop-b-init g c = record {
   begun = record { within = omega arith; sized = refl; first = refl };
   said = λ r. says_nothing r.within;
 }
 
-pub loop-i-preserved : goal.loop-i-preserved
-loop-i-preserved g c =
+pub loop-b-preserved : goal.loop-b-preserved
+loop-b-preserved g c =
     let v = c.value-next.ensures in
-    let i = c.loop-i.invariant in
+    let i = c.loop-b.invariant in
     record {
       begun = more i.begun (omega arith) (search rules) (whole v.answer v.after);
       said = λ r.
           let x = i.said r in
-          says_more c.args.bytes.now c.loop-i.i (omega arith) x (v.written (record { within = x.within; room = omega (arith, r.room, i.begun.sized) }));
+          says_more c.args.bytes.now c.loop-b.b-index (omega arith) x (v.written (record { within = x.within; room = omega (arith, r.room, i.begun.sized) }));
     }
 
 pub returns-clause-answer : goal.returns-clause-answer
-returns-clause-answer g c = ap (λ (p : Page). p.taken) (all c.loop-i.invariant.begun (omega arith))
+returns-clause-answer g c = ap (λ (p : Page). p.taken) (all c.loop-b.invariant.begun (omega arith))
 
 pub returns-clause-after : goal.returns-clause-after
-returns-clause-after g c = ap (λ (p : Page). p.bytes) (all c.loop-i.invariant.begun (omega arith))
+returns-clause-after g c = ap (λ (p : Page). p.bytes) (all c.loop-b.invariant.begun (omega arith))
 
 pub returns-clause-written : goal.returns-clause-written
-returns-clause-written g c r = rw (take_all c.loop-i.i c.args.bytes.now (omega arith)) at (c.loop-i.invariant.said r)
+returns-clause-written g c r = rw (take_all c.loop-b.b-index c.args.bytes.now (omega arith)) at (c.loop-b.invariant.said r)

@@ -1,5 +1,5 @@
 -- The lines and the state are those after the first k records.
-use Rattle.std.proofs.Common.{◌≡◌, ℕ, ◌-◌, ◌≤◌, ◌<◌, false, true, List, length}
+use Rattle.std.proofs.Common.{◌≡◌, ℕ, ◌≤◌, ◌<◌, false, true, List, length}
 use Rattle.end_points.specs.Lent.{Lent, whole}
 use Rattle.lines.specs.Lines.{Page, page}
 use Rattle.lines.specs.Sink.{Says, HasRoom}
@@ -13,7 +13,6 @@ pub record Replayed (f : List ℕ) (p q : Page) (x y : Lent) (n k : ℕ) : Type 
   pub good : good_trace f ≡ true
   pub all : n ≡ count_of f
   pub few : n ≤ 4294967295
-  pub within : k ≤ n
   pub lines : q ≡ lines_after p x f k
   pub state : y ≡ state_after x f k
   pub goes_on : 0 < k → is_refused (told_at x f 0) ≡ false
@@ -31,6 +30,3 @@ invariant-loop-k g l = record {
       Says g.W.Write.contents l.initial.to (page l.initial.out l.at) l.to (page l.out l.next)
       (lines_text (whole l.initial.node l.initial.book l.initial.store l.initial.buffer) l.file l.k);
 }
-
-abbrev pub decreases-loop-k : goal.decreases-loop-k
-decreases-loop-k g l = l.n - l.k

@@ -14,7 +14,6 @@ loop-j-preserved c =
     let q = c.offset-next in
     let a = c.args in
     record {
-      within = omega arith;
       is = q.ensures;
       rest = l.invariant.rest ∙ one a.block.now a.k l.j c.loop-j-test.true ∙ rw (le-leb (offset_in a.block.now l.j) (offset_in a.block.now (l.j + 1)) (rw (l.invariant.is, q.ensures) at c.if-next-last.false));
     }

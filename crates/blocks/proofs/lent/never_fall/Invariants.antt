@@ -3,14 +3,13 @@
 use mathlib.Core.Path.{◌≡◌}
 use mathlib.Core.Bool.{◌&&◌}
 use mathlib.Core.List.{List}
-use Prim.Native.Nat.{ℕ, suc, ◌+◌, ◌-◌, ◌≤◌, ◌<◌}
+use Prim.Native.Nat.{ℕ, suc, ◌+◌, ◌-◌, ◌<◌}
 use native.Mathlib.Omega.{arith}
 use lib.Dec.{leb}
 use Rattle.blocks.specs.Reading.{offset_in, never_fall}
 use Rattle.blocks.proofs.lent.never_fall.Given as goal
 
 pub record Left (s : List ℕ) (k last j : ℕ) : Type 0 where
-  pub within : j ≤ k
   pub is : last ≡ offset_in s j
   pub rest : never_fall s 0 k ≡ never_fall s j (k - j)
 
@@ -23,6 +22,3 @@ one s k j h = let z : k - j ≡ suc (k - (j + 1)) = omega arith in rw z
 
 abbrev pub invariant-loop-j : goal.invariant-loop-j
 invariant-loop-j l = Left l.block l.k l.last l.j
-
-abbrev pub decreases-loop-j : goal.decreases-loop-j
-decreases-loop-j l = l.k - l.j

@@ -23,7 +23,7 @@ one_more t a b z k p e hb he hp q = rw (add-one, ← hb, ← he, ← hp) q
 
 few : (c : In-loop-k) → c.loop-k.k < 16
 few c =
-    omega (arith, c.loop-k-test.true, c.loop-k.invariant.all, good_head c.args.table.now c.requires)
+    omega (arith, c.loop-k-test.true, c.count-n.ensures, good_head c.args.table.now c.requires)
 
 -- and the area of entry k ends within a store of at most 32,768 bytes
 
@@ -32,8 +32,8 @@ inside : (c : In-loop-k)
 inside c =
     let l = c.loop-k in
     let t = c.args.table.now in
-    let m : l.k < count_of t = omega (arith, c.loop-k-test.true, l.invariant.all) in
-    omega (arith, areas_inside t l.k m, store_fits t c.requires, l.invariant.at)
+    let m : l.k < count_of t = omega (arith, c.loop-k-test.true, c.count-n.ensures) in
+    omega (arith, areas_inside t l.k m, store_fits t c.requires, l.invariant.0)
 
 pub overflow_cast-place : goal.overflow_cast-place
 overflow_cast-place c = omega (arith, inside (goal.at.overflow_cast-place c).In-loop-k)

