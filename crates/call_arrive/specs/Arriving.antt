@@ -1,18 +1,14 @@
 -- An arrival: which answer, and what all that was lent holds afterwards. Cited by the call. Assumes nothing.
-use Rattle.std.specs.Prelude.{ℕ, ◌+◌, ◌*◌, Bool, not, ◌&&◌, List, [], ◌∷◌, length, get_or, eqb, leb, ltb}
-use Rattle.units.specs.Refusals.{verdict}
+use Rattle.std.specs.Prelude.{ℕ, ◌+◌, ◌*◌, Bool, not, ◌&&◌, List, [], ◌∷◌, length, get_or, eqb, leb, ltb, Result, Ok, Err}
+use Rattle.units.specs.Refusals.{verdict, Verdict}
 use Rattle.units.specs.declared.refusals.Refusal.{Refusal}
 use Rattle.units.specs.declared.refusals.Refusal.TheVariants as refusal
-use Rattle.units.specs.declared.refusals.Verdict.{Verdict}
-use Rattle.units.specs.declared.refusals.Verdict.TheVariants as verdicts
 use Rattle.memory.specs.Layout.{ack_places}
 use Rattle.waiting.specs.Acks.{waiting_of}
 use Rattle.frame.specs.Layout.{destination_byte, protocol_byte, payload_of}
 use Rattle.frame.specs.Types.{carries, answered}
 use Rattle.frame.specs.Reading.{sound_of, header_of}
 use Rattle.frame.specs.declared.Header.{Header}
-use Rattle.frame.specs.declared.Read.{Read}
-use Rattle.frame.specs.declared.Read.TheVariants as read
 use Rattle.frame.specs.declared.FrameType.{FrameType}
 use Rattle.frame.specs.declared.FrameType.TheVariants as type
 use Rattle.end_points.specs.Ends.{end_of}
@@ -21,12 +17,11 @@ use Rattle.end_points.specs.Lent.{Lent}
 use Rattle.end_points.specs.States.{is_closed, is_open}
 use Rattle.end_points.specs.declared.EndPoint.{EndPoint}
 use Rattle.end_points.specs.declared.answers.Was.{Was}
-use Rattle.end_points.specs.declared.answers.Arrived.{Arrived}
-use Rattle.end_points.specs.declared.answers.Arrived.TheVariants as arrived
 use Rattle.arrive_ack.specs.Acking.{ack_answer, ack_after}
 use Rattle.arrive_data.specs.Receiving.{reset_answer, reset_after, data_answer, data_after, urgent_answer, urgent_after}
 use Rattle.arrive_lookup.specs.Lookup.{entry_for}
 use Rattle.blocks.specs.Blocks.{empty, offset_bytes}
+use Rattle.end_points.specs.declared.answers.Arrival.{Arrival}
 
 -- destination and protocol ID are ours [F2, F3, R11]
 abbrev pub ours : List ℕ → List ℕ → Bool
@@ -68,26 +63,26 @@ taken_in_answer x i e type.Acknowledge s p = ack_answer e e.state s
 taken_in_answer x i e type.Reset s p = reset_answer e
 taken_in_answer x i e type.Urgent s p = urgent_answer x.out p
 
-abbrev pub answer_as : Verdict → Arrived → Arrived
-answer_as verdicts.Passed a = a
-answer_as (verdicts.Refused w) a = arrived.Refused w
+abbrev pub answer_as : Verdict → Result Arrival Refusal → Result Arrival Refusal
+answer_as (Ok _) a = a
+answer_as (Err w) a = Err w
 
 -- 13, 5, 14, 6 at entry i; else which entry that is, and what the frame was there [R37, O8]
-unfoldable pub entry_answer : Lent → ℕ → Header → List ℕ → Arrived
+unfoldable pub entry_answer : Lent → ℕ → Header → List ℕ → Result Arrival Refusal
 entry_answer x i h p =
-    answer_as (entry_verdict x i h) (arrived.At i (taken_in_answer x i (end_of x.node i) h.kind h.seq.0 p))
+    answer_as (entry_verdict x i h) (Ok (record { entry = i; was = taken_in_answer x i (end_of x.node i) h.kind h.seq.0 p }))
 
 -- refused for the header's fault, or judged at the entry that the frame is for [R15, R16, R17, R18, R37]
-unfoldable pub read_answer : Lent → Read → List ℕ → Arrived
-read_answer x (read.Refused w) p = arrived.Refused w
-read_answer x (read.Frame h) p = entry_answer x (entry_of x h) h p
+unfoldable pub read_answer : Lent → Result Header Refusal → List ℕ → Result Arrival Refusal
+read_answer x (Err w) p = Err w
+read_answer x (Ok h) p = entry_answer x (entry_of x h) h p
 
 -- 10, 11, and then the rest [R10, R11]
 abbrev pub frame_tests : List ℕ → List ℕ → List (Bool × Refusal)
 frame_tests ws f = (not (sound_of f), refusal.BadFrame) ∷ (not (ours ws f), refusal.NotOurs) ∷ []
 
 -- the answer to a frame that arrives [R37]
-unfoldable pub arrival_answer : Lent → List ℕ → Arrived
+unfoldable pub arrival_answer : Lent → List ℕ → Result Arrival Refusal
 arrival_answer x f = answer_as (verdict (frame_tests x.node f)) (read_answer x (header_of f) (payload_of f))
 
 -- ---- what it leaves
@@ -100,15 +95,15 @@ taken_in_after x i e type.Urgent s p = urgent_after x p
 
 -- a refused one leaves all as it was [R44]
 abbrev pub after_as : Verdict → Lent → Lent → Lent
-after_as verdicts.Passed x y = y
-after_as (verdicts.Refused w) x y = x
+after_as (Ok _) x y = y
+after_as (Err w) x y = x
 
 unfoldable pub entry_after : Lent → ℕ → Header → List ℕ → Lent
 entry_after x i h p = after_as (entry_verdict x i h) x (taken_in_after x i (end_of x.node i) h.kind h.seq.0 p)
 
-unfoldable pub read_after : Lent → Read → List ℕ → Lent
-read_after x (read.Refused w) p = x
-read_after x (read.Frame h) p = entry_after x (entry_of x h) h p
+unfoldable pub read_after : Lent → Result Header Refusal → List ℕ → Lent
+read_after x (Err w) p = x
+read_after x (Ok h) p = entry_after x (entry_of x h) h p
 
 -- what a frame that arrives leaves [R44]
 unfoldable pub arrival_after : Lent → List ℕ → Lent

@@ -14,7 +14,7 @@ use blocks::layout;
 use end_points::states::{is_closed, is_open};
 use end_points::{heads, load_entry, load_state};
 use frame::FrameType;
-use units::refusals::{Refusal, Verdict};
+use units::refusals::Refusal;
 use waiting::acks;
 
 // Whether a frame of a type carries a payload into a block.
@@ -62,7 +62,14 @@ fn acks_full(t: FrameType, n: u8) -> bool
 
 // Data and Urgent, with a payload of n bytes, for entry i, which is not Closed.
 #[tactic(auto, unfolding(end_points::specs::Ends::end_of))]
-fn judge_payload(node: &[u64], i: u8, t: FrameType, n: u16, store: usize, block: usize) -> Verdict
+fn judge_payload(
+    node: &[u64],
+    i: u8,
+    t: FrameType,
+    n: u16,
+    store: usize,
+    block: usize,
+) -> Result<(), Refusal>
     ensures { let e = end_of node.now i in
         result ≡ verdict ((not (is_open e.state), refusal.NoEndPoint)
         ∷ (ltb e.entry.largest n, refusal.PayloadLength)
@@ -72,51 +79,58 @@ fn judge_payload(node: &[u64], i: u8, t: FrameType, n: u16, store: usize, block:
 {
     let state = load_state(node, i as usize);
     if !is_open(state) {
-        return Verdict::Refused(Refusal::NoEndPoint);
+        return Err(Refusal::NoEndPoint);
     }
     let entry = load_entry(node, i as usize);
     if entry.largest < n {
-        return Verdict::Refused(Refusal::PayloadLength);
+        return Err(Refusal::PayloadLength);
     }
     if acks_full(t, acks::waiting(node)) {
-        return Verdict::Refused(Refusal::AcksFull);
+        return Err(Refusal::AcksFull);
     }
     if store < heads::need(node) {
-        return Verdict::Refused(Refusal::TooShort);
+        return Err(Refusal::TooShort);
     }
     if block < block_room(node, i) {
-        return Verdict::Refused(Refusal::TooShort);
+        return Err(Refusal::TooShort);
     }
-    Verdict::Passed
+    Ok(())
 }
 
 // Acknowledge and Reset.
-fn judge_bare(node: &[u64], t: FrameType, store: usize) -> Verdict
+fn judge_bare(node: &[u64], t: FrameType, store: usize) -> Result<(), Refusal>
     ensures { result ≡ verdict ((answered t && leb ack_places (waiting_of node.now), refusal.AcksFull)
         ∷ (ltb store (need_in node.now), refusal.TooShort) ∷ []) }
 {
     if acks_full(t, acks::waiting(node)) {
-        return Verdict::Refused(Refusal::AcksFull);
+        return Err(Refusal::AcksFull);
     }
     if store < heads::need(node) {
-        return Verdict::Refused(Refusal::TooShort);
+        return Err(Refusal::TooShort);
     }
-    Verdict::Passed
+    Ok(())
 }
 
 // The verdict on a frame of type t with a payload of n bytes, for entry i; with a store and a block of so many bytes.
 // What it asks of the end point it reads itself, a word or two: the whole is read once the frame is to be taken in.
 #[tactic(auto, unfolding(end_points::specs::Ends::end_of))]
-pub fn judge(node: &[u64], i: u8, t: FrameType, n: u16, store: usize, block: usize) -> Verdict
+pub fn judge(
+    node: &[u64],
+    i: u8,
+    t: FrameType,
+    n: u16,
+    store: usize,
+    block: usize,
+) -> Result<(), Refusal>
     ensures { let ws = node.now in
         result ≡ verdict (entry_tests ws i (end_of ws i) t n store block) }
 {
     if heads::count(node) <= i {
-        return Verdict::Refused(Refusal::NoEndPoint);
+        return Err(Refusal::NoEndPoint);
     }
     let state = load_state(node, i as usize);
     if is_closed(state) {
-        return Verdict::Refused(Refusal::NoEndPoint);
+        return Err(Refusal::NoEndPoint);
     }
     if is_delivered(t) {
         return judge_payload(node, i, t, n, store, block);

@@ -9,20 +9,19 @@ ghost use Rattle.std.specs.Prelude.{◌≡◌, ◌<◌, length};
 ghost use Rattle.units.specs.Refusals.{verdict};
 ghost use Rattle.end_points.specs.Ends.{end_of};
 ghost use Rattle.end_points.specs.Lent.{whole};
-ghost use Rattle.end_points.specs.declared.answers.Arrived.TheVariants as arrived;
 ghost use Rattle.call_arrive.specs.Arriving.{ours, entry_tests, taken_in_answer, taken_in_after, answer_as, after_as};
 ghost use Rattle.call_arrive.specs.Arriving.{arrival_answer, arrival_after};
 
 use arrive_ack::acknowledge;
 use arrive_data::{take_data, take_reset, take_urgent};
 use arrive_lookup::entry_for;
-use end_points::answers::{Arrived, Was};
+use end_points::answers::{Arrival, Was};
 use end_points::{EndPoint, heads, load_entry, load_place, load_run, load_state};
 use frame::reading::{header, is_sound, payload};
-use frame::{FrameType, Read, layout};
+use frame::{FrameType, layout};
 use judging::judge;
 use units::bytes::byte_at;
-use units::refusals::{Refusal, Verdict};
+use units::refusals::Refusal;
 use units::{Address, Seq};
 
 // Whether destination and protocol ID are ours.
@@ -95,26 +94,22 @@ fn come(
     n: u16,
     s: Seq,
     payload: &[u8],
-) -> Arrived
+) -> Result<Arrival, Refusal>
     requires { length payload.now < 65536 }
     ensures answer { let x = whole node.old book.old store.old out.old in
         let e = end_of x.node i in
         let v = verdict (entry_tests x.node i e t n (length x.store) (length x.out)) in
-        result ≡ answer_as v (arrived.At i (taken_in_answer x i e t s.0 payload.now)) }
+        result ≡ answer_as v (Ok (record { entry = i; was = taken_in_answer x i e t s.0 payload.now })) }
     ensures after { let x = whole node.old book.old store.old out.old in
         let e = end_of x.node i in
         let v = verdict (entry_tests x.node i e t n (length x.store) (length x.out)) in
         whole node.new book.new store.new out.new
         ≡ after_as v x (taken_in_after x i e t s.0 payload.now) }
 {
-    match judge(node, i, t, n, store.len(), out.len()) {
-        Verdict::Refused(w) => Arrived::Refused(w),
-        Verdict::Passed => {
-            let e = read_end(node, i as usize);
-            let was = take(node, book, store, out, i, e, t, s, payload);
-            Arrived::At(i, was)
-        }
-    }
+    judge(node, i, t, n, store.len(), out.len())?;
+    let e = read_end(node, i as usize);
+    let was = take(node, book, store, out, i, e, t, s, payload);
+    Ok(Arrival { entry: i, was })
 }
 
 // A frame arrives.
@@ -125,35 +120,35 @@ pub fn arrive(
     store: &mut [u8],
     out: &mut [u8],
     frame: &[u8],
-) -> Arrived
+) -> Result<Arrival, Refusal>
     ensures answer { let x = whole node.old book.old store.old out.old in
         result ≡ arrival_answer x frame.now }
     ensures after { let x = whole node.old book.old store.old out.old in
         whole node.new book.new store.new out.new
         ≡ arrival_after x frame.now }
 {
-    if is_sound(frame) {
-        if is_ours(node, frame) {
-            match header(frame) {
-                Read::Refused(w) => return Arrived::Refused(w),
-                Read::Frame(h) => {
-                    let t = h.kind;
-                    let i = entry_for(node, t, h.source, h.channel);
-                    return come(
-                        node,
-                        book,
-                        store,
-                        out,
-                        i,
-                        t,
-                        h.length,
-                        h.seq,
-                        payload(frame),
-                    );
-                }
-            }
-        }
-        return Arrived::Refused(Refusal::NotOurs);
+    if !is_sound(frame) {
+        return Err(Refusal::BadFrame);
     }
-    Arrived::Refused(Refusal::BadFrame)
+    if !is_ours(node, frame) {
+        return Err(Refusal::NotOurs);
+    }
+    match header(frame) {
+        Err(why) => Err(why),
+        Ok(h) => {
+            let t = h.kind;
+            let i = entry_for(node, t, h.source, h.channel);
+            come(
+                node,
+                book,
+                store,
+                out,
+                i,
+                t,
+                h.length,
+                h.seq,
+                payload(frame),
+            )
+        }
+    }
 }

@@ -1,6 +1,6 @@
 -- Laws of a call's outcome: of a buffer and a frame, and that what becomes of the frame that goes out next is what becomes of the
 -- call, once the store is long enough. Assumes nothing.
-use Rattle.std.proofs.Common.{◌≡◌, ℕ, ◌+◌, ◌<◌, ◌≤◌, false, ltb, List, [], length, refl, arith, le-ltb, lt-ltb}
+use Rattle.std.proofs.Common.{◌≡◌, ℕ, ◌+◌, ◌<◌, ◌≤◌, false, ltb, List, [], length, refl, arith, le-ltb, lt-ltb, Result, Ok, Err}
 use lib.Seq.{sets}
 use Rattle.units.specs.declared.refusals.Refusal.TheVariants as refusal
 use Rattle.frame.specs.Layout.{frame_bytes}
@@ -8,34 +8,33 @@ use Rattle.frame.specs.declared.Fields.{Fields}
 use Rattle.frame.proofs.WriteLaws.{length_frame}
 use Rattle.end_points.specs.Heads.{need_in}
 use Rattle.end_points.specs.Lent.{Lent}
-use Rattle.end_points.specs.declared.answers.HandedOut.{HandedOut}
-use Rattle.end_points.specs.declared.answers.HandedOut.TheVariants.{Length, Refused}
 use Rattle.call_hand_out.specs.declared.Next.{Next}
 use Rattle.waiting.specs.Port.{under_in}
 use Rattle.call_hand_out.specs.Handing.{next_out, frame_out, fitted, once, out_node, out_book, hand_out_answer, hand_out_after}
+use Rattle.units.specs.declared.refusals.Refusal.{Refusal}
 
 -- ---- the buffer
 
 -- a frame is its payload and nine bytes more
-pub too_short : (out : List ℕ) (d : Fields) (p : List ℕ) → length out < length p + 9 → Refused refusal.TooShort ≡ fitted out (frame_bytes d p)
+pub too_short : (out : List ℕ) (d : Fields) (p : List ℕ) → length out < length p + 9 → Err refusal.TooShort ≡ fitted out (frame_bytes d p)
 too_short out d p h = rw (length_frame d p, lt-ltb (length out) (length p + 9) h)
 
-pub long_enough : (out : List ℕ) (d : Fields) (p : List ℕ) → length p + 9 ≤ length out → Length (length p + 9) ≡ fitted out (frame_bytes d p)
+pub long_enough : (out : List ℕ) (d : Fields) (p : List ℕ) → length p + 9 ≤ length out → Ok (length p + 9) ≡ fitted out (frame_bytes d p)
 long_enough out d p h = rw (length_frame d p, le-ltb (length out) (length p + 9) h)
 
 -- nothing fits any buffer
-pub nothing : (out : List ℕ) → Length 0 ≡ fitted out []
+pub nothing : (out : List ℕ) → Ok 0 ≡ fitted out []
 nothing out = rw (le-ltb (length out) 0 (omega arith))
 
 -- ---- the call
 
 -- what a frame leaves as it was is the same in any case
-pub once_same : (r : HandedOut) (l : List ℕ) → l ≡ once r l l
-once_same (Refused w) l = refl
-once_same (Length n) l = refl
+pub once_same : (r : Result ℕ Refusal) (l : List ℕ) → l ≡ once r l l
+once_same (Err w) l = refl
+once_same (Ok n) l = refl
 
 after_next :
-    (x : Lent) (n : Next) (r : HandedOut) →
+    (x : Lent) (n : Next) (r : Result ℕ Refusal) →
     next_out x.node x.book ≡ n →
     record {
       node = once r x.node (out_node x.node n);
@@ -45,11 +44,11 @@ after_next :
     }
     ≡ hand_out_after x r
 unfolding hand_out_after
-after_next x n (Refused w) h = refl
-after_next x n (Length k) h = rw h
+after_next x n (Err w) h = refl
+after_next x n (Ok k) h = rw h
 
 pub outcome :
-    (x : Lent) (n : Next) (r : HandedOut) (ws b f : List ℕ) →
+    (x : Lent) (n : Next) (r : Result ℕ Refusal) (ws b f : List ℕ) →
     under_in x.book ≡ 0 →
     ltb (length x.store) (need_in x.node) ≡ false →
     next_out x.node x.book ≡ n →

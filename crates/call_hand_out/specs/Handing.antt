@@ -1,6 +1,6 @@
 -- Handing out, one frame a call: which answer, and what all that was lent holds afterwards. Cited by the call.
 -- Assumes nothing.
-use Rattle.std.specs.Prelude.{ℕ, ◌+◌, ◌%◌, true, not, List, [], length, take, drop, ◌==◌, nat_le, nat_lt, slice_set}
+use Rattle.std.specs.Prelude.{ℕ, ◌+◌, ◌%◌, true, not, List, [], length, take, drop, ◌==◌, nat_le, nat_lt, slice_set, Result, Ok, Err}
 use Rattle.std.proofs.lemmas.List.Edits.{sets}
 use Rattle.units.specs.Refusals.{pick}
 use Rattle.units.specs.declared.refusals.Refusal.TheVariants as refusal
@@ -24,11 +24,10 @@ use Rattle.end_points.specs.Lent.{Lent}
 use Rattle.end_points.specs.declared.EndPoint.{EndPoint}
 use Rattle.end_points.specs.declared.State.TheVariants.{Enabled}
 use Rattle.end_points.specs.declared.Run.{Run}
-use Rattle.end_points.specs.declared.answers.HandedOut.{HandedOut}
-use Rattle.end_points.specs.declared.answers.HandedOut.TheVariants.{Length, Refused}
 use Rattle.slots.specs.Slots.{spot, number_in, length_in}
 use Rattle.call_hand_out.specs.declared.Next.{Next}
 use Rattle.call_hand_out.specs.declared.Next.TheVariants as next
+use Rattle.units.specs.declared.refusals.Refusal.{Refusal}
 
 -- what goes out next: the sorts in their order; a queue that is followed by a queue's own number is empty
 -- [H1, H2, H3]
@@ -98,22 +97,22 @@ frame_out x (next.Data n) = data_frame x.node x.book x.store n
 -- ---- the answer: 19, then 6 for the store, then with something waiting 6 for the frame buffer
 
 -- a frame and its buffer [H4, H5, R6]
-abbrev pub fitted : List ℕ → List ℕ → HandedOut
-fitted out f = pick (nat_lt (length out) (length f)) (Refused refusal.TooShort) (Length (length f))
+abbrev pub fitted : List ℕ → List ℕ → Result ℕ Refusal
+fitted out f = pick (nat_lt (length out) (length f)) (Err refusal.TooShort) (Ok (length f))
 
 -- 19 while a frame is under way, then 6 for the store, then the frame and its buffer [H8, R19, R38, R42]
-unfoldable pub hand_out_answer : Lent → HandedOut
+unfoldable pub hand_out_answer : Lent → Result ℕ Refusal
 hand_out_answer x =
-    pick (not (under_in x.book == 0)) (Refused refusal.UnderWay)
-    (pick (nat_lt (length x.store) (need_in x.node)) (Refused refusal.TooShort)
+    pick (not (under_in x.book == 0)) (Err refusal.UnderWay)
+    (pick (nat_lt (length x.store) (need_in x.node)) (Err refusal.TooShort)
     (fitted x.out (frame_out x (next_out x.node x.book))))
 
 -- ---- what it leaves
 
 -- of one thing that was lent: as it was where the call is refused, else anew [R44]
-abbrev pub once : HandedOut → List ℕ → List ℕ → List ℕ
-once (Refused w) old new = old
-once (Length n) old new = new
+abbrev pub once : Result ℕ Refusal → List ℕ → List ℕ → List ℕ
+once (Err w) old new = old
+once (Ok n) old new = new
 
 -- a run with one number more handed out [A2]
 unfoldable pub handed_run : Run → Run
@@ -181,6 +180,6 @@ handed_out x n =
     }
 
 -- refused, all is as it was [R44]
-unfoldable pub hand_out_after : Lent → HandedOut → Lent
-hand_out_after x (Refused w) = x
-hand_out_after x (Length n) = handed_out x (next_out x.node x.book)
+unfoldable pub hand_out_after : Lent → Result ℕ Refusal → Lent
+hand_out_after x (Err w) = x
+hand_out_after x (Ok n) = handed_out x (next_out x.node x.book)

@@ -4,7 +4,6 @@ ghost use Rattle.std.proofs.lemmas.List.Edits.{sets};
 ghost use Rattle.frame.specs.Layout.{frame_bytes};
 ghost use Rattle.call_hand_out.specs.Handing.{fields_to, fitted, once};
 
-use end_points::answers::HandedOut;
 use end_points::heads;
 use frame::writing::emit;
 use frame::{Fields, FrameType, layout, type_number};
@@ -31,15 +30,15 @@ pub fn fields_to(node: &[u64], e: Entry, t: FrameType, s: Seq) -> Fields
 }
 
 // The frame's bytes from the buffer's start on and their number, or refusal 6 with the buffer as it was.
-pub fn put_frame(frame: &mut [u8], fields: Fields, payload: &[u8]) -> HandedOut
+pub fn put_frame(frame: &mut [u8], fields: Fields, payload: &[u8]) -> Result<usize, Refusal>
     ensures answer { result ≡ fitted frame.old (frame_bytes fields payload.now) }
     ensures frame { frame.new ≡ once result frame.old
         (sets frame.old 0 (frame_bytes fields payload.now)) }
 {
     let n = payload.len() + layout::OVERHEAD;
     if frame.len() < n {
-        return HandedOut::Refused(Refusal::TooShort);
+        return Err(Refusal::TooShort);
     }
     emit(frame, fields, payload);
-    HandedOut::Length(n)
+    Ok(n)
 }

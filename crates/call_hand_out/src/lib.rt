@@ -8,7 +8,6 @@ ghost use Rattle.std.specs.Prelude.{◌≡◌};
 ghost use Rattle.end_points.specs.Lent.{whole};
 ghost use Rattle.call_hand_out.specs.Handing.{next_out, hand_out_answer, hand_out_after};
 
-use end_points::answers::HandedOut;
 use end_points::heads;
 use memory::layout;
 use units::refusals::Refusal;
@@ -58,20 +57,25 @@ fn next_out(node: &[u64], book: &[u16]) -> Next
 
 // One frame is handed out into the buffer: its length, 0 where nothing waits, or refusal 19 or 6.
 #[tactic(auto, unfolding(crate::specs::Handing::hand_out_answer, crate::specs::Handing::hand_out_after, crate::specs::Handing::frame_out, crate::specs::Handing::out_node, crate::specs::Handing::out_book))]
-pub fn hand_out(node: &mut [u64], book: &mut [u16], store: &[u8], frame: &mut [u8]) -> HandedOut
+pub fn hand_out(
+    node: &mut [u64],
+    book: &mut [u16],
+    store: &[u8],
+    frame: &mut [u8],
+) -> Result<usize, Refusal>
     ensures answer { let x = whole node.old book.old store.now frame.old in
         result ≡ hand_out_answer x }
     ensures after { let x = whole node.old book.old store.now frame.old in
         whole node.new book.new store.now frame.new ≡ hand_out_after x result }
 {
     if port::under(book) != 0 {
-        return HandedOut::Refused(Refusal::UnderWay);
+        return Err(Refusal::UnderWay);
     }
     if store.len() < heads::need(node) {
-        return HandedOut::Refused(Refusal::TooShort);
+        return Err(Refusal::TooShort);
     }
     match next_out(node, book) {
-        Next::Nothing => HandedOut::Length(0),
+        Next::Nothing => Ok(0),
         Next::Ack(a) => sorts::put_ack(node, book, frame, a),
         Next::Reset(x) => sorts::put_reset(node, book, frame, x),
         Next::Urgent(x) => sorts::put_urgent(node, book, store, frame, x),

@@ -11,7 +11,6 @@ ghost use Rattle.memory.specs.Layout.{urgent_entry, id_entry};
 ghost use Rattle.frame.specs.declared.FrameType.TheVariants as type;
 
 use super::framing::{fields_to, put_frame};
-use end_points::answers::HandedOut;
 use end_points::states::without_urgent;
 use end_points::{Run, State, load, load_entry, load_place, load_run, save};
 use frame::{FrameType, type_number};
@@ -19,6 +18,7 @@ use memory::{layout, put_word};
 use slots::{cells, number_in, part, spot_of};
 use timing::STANDING;
 use units::Seq;
+use units::refusals::Refusal;
 use waiting::acks::Ack;
 use waiting::{acks, port, queues};
 
@@ -34,7 +34,12 @@ fn less(a: u16, b: u16) -> u16
 
 // An acknowledgement.
 #[tactic(auto, unfolding(crate::specs::Handing::ack_frame, end_points::specs::Ends::end_of))]
-pub fn put_ack(node: &mut [u64], book: &mut [u16], frame: &mut [u8], a: Ack) -> HandedOut
+pub fn put_ack(
+    node: &mut [u64],
+    book: &mut [u16],
+    frame: &mut [u8],
+    a: Ack,
+) -> Result<usize, Refusal>
     ensures answer { result ≡ fitted frame.old (ack_frame node.old a) }
     ensures node { node.new ≡ once result node.old (popped node.old) }
     ensures book { book.new ≡ once result book.old
@@ -44,19 +49,20 @@ pub fn put_ack(node: &mut [u64], book: &mut [u16], frame: &mut [u8], a: Ack) -> 
 {
     let entry = load_entry(node, a.entry as usize);
     let fields = fields_to(node, entry, FrameType::Acknowledge, a.seq);
-    match put_frame(frame, fields, b"") {
-        HandedOut::Refused(w) => HandedOut::Refused(w),
-        HandedOut::Length(n) => {
-            acks::pop(node);
-            port::begin(book, type_number(FrameType::Acknowledge), a.entry, a.seq);
-            HandedOut::Length(n)
-        }
-    }
+    let n = put_frame(frame, fields, b"")?;
+    acks::pop(node);
+    port::begin(book, type_number(FrameType::Acknowledge), a.entry, a.seq);
+    Ok(n)
 }
 
 // Hands out the Reset whose number in the book is x; its timer stands, and the end point notes that one went out.
 #[tactic(auto, unfolding(crate::specs::Handing::reset_frame))]
-pub fn put_reset(node: &mut [u64], book: &mut [u16], frame: &mut [u8], x: u16) -> HandedOut
+pub fn put_reset(
+    node: &mut [u64],
+    book: &mut [u16],
+    frame: &mut [u8],
+    x: u16,
+) -> Result<usize, Refusal>
     ensures answer { result ≡ fitted frame.old (reset_frame node.old x) }
     ensures node { node.new ≡ once result node.old
         (reset_node node.old (reset_entry x) (end_of node.old (reset_entry x))) }
@@ -68,15 +74,11 @@ pub fn put_reset(node: &mut [u64], book: &mut [u16], frame: &mut [u8], x: u16) -
     let i = (less(x, layout::RESET_ID) % 256) as usize;
     let e = load(node, i);
     let fields = fields_to(node, e.entry, FrameType::Reset, Seq(0));
-    match put_frame(frame, fields, b"") {
-        HandedOut::Refused(w) => HandedOut::Refused(w),
-        HandedOut::Length(n) => {
-            queues::unlink(book, x);
-            port::begin(book, type_number(FrameType::Reset), i as u8, Seq(0));
-            save(node, i, State::Enabled(STANDING, true), e.run);
-            HandedOut::Length(n)
-        }
-    }
+    let n = put_frame(frame, fields, b"")?;
+    queues::unlink(book, x);
+    port::begin(book, type_number(FrameType::Reset), i as u8, Seq(0));
+    save(node, i, State::Enabled(STANDING, true), e.run);
+    Ok(n)
 }
 
 // The Urgent that is x in its queue: it waits no more.
@@ -87,7 +89,7 @@ pub fn put_urgent(
     store: &[u8],
     frame: &mut [u8],
     x: u16,
-) -> HandedOut
+) -> Result<usize, Refusal>
     ensures answer { result ≡ fitted frame.old (urgent_frame node.old store.now x) }
     ensures node { node.new ≡ once result node.old
         (urgent_node node.old (urgent_entry x) (end_of node.old (urgent_entry x))) }
@@ -102,15 +104,11 @@ pub fn put_urgent(
     let run = e.run;
     let fields = fields_to(node, e.entry, FrameType::Urgent, Seq(0));
     let spot = spot_of(e.place, e.entry.largest, run.window.size);
-    match put_frame(frame, fields, part(store, spot, run.urgent as usize)) {
-        HandedOut::Refused(w) => HandedOut::Refused(w),
-        HandedOut::Length(n) => {
-            queues::unlink(book, x);
-            port::begin(book, type_number(FrameType::Urgent), i as u8, Seq(0));
-            save(node, i, state, without_urgent(run));
-            HandedOut::Length(n)
-        }
-    }
+    let n = put_frame(frame, fields, part(store, spot, run.urgent as usize))?;
+    queues::unlink(book, x);
+    port::begin(book, type_number(FrameType::Urgent), i as u8, Seq(0));
+    save(node, i, state, without_urgent(run));
+    Ok(n)
 }
 
 // The entry of the slot that is x in its queue.
@@ -151,7 +149,7 @@ pub fn put_again(
     store: &[u8],
     frame: &mut [u8],
     x: u16,
-) -> HandedOut
+) -> Result<usize, Refusal>
     ensures answer { result ≡ fitted frame.old
         (data_frame node.now book.old store.now x) }
     ensures book { book.new ≡ once result book.old
@@ -167,13 +165,9 @@ pub fn put_again(
     let fields = fields_to(node, entry, FrameType::Data, number);
     let length = cells::length(book, g);
     let spot = spot_of(load_place(node, i), entry.largest, slot);
-    match put_frame(frame, fields, part(store, spot, length as usize)) {
-        HandedOut::Refused(w) => HandedOut::Refused(w),
-        HandedOut::Length(n) => {
-            put_sent(book, x, number);
-            HandedOut::Length(n)
-        }
-    }
+    let n = put_frame(frame, fields, part(store, spot, length as usize))?;
+    put_sent(book, x, number);
+    Ok(n)
 }
 
 // One number more is handed out: of the run's words one alters, and no other is written.
@@ -198,7 +192,7 @@ pub fn put_data(
     store: &[u8],
     frame: &mut [u8],
     x: u16,
-) -> HandedOut
+) -> Result<usize, Refusal>
     ensures answer { result ≡ fitted frame.old
         (data_frame node.old book.old store.now x) }
     ensures node { node.new ≡ once result node.old
@@ -217,12 +211,8 @@ pub fn put_data(
     let fields = fields_to(node, entry, FrameType::Data, number);
     let length = cells::length(book, g);
     let spot = spot_of(load_place(node, i), entry.largest, slot);
-    match put_frame(frame, fields, part(store, spot, length as usize)) {
-        HandedOut::Refused(w) => HandedOut::Refused(w),
-        HandedOut::Length(n) => {
-            put_sent(book, x, number);
-            put_handed(node, i, run);
-            HandedOut::Length(n)
-        }
-    }
+    let n = put_frame(frame, fields, part(store, spot, length as usize))?;
+    put_sent(book, x, number);
+    put_handed(node, i, run);
+    Ok(n)
 }

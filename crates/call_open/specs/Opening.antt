@@ -1,10 +1,8 @@
 -- Open, close, counts and state: which answer, and what all that was lent holds afterwards. Cited by these calls.
 -- Assumes nothing.
-use Rattle.std.specs.Prelude.{ℕ, false, not, List, [], ◌∷◌, eqb, leb}
-use Rattle.units.specs.Refusals.{pick, verdict}
+use Rattle.std.specs.Prelude.{ℕ, false, not, List, [], ◌∷◌, eqb, leb, Result, Ok, Err}
+use Rattle.units.specs.Refusals.{pick, verdict, Verdict}
 use Rattle.units.specs.declared.refusals.Refusal.TheVariants as refusal
-use Rattle.units.specs.declared.refusals.Verdict.{Verdict}
-use Rattle.units.specs.declared.refusals.Verdict.TheVariants.{Passed, Refused}
 use Rattle.memory.specs.Layout.{resets, reset_id}
 use Rattle.waiting.specs.Queues.{appended, unlinked}
 use Rattle.waiting.specs.Acks.{dropped}
@@ -17,11 +15,9 @@ use Rattle.end_points.specs.declared.EndPoint.{EndPoint}
 use Rattle.end_points.specs.declared.State.{State}
 use Rattle.end_points.specs.declared.State.TheVariants as state
 use Rattle.end_points.specs.declared.Run.{Run}
-use Rattle.end_points.specs.declared.answers.Counted.{Counted}
-use Rattle.end_points.specs.declared.answers.Counted.TheVariants as counted
-use Rattle.end_points.specs.declared.answers.Stated.{Stated}
-use Rattle.end_points.specs.declared.answers.Stated.TheVariants as stated
 use Rattle.slots.specs.Slots.{idled}
+use Rattle.units.specs.declared.refusals.Refusal.{Refusal}
+use Rattle.end_points.specs.declared.answers.Counts.{Counts}
 
 -- ---- open: 2, 4
 
@@ -45,8 +41,8 @@ enabled x i e =
 
 -- refused, all is as it was [R44]
 unfoldable pub open_after : Lent → ℕ → Verdict → Lent
-open_after x i (Refused w) = x
-open_after x i Passed = enabled x i (end_of x.node i)
+open_after x i (Err w) = x
+open_after x i (Ok _) = enabled x i (end_of x.node i)
 
 -- ---- close: 2, 4
 
@@ -78,17 +74,17 @@ closed x i e =
 
 -- refused, all is as it was [R44]
 unfoldable pub close_after : Lent → ℕ → Verdict → Lent
-close_after x i (Refused w) = x
-close_after x i Passed = closed x i (end_of x.node i)
+close_after x i (Err w) = x
+close_after x i (Ok _) = closed x i (end_of x.node i)
 
 -- ---- counts: 2, 3
 
-abbrev pub counted_as : Verdict → Run → Counted
-counted_as Passed r = counted.Counts r.accepted r.confirmed
-counted_as (Refused w) r = counted.Refused w
+abbrev pub counted_as : Verdict → Run → Result Counts Refusal
+counted_as (Ok _) r = Ok (record { accepted = r.accepted; confirmed = r.confirmed })
+counted_as (Err w) r = Err w
 
 -- 2 where there is no such entry, 3 where it receives; else accepted and confirmed [E17, R2, R3, R34]
-unfoldable pub counts_answer : List ℕ → ℕ → Counted
+unfoldable pub counts_answer : List ℕ → ℕ → Result Counts Refusal
 counts_answer ws i =
     counted_as
     (verdict
@@ -99,10 +95,10 @@ counts_answer ws i =
 
 -- ---- state
 
-abbrev pub stated_as : Verdict → State → Stated
-stated_as Passed s = stated.Is s
-stated_as (Refused w) s = stated.Refused w
+abbrev pub stated_as : Verdict → State → Result State Refusal
+stated_as (Ok _) s = Ok s
+stated_as (Err w) s = Err w
 
 -- 2 where there is no such entry; else its state [E1, R2, R45]
-unfoldable pub state_answer : List ℕ → ℕ → Stated
+unfoldable pub state_answer : List ℕ → ℕ → Result State Refusal
 state_answer ws i = stated_as (verdict ((leb (count_in ws) i, refusal.NoEntry) ∷ [])) (end_of ws i).state

@@ -1,11 +1,9 @@
 -- Setup: which answer, and what node and book hold afterwards. Cited by setup. Assumes nothing.
-use Rattle.std.specs.Prelude.{ℕ, zero, suc, not, List, [], ◌∷◌, length, replicate, ltb}
+use Rattle.std.specs.Prelude.{ℕ, zero, suc, not, List, [], ◌∷◌, length, replicate, ltb, Result, Ok, Err}
 use Rattle.std.proofs.lemmas.List.Edits.{sets}
 use Rattle.timing.specs.Timing.{round}
-use Rattle.units.specs.Refusals.{pick, verdict}
+use Rattle.units.specs.Refusals.{pick, verdict, Verdict}
 use Rattle.units.specs.declared.refusals.Refusal.TheVariants as refusal
-use Rattle.units.specs.declared.refusals.Verdict.{Verdict}
-use Rattle.units.specs.declared.refusals.Verdict.TheVariants.{Passed, Refused}
 use Rattle.memory.specs.Layout.{resets, urgents, resends, datas}
 use Rattle.waiting.specs.Queues.{joined}
 use Rattle.waiting.specs.Port.{ended}
@@ -17,9 +15,8 @@ use Rattle.end_points.specs.Ends.{saved, saved_entry}
 use Rattle.end_points.specs.Lent.{Lent}
 use Rattle.end_points.specs.declared.State.TheVariants.{Closed}
 use Rattle.end_points.specs.declared.Run.{Run}
-use Rattle.end_points.specs.declared.answers.Needed.{Needed}
-use Rattle.end_points.specs.declared.answers.Needed.TheVariants as needed
 use Rattle.arrive_lookup.specs.Lookup.{indexed}
+use Rattle.units.specs.declared.refusals.Refusal.{Refusal}
 
 -- 1, 6 [R1, R6, R31]
 unfoldable pub setup_answer : Lent → List ℕ → Verdict
@@ -27,8 +24,8 @@ setup_answer x t =
     verdict ((not (good_table t), refusal.BadTable) ∷ (ltb (length x.store) (store_of t), refusal.TooShort) ∷ [])
 
 -- how many bytes of store it needs: 1, or the sum of its entries' areas [S1, R1, R46]
-unfoldable pub need_answer : List ℕ → Needed
-need_answer t = pick (good_table t) (needed.Bytes (store_of t)) (needed.Refused refusal.BadTable)
+unfoldable pub need_answer : List ℕ → Result ℕ Refusal
+need_answer t = pick (good_table t) (Ok (store_of t)) (Err refusal.BadTable)
 
 -- start 1, nothing taken, counts 0 [E3]
 abbrev pub first_run : Run
@@ -61,8 +58,8 @@ emptied b = joined (joined (joined (joined b resets resets) urgents urgents) res
 
 -- refused, all is as it was; else the node is the table's, nothing waits and no frame is under way [E3, R44]
 unfoldable pub setup_after : Lent → List ℕ → Verdict → Lent
-setup_after x t (Refused w) = x
-setup_after x t Passed =
+setup_after x t (Err w) = x
+setup_after x t (Ok _) =
     record {
       node = tabled t (count_of t) (headed t (replicate (length x.node) 0));
       book = ended (emptied x.book);

@@ -10,47 +10,46 @@ ghost use Rattle.end_points.specs.Lent.{stored};
 ghost use Rattle.call_open.specs.Setup.{need_answer, setup_answer, setup_after, first_run, headed, tabled, emptied};
 
 use arrive_lookup::put_in_index;
-use end_points::answers::Needed;
 use end_points::{Run, State, save, save_entry};
 use memory::{layout, put_half, put_words};
 use table::Entry;
 use timing::ROUND;
 use units::Unfolded;
-use units::refusals::{Refusal, Verdict};
+use units::refusals::Refusal;
 use waiting::port;
 use window::Window;
 
 // How many bytes of store a table needs.
 #[tactic(auto, unfolding(crate::specs::Setup::need_answer))]
-pub fn store_need(table: &[u8]) -> Needed
+pub fn store_need(table: &[u8]) -> Result<usize, Refusal>
     ensures { result ≡ need_answer table.now }
 {
     if table::is_good(table) {
-        return Needed::Bytes(table::store_need(table));
+        return Ok(table::store_need(table));
     }
-    Needed::Refused(Refusal::BadTable)
+    Err(Refusal::BadTable)
 }
 
 // The node is set up from a table.
 #[tactic(auto, unfolding(crate::specs::Setup::setup_answer, crate::specs::Setup::setup_after))]
-pub fn setup(node: &mut [u64], book: &mut [u16], store: &[u8], table: &[u8]) -> Verdict
+pub fn setup(node: &mut [u64], book: &mut [u16], store: &[u8], table: &[u8]) -> Result<(), Refusal>
     ensures answer { let x = stored node.old book.old store.now in
         result ≡ setup_answer x table.now }
     ensures after { let x = stored node.old book.old store.now in
         stored node.new book.new store.now ≡ setup_after x table.now result }
 {
     if !table::is_good(table) {
-        return Verdict::Refused(Refusal::BadTable);
+        return Err(Refusal::BadTable);
     }
     if store.len() < table::store_need(table) {
-        return Verdict::Refused(Refusal::TooShort);
+        return Err(Refusal::TooShort);
     }
     clear(node);
     put_head(node, table);
     put_entries(node, table);
     empty(book);
     port::end(book);
-    Verdict::Passed
+    Ok(())
 }
 
 // Every word 0.

@@ -1,18 +1,18 @@
 -- A plan is so many single sends (specs/Planning.antt). Assumes nothing.
 use Prim.Native.Nat.{ℕ, zero, suc, ◌+◌, ◌<◌}
-use mathlib.Core.Path.{◌≡◌, refl}
+use mathlib.Core.Path.{◌≡◌, refl, ap}
 use mathlib.Core.Bool.{Bool, true, false}
 use mathlib.Core.List.{List, [], ◌∷◌}
 use native.Mathlib.Omega.{arith}
-use Rattle.units.specs.Refusals.{pick}
+use Rattle.units.specs.Refusals.{pick, Verdict}
 use Rattle.units.specs.declared.refusals.Refusal.TheVariants as refusal
-use Rattle.units.specs.declared.refusals.Verdict.{Verdict}
-use Rattle.units.specs.declared.refusals.Verdict.TheVariants.{Passed, Refused}
 use Rattle.blocks.specs.Reading.{is_plan, read_block}
 use Rattle.end_points.specs.Lent.{Lent}
-use Rattle.end_points.specs.declared.answers.Planned.TheVariants as planned
 use Rattle.call_send.specs.Sending.{send_answer, send_after}
 use Rattle.call_plan.specs.Planning.{InOrder, goes_on, sent_in_order, sent_block, plan_answer, plan_after, sent_singly, answer_at, Singly, PlanIsSends}
+use Rattle.std.specs.Prelude.{Result, Ok, Err}
+use Rattle.units.specs.declared.refusals.Refusal.{Refusal}
+use Rattle.end_points.specs.declared.answers.Plan.{Plan}
 
 -- what sends of ps come to, n being accepted before them
 record Come (x : Lent) (i : ℕ) (ps : List (List ℕ)) (n : ℕ) (s : InOrder) : Type 0 where
@@ -42,7 +42,7 @@ come x i n (p ∷ ps) = sides (send_answer x i p) refl (come y i (n + 1) ps)
 
     sides : (v : Verdict) → send_answer x i p ≡ v → Come y i ps (n + 1) (sent_in_order y i (n + 1) ps)
         → Come x i (p ∷ ps) n (goes_on v n y (sent_in_order y i (n + 1) ps))
-    sides Passed e c =
+    sides (Ok _) e c =
         let s = c.singly in
         let more : suc c.more + 1 ≡ suc (c.more + 1) = omega arith in
         record {
@@ -58,10 +58,10 @@ come x i n (p ∷ ps) = sides (send_answer x i p) refl (come y i (n + 1) ps)
               };
         }
       where
-        before : (k : ℕ) → k < suc c.more → answer_at x i (p ∷ ps) k ≡ Passed
+        before : (k : ℕ) → k < suc c.more → answer_at x i (p ∷ ps) k ≡ Ok tt
         before zero h = e
         before (suc k) h = c.singly.accepted k (omega arith)
-    sides (Refused w) e c =
+    sides (Err w) e c =
         record {
           more = 0;
           accepted = omega arith;
@@ -77,9 +77,11 @@ come x i n (p ∷ ps) = sides (send_answer x i p) refl (come y i (n + 1) ps)
 
 -- an answer with so many accepted is that of a block that is a plan
 answer_of : (b : Bool) (s : InOrder) (n : ℕ) (stop : Verdict)
-    → pick b (planned.Accepted s.accepted s.stop) (planned.Refused refusal.BadBlock) ≡ planned.Accepted n stop
+    → pick {A = Result Plan Refusal} b (Ok (record { accepted = s.accepted; stop = s.stop })) (Err refusal.BadBlock) ≡ Ok (record { accepted = n; stop = stop })
     → (s.accepted ≡ n) × (s.stop ≡ stop)
-answer_of true s n stop h = (cc, cc)
+answer_of true s n stop h =
+    let same : ◌≡◌ {A = Plan} (record { accepted = s.accepted; stop = s.stop }) (record { accepted = n; stop = stop }) = cc in
+    (ap (λ (p : Plan). p.accepted) same, ap (λ (p : Plan). p.stop) same)
 answer_of false s n stop h = absurd (let d : ◌≡◌ {A = ℕ} 0 1 = cc in omega arith)
 
 pub plan_is_sends : PlanIsSends

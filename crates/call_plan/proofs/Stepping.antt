@@ -12,7 +12,6 @@ use lib.Seq.{get_or-set_same, get_or-set_other, set-set, set_comm}
 use borrow.Author.Tests.{lt-leb, ne_eqb}
 use Rattle.units.specs.Refusals.{verdict}
 use Rattle.units.specs.declared.refusals.Refusal.{Refusal}
-use Rattle.units.specs.declared.refusals.Verdict.TheVariants.{Passed, Refused}
 use Rattle.memory.specs.Layout.{node_words, entry_at, taken_word, accepted_word}
 use Rattle.blocks.specs.Reading.{payload_in, payloads_in}
 use Rattle.end_points.specs.Ends.{word, state_of, load_entry, load_run, end_of}
@@ -24,6 +23,7 @@ use Rattle.call_send.specs.Sending.{send_tests, send_answer, send_after, sent_no
 use Rattle.call_send.proofs.Passing.{may_send}
 use Rattle.call_plan.specs.Planning.{InOrder, sent_in_order}
 use Rattle.call_plan.specs.Steps.{advanced, accepted_node}
+use Rattle.std.specs.Prelude.{Ok, Err}
 
 -- ---- of a block, the payloads from payload j on
 
@@ -169,16 +169,16 @@ module _ (ws : List ℕ) (i : ℕ) (long : length ws ≡ node_words) where
         rw (count, lt-leb (count_in ws) i known, end_after n opened t a, head_after n 3 (omega arith))
 
     -- that goes through
-    pub goes_on : verdict (send_tests (advanced e n) (length p) (length store) (need_in ws)) ≡ Passed
+    pub goes_on : verdict (send_tests (advanced e n) (length p) (length store) (need_in ws)) ≡ Ok tt
         → sent_in_order (stored (after n) book store) i n (p ∷ ps)
         ≡ sent_in_order (stored (after (n + 1)) (laid_book book i (advanced e n) (length p)) (laid_store store (advanced e n) p)) i (n + 1) ps
     unfolding sent_in_order send_after
     goes_on v = rw (answer_is, v, end_after n opened t a, node_next n)
 
     -- that is refused
-    pub stops : (w : Refusal) → verdict (send_tests (advanced e n) (length p) (length store) (need_in ws)) ≡ Refused w
+    pub stops : (w : Refusal) → verdict (send_tests (advanced e n) (length p) (length store) (need_in ws)) ≡ Err w
         → sent_in_order (stored (after n) book store) i n (p ∷ ps)
-        ≡ record { accepted = n; stop = Refused w; left = stored (after n) book store }
+        ≡ record { accepted = n; stop = Err w; left = stored (after n) book store }
     unfolding sent_in_order send_after
     stops w v = rw (answer_is, v)
 
@@ -208,12 +208,12 @@ module _ (ws : List ℕ) (i : ℕ) (long : length ws ≡ node_words) (known : i 
 
   -- the next is accepted
   pub one_more : e.run.window.size < 256 → {book' store' : List ℕ}
-      → verdict (send_tests (advanced e j) (length p) (length store) (need_in ws)) ≡ Passed
+      → verdict (send_tests (advanced e j) (length p) (length store) (need_in ws)) ≡ Ok tt
       → length book' ≡ length book → length store' ≡ length store
       → book' ≡ laid_book book i (advanced e j) (length p) → store' ≡ laid_store store (advanced e j) p
       → Going ws book₀ store₀ i block k e book' store' (j + 1)
   one_more narrow v lb ls b s =
-      let m = may_send (advanced e j) (length p) (length store) (need_in ws) Passed (sym v) refl in
+      let m = may_send (advanced e j) (length p) (length store) (need_in ws) (Ok tt) (sym v) refl in
       record {
         within = omega arith;
         is = g.is;
@@ -229,9 +229,9 @@ module _ (ws : List ℕ) (i : ℕ) (long : length ws ≡ node_words) (known : i 
       }
 
   -- or refused
-  pub one_refused : (w : Refusal) → verdict (send_tests (advanced e j) (length p) (length store) (need_in ws)) ≡ Refused w
+  pub one_refused : (w : Refusal) → verdict (send_tests (advanced e j) (length p) (length store) (need_in ws)) ≡ Err w
       → sent_in_order (stored ws book₀ store₀) i 0 (payloads_in block 0 k)
-      ≡ record { accepted = j; stop = Refused w; left = stored (accepted_node ws i (end_of ws i).run j) book store }
+      ≡ record { accepted = j; stop = Err w; left = stored (accepted_node ws i (end_of ws i).run j) book store }
   one_refused w v =
       left_is
       (stops ws i long known j (rw g.is at g.opened) (rw g.is at g.taken) (rw g.is at g.accepted) book store p _ w (rw g.is at v))

@@ -1,10 +1,8 @@
 -- How the call goes about a plan: the payloads are laid one after the other, and how many were accepted is written
 -- into the node once, at the end. Cited by the call's own functions alone: what it comes to is Planning.antt. Assumes
 -- nothing.
-use Rattle.std.specs.Prelude.{ℕ, ◌+◌, List, length, set, eqb}
-use Rattle.units.specs.Refusals.{pick}
-use Rattle.units.specs.declared.refusals.Verdict.{Verdict}
-use Rattle.units.specs.declared.refusals.Verdict.TheVariants.{Passed, Refused}
+use Rattle.std.specs.Prelude.{ℕ, ◌+◌, List, length, set, eqb, Ok, Err}
+use Rattle.units.specs.Refusals.{pick, Verdict}
 use Rattle.memory.specs.Layout.{entry_at, taken_word, accepted_word}
 use Rattle.end_points.specs.declared.EndPoint.{EndPoint}
 use Rattle.end_points.specs.declared.Run.{Run}
@@ -35,9 +33,9 @@ accepted_node ws i r n =
 
 -- book and store after a send of p at entry i, which is e, with its verdict; refused, all is as it was [W2, R44]
 abbrev pub book_after : Verdict → List ℕ → ℕ → EndPoint → List ℕ → List ℕ
-book_after Passed b i e p = laid_book b i e (length p)
-book_after (Refused w) b i e p = b
+book_after (Ok _) b i e p = laid_book b i e (length p)
+book_after (Err w) b i e p = b
 
 abbrev pub store_after : Verdict → List ℕ → EndPoint → List ℕ → List ℕ
-store_after Passed s e p = laid_store s e p
-store_after (Refused w) s e p = s
+store_after (Ok _) s e p = laid_store s e p
+store_after (Err w) s e p = s

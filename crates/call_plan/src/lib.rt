@@ -17,18 +17,11 @@ ghost use Rattle.call_plan.specs.Steps.{advanced, accepted_node, book_after, sto
 use blocks::lent;
 use call_send::judging::judge_send;
 use call_send::lay;
-use end_points::answers::Planned;
+use end_points::answers::Plan;
 use end_points::{EndPoint, heads, load};
 use memory::{layout, put_word, word_at};
 use units::Unfolded;
-use units::refusals::{Refusal, Verdict};
-
-// How many payloads were accepted, and what the next was refused with.
-#[derive(Clone, Copy)]
-struct Sent {
-    accepted: u8,
-    stop: Verdict,
-}
+use units::refusals::Refusal;
 
 // The host hands over a plan.
 #[tactic(auto, unfolding(blocks::specs::Reading::is_plan, blocks::specs::Reading::read_block, crate::specs::Planning::sent_in_order, blocks::specs::Reading::payloads_in, call_send::specs::Sending::send_answer, call_send::specs::Sending::send_after, crate::specs::Planning::plan_answer, crate::specs::Planning::plan_after))]
@@ -38,7 +31,7 @@ pub fn plan(
     store: &mut [u8],
     index: usize,
     block: &[u8],
-) -> Planned
+) -> Result<Plan, Refusal>
     ensures answer { let x = stored node.old book.old store.old in
         result ≡ plan_answer x index block.now }
     ensures after { let x = stored node.old book.old store.old in
@@ -46,20 +39,24 @@ pub fn plan(
         ≡ plan_after x index block.now result }
 {
     if !lent::is_plan(block) {
-        return Planned::Refused(Refusal::BadBlock);
+        return Err(Refusal::BadBlock);
     }
     let k = lent::count(block) as u8;
     if k == 0 {
-        return Planned::Accepted(0, Verdict::Passed);
+        return Ok(Plan {
+            accepted: 0,
+            stop: Ok(()),
+        });
     }
     if heads::count(node) as usize <= index {
-        return Planned::Accepted(0, Verdict::Refused(Refusal::NoEntry));
+        return Ok(Plan {
+            accepted: 0,
+            stop: Err(Refusal::NoEntry),
+        });
     }
-    let s = send_all(node, book, store, index as u8, block, k);
-    let accepted = s.accepted;
-    let stop = s.stop;
-    put_accepted(node, index, accepted);
-    Planned::Accepted(accepted, stop)
+    let plan = send_all(node, book, store, index as u8, block, k);
+    put_accepted(node, index, plan.accepted);
+    Ok(plan)
 }
 
 // The first k payloads of a block are laid at entry i, up to the first that is refused. The node does not say so yet.
@@ -71,7 +68,7 @@ fn send_all(
     i: u8,
     block: &[u8],
     k: u8,
-) -> Sent
+) -> Plan
     requires { (i < count_in node.now) × (k < 255) }
     ensures is { let ws = node.now in
         let x = stored ws book.old store.old in
@@ -90,19 +87,17 @@ fn send_all(
     for j in 0..k {
         let to = lent::offset(block, j + 1);
         let p = lent::between(block, from, to);
-        let v = send_one(book, store, i, more(e, j), need, p);
-        let Verdict::Refused(why) = v else {
-            from = to;
-            continue;
-        };
-        return Sent {
-            accepted: j,
-            stop: Verdict::Refused(why),
-        };
+        if let Err(why) = send_one(book, store, i, more(e, j), need, p) {
+            return Plan {
+                accepted: j,
+                stop: Err(why),
+            };
+        }
+        from = to;
     }
-    Sent {
+    Plan {
         accepted: k,
-        stop: Verdict::Passed,
+        stop: Ok(()),
     }
 }
 
@@ -114,17 +109,14 @@ fn send_one(
     e: EndPoint,
     need: usize,
     payload: &[u8],
-) -> Verdict
+) -> Result<(), Refusal>
     ensures answer { result ≡ verdict (send_tests e (length payload.now) (length store.old) need) }
     ensures book { book.new ≡ book_after result book.old i e payload.now }
     ensures store { store.new ≡ store_after result store.old e payload.now }
 {
-    let v = judge_send(e, payload.len(), store.len(), need);
-    let Verdict::Refused(why) = v else {
-        lay(book, store, i, e, payload);
-        return Verdict::Passed;
-    };
-    Verdict::Refused(why)
+    judge_send(e, payload.len(), store.len(), need)?;
+    lay(book, store, i, e, payload);
+    Ok(())
 }
 
 // An end point that has taken and accepted n payloads more.

@@ -1,10 +1,8 @@
 -- The port reports that the frame under way has ended: which answer, and what node and book hold afterwards. Cited by
 -- the call. Assumes nothing.
-use Rattle.std.specs.Prelude.{ℕ, Bool, true, not, ◌&&◌, List, [], ◌∷◌, set, eqb, ltb}
-use Rattle.units.specs.Refusals.{pick, verdict}
+use Rattle.std.specs.Prelude.{ℕ, Bool, true, not, ◌&&◌, List, [], ◌∷◌, set, eqb, ltb, Ok, Err}
+use Rattle.units.specs.Refusals.{pick, verdict, Verdict}
 use Rattle.units.specs.declared.refusals.Refusal.TheVariants as refusal
-use Rattle.units.specs.declared.refusals.Verdict.{Verdict}
-use Rattle.units.specs.declared.refusals.Verdict.TheVariants.{Passed, Refused}
 use Rattle.memory.specs.Layout.{timer_at}
 use Rattle.waiting.specs.Port.{under_in, out_entry, out_number, is_data, is_reset, ended}
 use Rattle.timing.specs.Timing.{clock_in, later, heeded, roused}
@@ -71,7 +69,7 @@ started x i e u =
 
 -- refused, all is as it was; else none is under way any more [H8, R44]
 unfoldable pub report_after : Lent → Verdict → Lent
-report_after x (Refused w) = x
-report_after x Passed =
+report_after x (Err w) = x
+report_after x (Ok _) =
     let u = under_in x.book in
     started x (out_entry u) (end_of x.node (out_entry u)) u

@@ -17,7 +17,7 @@ ghost use Rattle.call_report.specs.Reporting.{report_answer, report_after, data_
 
 use end_points::{Run, State, load_entry, load_run, load_state, save};
 use slots::{cell_of, cells};
-use units::refusals::{Refusal, Verdict};
+use units::refusals::Refusal;
 use waiting::port;
 use window::distance;
 
@@ -148,18 +148,18 @@ fn start(node: &mut [u64], book: &mut [u16], i: u8, u: u16)
     }
 }
 
-// The end of the frame under way: Passed, or refusal 20 where none is.
+// The end of the frame under way, or refusal 20 where none is.
 #[tactic(auto, unfolding(crate::specs::Reporting::report_answer, crate::specs::Reporting::report_after))]
-pub fn report(node: &mut [u64], book: &mut [u16]) -> Verdict
+pub fn report(node: &mut [u64], book: &mut [u16]) -> Result<(), Refusal>
     ensures answer { result ≡ report_answer (bare node.old book.old) }
     ensures after { bare node.new book.new
         ≡ report_after (bare node.old book.old) result }
 {
     let u = port::under(book);
     if u == 0 {
-        return Verdict::Refused(Refusal::NoneUnderWay);
+        return Err(Refusal::NoneUnderWay);
     }
     start(node, book, port::entry(u), u);
     port::end(book);
-    Verdict::Passed
+    Ok(())
 }

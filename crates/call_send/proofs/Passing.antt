@@ -5,15 +5,14 @@ use mathlib.Core.Bool.{true}
 use Prim.Native.Nat.{ℕ, ◌≤◌, ◌<◌}
 use native.Mathlib.Omega.{arith}
 use borrow.Author.Tests.{not-false, eqb-false, leb-false, ltb-false}
-use Rattle.units.specs.Refusals.{verdict}
-use Rattle.units.specs.declared.refusals.Verdict.{Verdict}
-use Rattle.units.specs.declared.refusals.Verdict.TheVariants.{Passed}
+use Rattle.units.specs.Refusals.{verdict, Verdict}
 use Rattle.units.proofs.Judging.{clear}
 use Rattle.end_points.specs.States.{is_open}
 use Rattle.end_points.specs.declared.State.{State}
 use Rattle.end_points.specs.declared.State.TheVariants as state
 use Rattle.end_points.specs.declared.EndPoint.{EndPoint}
 use Rattle.call_send.specs.Sending.{send_tests, urgent_tests}
+use Rattle.std.specs.Prelude.{Ok}
 
 -- a state that passes for Open is Open
 is_open_holds : (s : State) → is_open s ≡ true → s ≡ state.Open
@@ -28,7 +27,7 @@ pub record MaySend (e : EndPoint) (n : ℕ) : Type 0 where
   pub counted : e.run.accepted.0 ≡ 4294967295 → ⊥
   pub room : e.run.taken < e.run.window.size
 
-pub may_send : (e : EndPoint) (n room need : ℕ) (v : Verdict) → v ≡ verdict (send_tests e n room need) → v ≡ Passed → MaySend e n
+pub may_send : (e : EndPoint) (n room need : ℕ) (v : Verdict) → v ≡ verdict (send_tests e n room need) → v ≡ Ok tt → MaySend e n
 may_send e n room need v judged told =
     let k = (clear (send_tests e n room need) (sym judged ∙ told)).1 in
     record {
@@ -42,7 +41,7 @@ pub record MayUrge (e : EndPoint) (n : ℕ) : Type 0 where
   pub opened : e.state ≡ state.Open
   pub long : n ≤ e.entry.largest
 
-pub may_urge : (e : EndPoint) (n room need : ℕ) (v : Verdict) → v ≡ verdict (urgent_tests e n room need) → v ≡ Passed → MayUrge e n
+pub may_urge : (e : EndPoint) (n room need : ℕ) (v : Verdict) → v ≡ verdict (urgent_tests e n room need) → v ≡ Ok tt → MayUrge e n
 may_urge e n room need v judged told =
     let k = (clear (urgent_tests e n room need) (sym judged ∙ told)).1 in
     record { opened = is_open_holds e.state (not-false _ k.0); long = ltb-false _ _ k.1.1.0 }

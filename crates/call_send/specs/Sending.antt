@@ -1,14 +1,11 @@
 -- Send and Urgent: which answer, and what all that was lent holds afterwards. Cited by both calls. Assumes nothing.
-use Rattle.std.specs.Prelude.{ℕ, ◌+◌, Bool, not, List, [], ◌∷◌, ◌++◌, length, set, eqb, leb, ltb}
+use Rattle.std.specs.Prelude.{ℕ, ◌+◌, Bool, not, List, [], ◌∷◌, ◌++◌, length, set, eqb, leb, ltb, Ok, Err}
 use Rattle.std.proofs.lemmas.List.Edits.{sets}
 use Rattle.units.specs.Limits.{most_accepted}
-use Rattle.units.specs.Refusals.{verdict}
+use Rattle.units.specs.Refusals.{verdict, Verdict}
 use Rattle.units.specs.declared.refusals.Refusal.{Refusal}
 use Rattle.units.specs.declared.refusals.Refusal.TheVariants as refusal
-use Rattle.units.specs.declared.refusals.Verdict.{Verdict}
-use Rattle.units.specs.declared.refusals.Verdict.TheVariants.{Passed, Refused}
-use Rattle.memory.specs.Layout.{entry_at, taken_word, accepted_word, datas, urgents, urgent_id, cell_id}
-use Rattle.memory.specs.Layout.{length_at, retries_at}
+use Rattle.memory.specs.Layout.{entry_at, taken_word, accepted_word, datas, urgents, urgent_id, cell_id, length_at, retries_at}
 use Rattle.waiting.specs.Queues.{appended}
 use Rattle.end_points.specs.Ends.{end_of, saved}
 use Rattle.end_points.specs.Heads.{count_in, need_in}
@@ -94,8 +91,8 @@ sent x i e p =
 
 -- refused, all is as it was [R44]
 unfoldable pub send_after : Lent → ℕ → List ℕ → Verdict → Lent
-send_after x i p (Refused w) = x
-send_after x i p Passed = sent x i (end_of x.node i) p
+send_after x i p (Err w) = x
+send_after x i p (Ok _) = sent x i (end_of x.node i) p
 
 -- ---- Urgent: 2, 3, 4, 5, 9, 6
 
@@ -138,5 +135,5 @@ urged x i e p =
 
 -- refused, all is as it was [R44]
 unfoldable pub urgent_after : Lent → ℕ → List ℕ → Verdict → Lent
-urgent_after x i p (Refused w) = x
-urgent_after x i p Passed = urged x i (end_of x.node i) p
+urgent_after x i p (Err w) = x
+urgent_after x i p (Ok _) = urged x i (end_of x.node i) p

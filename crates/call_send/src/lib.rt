@@ -21,7 +21,7 @@ use memory::{layout, put_word};
 use slots::{cell_of, cells, slot_for, spot_of};
 use units::Seq;
 use units::bytes::put_all;
-use units::refusals::{Refusal, Verdict};
+use units::refusals::Refusal;
 use waiting::queues;
 use window::{Window, advance};
 
@@ -52,7 +52,7 @@ pub fn send(
     store: &mut [u8],
     index: usize,
     payload: &[u8],
-) -> Verdict
+) -> Result<(), Refusal>
     ensures answer { let x = stored node.old book.old store.old in
         result ≡ send_answer x index payload.now }
     ensures after { let x = stored node.old book.old store.old in
@@ -60,16 +60,13 @@ pub fn send(
         ≡ send_after x index payload.now result }
 {
     if heads::count(node) as usize <= index {
-        return Verdict::Refused(Refusal::NoEntry);
+        return Err(Refusal::NoEntry);
     }
     let e = read_end(node, index);
-    let v = judge_send(e, payload.len(), store.len(), heads::need(node));
-    let Verdict::Refused(why) = v else {
-        lay(book, store, index as u8, e, payload);
-        put_sent(node, index, e.run);
-        return Verdict::Passed;
-    };
-    Verdict::Refused(why)
+    judge_send(e, payload.len(), store.len(), heads::need(node))?;
+    lay(book, store, index as u8, e, payload);
+    put_sent(node, index, e.run);
+    Ok(())
 }
 
 // The host sends an Urgent: it lies in the sender's last slot and waits.
@@ -80,7 +77,7 @@ pub fn urgent(
     store: &mut [u8],
     index: usize,
     payload: &[u8],
-) -> Verdict
+) -> Result<(), Refusal>
     ensures answer { let x = stored node.old book.old store.old in
         result ≡ urgent_answer x index payload.now }
     ensures after { let x = stored node.old book.old store.old in
@@ -88,24 +85,21 @@ pub fn urgent(
         ≡ urgent_after x index payload.now result }
 {
     if heads::count(node) as usize <= index {
-        return Verdict::Refused(Refusal::NoEntry);
+        return Err(Refusal::NoEntry);
     }
     let e = load(node, index);
-    let v = judge_urgent(e, payload.len(), store.len(), heads::need(node));
-    let Verdict::Refused(why) = v else {
-        let run = e.run;
-        queues::append(book, layout::URGENTS, layout::URGENT_ID + index as u16);
-        let at = spot_of(e.place, e.entry.largest, run.window.size);
-        put_all(store, at, payload);
-        save(
-            node,
-            index,
-            State::Open,
-            urgent_run(run, payload.len() as u16),
-        );
-        return Verdict::Passed;
-    };
-    Verdict::Refused(why)
+    judge_urgent(e, payload.len(), store.len(), heads::need(node))?;
+    let run = e.run;
+    queues::append(book, layout::URGENTS, layout::URGENT_ID + index as u16);
+    let at = spot_of(e.place, e.entry.largest, run.window.size);
+    put_all(store, at, payload);
+    save(
+        node,
+        index,
+        State::Open,
+        urgent_run(run, payload.len() as u16),
+    );
+    Ok(())
 }
 
 // A payload lies in the slot of the next number, which waits as data.

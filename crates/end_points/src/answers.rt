@@ -4,20 +4,20 @@ ghost use Rattle.end_points.specs.Answers.{state_number, what_of, value_of};
 
 use crate::State;
 use units::Unfolded;
-use units::refusals::{Refusal, Verdict};
+use units::refusals::Refusal;
 
 // A sender's counts: accepted and confirmed.
 #[derive(Clone, Copy)]
-pub enum Counted {
-    Counts(Unfolded, Unfolded),
-    Refused(Refusal),
+pub struct Counts {
+    pub accepted: Unfolded,
+    pub confirmed: Unfolded,
 }
 
 // A plan: how many of its payloads were accepted, and what the next was refused with. [O3, O10]
 #[derive(Clone, Copy)]
-pub enum Planned {
-    Accepted(u8, Verdict),
-    Refused(Refusal),
+pub struct Plan {
+    pub accepted: u8,
+    pub stop: Result<(), Refusal>,
 }
 
 // What a frame was to the entry that took it in. [O3]
@@ -36,30 +36,9 @@ pub enum Was {
 
 // An arrival: the index of the entry that the frame was for, and what it was there. [O3]
 #[derive(Clone, Copy)]
-pub enum Arrived {
-    At(u8, Was),
-    Refused(Refusal),
-}
-
-// The length of the frame handed out, 0 where nothing waits.
-#[derive(Clone, Copy)]
-pub enum HandedOut {
-    Length(usize),
-    Refused(Refusal),
-}
-
-// An entry's state. [O3]
-#[derive(Clone, Copy)]
-pub enum Stated {
-    Is(State),
-    Refused(Refusal),
-}
-
-// How many bytes of store a table needs. [O3]
-#[derive(Clone, Copy)]
-pub enum Needed {
-    Bytes(usize),
-    Refused(Refusal),
+pub struct Arrival {
+    pub entry: u8,
+    pub was: Was,
 }
 
 // A state's number: Closed, Enabled, Open, Failing.

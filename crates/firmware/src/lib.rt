@@ -14,9 +14,8 @@ ghost use Rattle.frame.specs.Writing.{write_answer, written_of};
 ghost use Rattle.firmware.specs.Firmware.{read_number, read_fields, fields_in, write_number, window_number};
 
 use frame::faults::fault_byte;
-use frame::{Fields, Header, Read, Written, type_number};
+use frame::{Fields, Header, type_number};
 use units::bytes::{byte_at, put_all};
-use units::refusals::number;
 use units::sizes::{in_force, is_size};
 use units::{Address, Channel, Seq};
 use window::distance;
@@ -24,7 +23,7 @@ use window::distance;
 // The fields of a frame that was read, stored as C has them.
 #[tactic(auto, unfolding(crate::specs::Firmware::read_fields))]
 fn put_fields(fields: &mut [u8], h: Header)
-    ensures { fields.new ≡ read_fields (Read.Frame h) fields.old }
+    ensures { fields.new ≡ read_fields (Ok h) fields.old }
 {
     let kind = h.kind;
     let bytes = [
@@ -47,11 +46,11 @@ pub fn shelugvar_frame_read(frame: &[u8], fields: &mut [u8; 7]) -> u8
     ensures after { fields.new ≡ read_fields (read_of frame.now) fields.old }
 {
     match frame::reading::read(frame) {
-        Read::Frame(h) => {
+        Ok(h) => {
             put_fields(fields, h);
             0
         }
-        Read::Refused(w) => number(w),
+        Err(w) => u8::from(w),
     }
 }
 
@@ -95,8 +94,8 @@ pub fn shelugvar_frame_write(buffer: &mut [u8], fields: &[u8; 7], payload: &[u8]
         ≡ written_of (fields_in fields.now) payload.now buffer.old }
 {
     match frame::writing::write(buffer, fields_in(fields), payload) {
-        Written::Length(_) => 0,
-        Written::Refused(w) => number(w),
+        Ok(_) => 0,
+        Err(w) => u8::from(w),
     }
 }
 

@@ -18,17 +18,17 @@ ghost use Rattle.call_tick.specs.Ticking.{tick_answer, tick_after};
 ghost use Rattle.firmware.specs.Nodes.{refusal_in, value_in, pair_in, arrived_in, version_of};
 
 use end_points::answers;
-use end_points::answers::{Arrived, Counted, HandedOut, Needed, Planned, Stated};
+use end_points::answers::{Arrival, Counts, Plan};
 use node::{Book, Node};
-use units::refusals::{Verdict, number};
+use units::refusals::Refusal;
 
 // A verdict's number.
-fn told(v: Verdict) -> u8
+fn told(v: Result<(), Refusal>) -> u8
     ensures { result ≡ refusal_in (answer_of v) }
 {
     match v {
-        Verdict::Passed => 0,
-        Verdict::Refused(w) => number(w),
+        Ok(()) => 0,
+        Err(w) => u8::from(w),
     }
 }
 
@@ -71,12 +71,15 @@ pub fn shelugvar_counts(node: &Node, index: usize, values: &mut [u32; 2]) -> u8
         ≡ pair_in (counted_of (counts_answer node.now index)) values.old }
 {
     match node::counts(node, index) {
-        Counted::Counts(accepted, confirmed) => {
+        Ok(Counts {
+            accepted,
+            confirmed,
+        }) => {
             values[0] = accepted.0;
             values[1] = confirmed.0;
             0
         }
-        Counted::Refused(w) => number(w),
+        Err(w) => u8::from(w),
     }
 }
 
@@ -134,29 +137,29 @@ pub fn shelugvar_plan(
         values.new ≡ pair_in (planned_of (plan_answer x index block.now)) values.old }
 {
     match node::plan(node, book, store, index, block) {
-        Planned::Accepted(n, stop) => {
+        Ok(Plan { accepted: n, stop }) => {
             values[0] = n;
             values[1] = told(stop);
             0
         }
-        Planned::Refused(w) => number(w),
+        Err(w) => u8::from(w),
     }
 }
 
 // An arrival in numbers: what it was, its entry, and its value, 0 where it has none.
 #[tactic(auto, unfolding(crate::specs::Nodes::arrived_in))]
-fn arrived(values: &mut [usize; 3], a: Arrived) -> u8
+fn arrived(values: &mut [usize; 3], a: Result<Arrival, Refusal>) -> u8
     ensures answer { result ≡ refusal_in (arrived_of a) }
     ensures after { values.new ≡ arrived_in (arrived_of a) values.old }
 {
     match a {
-        Arrived::At(i, was) => {
+        Ok(Arrival { entry: i, was }) => {
             values[0] = answers::what(was) as usize;
             values[1] = i as usize;
             values[2] = answers::value(was);
             0
         }
-        Arrived::Refused(w) => number(w),
+        Err(w) => u8::from(w),
     }
 }
 
@@ -200,11 +203,11 @@ pub fn shelugvar_hand_out(
         length.new ≡ value_in (handed_of (hand_out_answer x)) length.old }
 {
     match node::hand_out(node, book, store, frame) {
-        HandedOut::Length(n) => {
+        Ok(n) => {
             *length = n;
             0
         }
-        HandedOut::Refused(w) => number(w),
+        Err(w) => u8::from(w),
     }
 }
 
@@ -235,11 +238,11 @@ pub fn shelugvar_entry_state(node: &Node, index: usize, state: &mut u8) -> u8
         ≡ value_in (stated_of (state_answer node.now index)) state.old }
 {
     match node::state(node, index) {
-        Stated::Is(s) => {
+        Ok(s) => {
             *state = answers::state_number(s);
             0
         }
-        Stated::Refused(w) => number(w),
+        Err(w) => u8::from(w),
     }
 }
 
@@ -251,11 +254,11 @@ pub fn shelugvar_store_need(table: &[u8], need: &mut usize) -> u8
         ≡ value_in (needed_of (need_answer table.now)) need.old }
 {
     match node::store_need(table) {
-        Needed::Bytes(n) => {
+        Ok(n) => {
             *need = n;
             0
         }
-        Needed::Refused(w) => number(w),
+        Err(w) => u8::from(w),
     }
 }
 

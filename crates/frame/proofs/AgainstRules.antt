@@ -10,16 +10,12 @@ use native.Mathlib.Omega.{arith}
 use borrow.Author.Tests.{le-leb, lt-leb, leb-true, leb-false, eq-eqb, ne_eqb, eqb-true, eqb-false, not-false, not-true}
 use lib.Dec.{eqb, leb, ltb}
 use lib.ListN.{length}
-use Rattle.units.specs.Refusals.{number_of, pick, verdict}
+use Rattle.units.specs.Refusals.{number_of, pick, verdict, Verdict}
 use Rattle.units.specs.declared.refusals.Refusal.{Refusal}
 use Rattle.units.specs.declared.refusals.Refusal.TheVariants as refusal
-use Rattle.units.specs.declared.refusals.Verdict.{Verdict}
-use Rattle.units.specs.declared.refusals.Verdict.TheVariants as verdicts
 use Rattle.units.proofs.Judging.{differ, passed_over, fits_here, not_given}
 use Rattle.frame.specs.declared.Fields.{Fields}
 use Rattle.frame.specs.declared.Header.{Header}
-use Rattle.frame.specs.declared.Read.TheVariants as read
-use Rattle.frame.specs.declared.Written.TheVariants as written
 use Rattle.frame.specs.Types.{type_of, suits, seq_writes}
 use Rattle.frame.specs.Layout.{overhead, type_at, user_at}
 use Rattle.frame.specs.Reading.{sound_of, header_tests, header_at, read_as, header_of, read_of}
@@ -27,6 +23,7 @@ use Rattle.frame.specs.Writing.{write_tests, written_as, write_answer}
 use Rattle.frame.specs.AgainstRules.{length_fits, sequence_fits, HasFault, FirstFaults, IsFault, ReaderFaults}
 use Rattle.frame.specs.AgainstRules.{HasWrong, WriterFaults, against_rules, breaks_rules, read_before, written_before, ReadAsBefore, WrittenAsBefore}
 use Rattle.frame.proofs.FaultLaws.{fault_late, has_byte, fault_was_12}
+use Rattle.std.specs.Prelude.{Ok, Err}
 
 -- ---- tests in words
 
@@ -51,16 +48,16 @@ fits_not b = (not-true b, ap not)
 -- another test, which does not fit, stands before the one for a fault
 over : {A B : Type 0} (t : Bool × Refusal) (ts : List (Bool × Refusal)) (w : Refusal)
     → eqb (number_of t.1) (number_of w) ≡ false → (t.0 ≡ false) ↔ A
-    → (verdict ts ≡ verdicts.Refused w) ↔ B → (verdict (t ∷ ts) ≡ verdicts.Refused w) ↔ (A × B)
+    → (verdict ts ≡ Err w) ↔ B → (verdict (t ∷ ts) ≡ Err w) ↔ (A × B)
 over t ts w n = passed_over t ts w (differ t.1 w n)
 
 -- ---- reading
 
 -- the reader refuses with what its tests refuse with
-pub read_refused : (v : Verdict) (h : Header) (w : Refusal) → (read_as v h ≡ read.Refused w) ↔ (v ≡ verdicts.Refused w)
-read_refused verdicts.Passed h w =
+pub read_refused : (v : Verdict) (h : Header) (w : Refusal) → (read_as v h ≡ Err w) ↔ (v ≡ Err w)
+read_refused (Ok _) h w =
     (λ e. let z : ◌≡◌ {A = ℕ} 0 1 = cc in absurd (omega arith), λ e. let z : ◌≡◌ {A = ℕ} 0 1 = cc in absurd (omega arith))
-read_refused (verdicts.Refused u) h w = (λ e. cc, λ e. cc)
+read_refused (Err u) h w = (λ e. cc, λ e. cc)
 
 module _ (f : List ℕ) where
   -- the tests, each with those that follow it
@@ -73,20 +70,20 @@ module _ (f : List ℕ) where
   abbrev user_test : List (Bool × Refusal)
   user_test = (not (eqb (user_at f) 0), refusal.UserBits) ∷ length_test
 
-  by_tests : (w : Refusal) → HasFault f w ↔ (verdict (header_tests f) ≡ verdicts.Refused w)
+  by_tests : (w : Refusal) → HasFault f w ↔ (verdict (header_tests f) ≡ Err w)
   unfolding header_of
   by_tests w = read_refused (verdict (header_tests f)) (header_at (type_of (type_at f)) f) w
 
   -- a fault behind the type's
   known_type : {A : Type 0} (w : Refusal) → eqb (number_of refusal.UnknownType) (number_of w) ≡ false
-      → (verdict user_test ≡ verdicts.Refused w) ↔ A → HasFault f w ↔ ((type_at f < 4) × A)
+      → (verdict user_test ≡ Err w) ↔ A → HasFault f w ↔ ((type_at f < 4) × A)
   known_type w n p =
       Iff.trans (by_tests w) (over (leb 4 (type_at f), refusal.UnknownType) user_test w n (known (type_at f)) p)
 
   -- and behind the user bits
   no_user : {A : Type 0} (w : Refusal)
       → eqb (number_of refusal.UnknownType) (number_of w) ≡ false → eqb (number_of refusal.UserBits) (number_of w) ≡ false
-      → (verdict length_test ≡ verdicts.Refused w) ↔ A → HasFault f w ↔ ((type_at f < 4) × ((user_at f ≡ 0) × A))
+      → (verdict length_test ≡ Err w) ↔ A → HasFault f w ↔ ((type_at f < 4) × ((user_at f ≡ 0) × A))
   no_user w n m p =
       known_type w n (over (not (eqb (user_at f) 0), refusal.UserBits) length_test w m (zeros (user_at f)) p)
 
@@ -118,10 +115,10 @@ reader_faults f w k =
 
 -- ---- writing
 
-writer_refused : (v : Verdict) (n : ℕ) (w : Refusal) → (written_as v n ≡ written.Refused w) ↔ (v ≡ verdicts.Refused w)
-writer_refused verdicts.Passed n w =
+writer_refused : (v : Verdict) (n : ℕ) (w : Refusal) → (written_as v n ≡ Err w) ↔ (v ≡ Err w)
+writer_refused (Ok _) n w =
     (λ e. let z : ◌≡◌ {A = ℕ} 0 1 = cc in absurd (omega arith), λ e. let z : ◌≡◌ {A = ℕ} 0 1 = cc in absurd (omega arith))
-writer_refused (verdicts.Refused u) n w = (λ e. cc, λ e. cc)
+writer_refused (Err u) n w = (λ e. cc, λ e. cc)
 
 module _ (d : Fields) (p b : List ℕ) where
   abbrev room_tests : List (Bool × Refusal)
@@ -137,12 +134,12 @@ module _ (d : Fields) (p b : List ℕ) where
   nibble_test = (not (eqb d.user 0), refusal.UserBits) ∷ number_test
 
   by_writing : (w : Refusal)
-      → HasWrong d p b w ↔ (verdict (write_tests d (length p) (length b)) ≡ verdicts.Refused w)
+      → HasWrong d p b w ↔ (verdict (write_tests d (length p) (length b)) ≡ Err w)
   unfolding write_answer
   by_writing w = writer_refused (verdict (write_tests d (length p) (length b))) (length p + overhead) w
 
   known_written : {A : Type 0} (w : Refusal) → eqb (number_of refusal.UnknownType) (number_of w) ≡ false
-      → (verdict nibble_test ≡ verdicts.Refused w) ↔ A → HasWrong d p b w ↔ ((d.kind < 4) × A)
+      → (verdict nibble_test ≡ Err w) ↔ A → HasWrong d p b w ↔ ((d.kind < 4) × A)
   known_written w n q =
       Iff.trans (by_writing w) (over (leb 4 d.kind, refusal.UnknownType) nibble_test w n (known d.kind) q)
 
@@ -172,7 +169,7 @@ writer_faults d p b =
 -- a header is refused for a fault where the frame breaks the rules, and given where it does not
 pub header_before : (f : List ℕ)
     → ((breaks_rules f ≡ true) × ((w : Refusal) × (IsFault w × HasFault f w)))
-    ⊎ ((breaks_rules f ≡ false) × (header_of f ≡ read.Frame (header_at (type_of (type_at f)) f)))
+    ⊎ ((breaks_rules f ≡ false) × (header_of f ≡ Ok (header_at (type_of (type_at f)) f)))
 unfolding header_of
 header_before f =
     go (leb 4 (type_at f)) (not (eqb (user_at f) 0)) (not (length_fits f)) (not (sequence_fits f))
@@ -187,8 +184,8 @@ header_before f =
         ∷ []
 
     go : (t u l n : Bool) (h : Header)
-        → (((t || u || l || n) ≡ true) × ((w : Refusal) × (IsFault w × (read_as (verdict (tests t u l n)) h ≡ read.Refused w))))
-        ⊎ (((t || u || l || n) ≡ false) × (read_as (verdict (tests t u l n)) h ≡ read.Frame h))
+        → (((t || u || l || n) ≡ true) × ((w : Refusal) × (IsFault w × (read_as (verdict (tests t u l n)) h ≡ Err w))))
+        ⊎ (((t || u || l || n) ≡ false) × (read_as (verdict (tests t u l n)) h ≡ Ok h))
     go true u l n h = inl (refl, (refusal.UnknownType, (has_byte, refl)))
     go false true l n h = inl (refl, (refusal.UserBits, (has_byte, refl)))
     go false false true n h = inl (refl, (refusal.LengthAgainstType, (has_byte, refl)))
@@ -201,7 +198,7 @@ read_as_before f = sides (sound_of f) (header_before f)
   where
     sides : (s : Bool)
         → ((breaks_rules f ≡ true) × ((w : Refusal) × (IsFault w × HasFault f w)))
-        ⊎ ((breaks_rules f ≡ false) × (header_of f ≡ read.Frame (header_at (type_of (type_at f)) f)))
+        ⊎ ((breaks_rules f ≡ false) × (header_of f ≡ Ok (header_at (type_of (type_at f)) f)))
         → read_before (read_as (verdict ((not s, refusal.BadFrame) ∷ header_tests f)) (header_at (type_of (type_at f)) f))
         ≡ pick (not s) (inr (number_of refusal.BadFrame)) (pick (breaks_rules f) (inr against_rules) (inl (header_at (type_of (type_at f)) f)))
     sides false k = refl

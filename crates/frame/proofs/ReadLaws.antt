@@ -9,22 +9,20 @@ use lib.Dec.{leb, eqb}
 use lib.ListN.{length, get_or}
 use lib.Seq.{take_at}
 use Rattle.units.specs.Bytes.{get16_of, be16}
-use Rattle.units.specs.Refusals.{verdict}
+use Rattle.units.specs.Refusals.{verdict, Verdict}
 use Rattle.units.specs.declared.refusals.Refusal.{Refusal}
 use Rattle.units.specs.declared.refusals.Refusal.TheVariants as refusal
-use Rattle.units.specs.declared.refusals.Verdict.{Verdict}
-use Rattle.units.specs.declared.refusals.Verdict.TheVariants as verdicts
 use Rattle.units.proofs.Judging.{clear}
 use Rattle.check8.specs.Polynomial.{check_of}
 use Rattle.check8.proofs.Laws.{own_check}
 use Rattle.frame.specs.declared.Fields.{Fields}
 use Rattle.frame.specs.declared.Header.{Header}
-use Rattle.frame.specs.declared.Read.TheVariants.{Frame}
 use Rattle.frame.specs.Types.{type_of, suits, seq_reads, seq_writes}
 use Rattle.frame.specs.Layout.{type_at, user_at, payload_of, head_bytes, body_bytes, frame_bytes}
 use Rattle.frame.specs.Reading.{sound_of, header_tests, header_at, read_as, read_of}
 use Rattle.frame.proofs.TypeLaws.{suits_le, writes_reads, writes_given}
 use Rattle.frame.proofs.WriteLaws.{length_frame}
+use Rattle.std.specs.Prelude.{Ok, Err}
 
 -- ---- what a taken frame shows
 
@@ -41,11 +39,11 @@ pub record Taken (f : List ℕ) : Type 0 where
   pub fits : suits (type_of (type_at f)) (get16_of f 4) ≡ true
   pub numbered : seq_reads (type_of (type_at f)) (get_or f 7 0) ≡ true
 
-passed : (v : Verdict) (x h : Header) → read_as v x ≡ Frame h → (v ≡ verdicts.Passed) × (x ≡ h)
-passed verdicts.Passed x h e = (refl, cc)
-passed (verdicts.Refused w) x h e = let z : ◌≡◌ {A = ℕ} 0 1 = cc in absurd (omega arith)
+passed : (v : Verdict) (x h : Header) → read_as v x ≡ Ok h → (v ≡ Ok tt) × (x ≡ h)
+passed (Ok _) x h e = (refl, cc)
+passed (Err w) x h e = let z : ◌≡◌ {A = ℕ} 0 1 = cc in absurd (omega arith)
 
-pub taken : (f : List ℕ) (h : Header) → read_of f ≡ Frame h → Taken f × (header_at (type_of (type_at f)) f ≡ h)
+pub taken : (f : List ℕ) (h : Header) → read_of f ≡ Ok h → Taken f × (header_at (type_of (type_at f)) f ≡ h)
 unfolding read_of sound_of
 taken f h e =
     let tests : List (Bool × Refusal) = (not (sound_of f), refusal.BadFrame) ∷ header_tests f in
@@ -114,7 +112,7 @@ module _ (d : Fields) (p : List ℕ) where
     user_frame : user_at (frame_bytes d p) ≡ 0
     user_frame = rw mark_frame (omega arith)
 
-    pass_frame : verdict ((not (sound_of (frame_bytes d p)), refusal.BadFrame) ∷ header_tests (frame_bytes d p)) ≡ verdicts.Passed
+    pass_frame : verdict ((not (sound_of (frame_bytes d p)), refusal.BadFrame) ∷ header_tests (frame_bytes d p)) ≡ Ok tt
     pass_frame =
         rw (
           sound_frame,
@@ -131,6 +129,6 @@ module _ (d : Fields) (p : List ℕ) where
     unfolding frame_bytes body_bytes head_bytes be16
     header_frame = rw (size_frame, writes_given (type_of d.kind) d.seq.0 numbered)
 
-    pub read_frame : read_of (frame_bytes d p) ≡ Frame (header_for d (length p))
+    pub read_frame : read_of (frame_bytes d p) ≡ Ok (header_for d (length p))
     unfolding read_of
-    read_frame = rw (pass_frame, kind_frame) (ap Frame header_frame)
+    read_frame = rw (pass_frame, kind_frame) (ap Ok header_frame)

@@ -9,15 +9,12 @@ use lib.ListN.{length, get_or, drop, set}
 use lib.Seq.{take_at, set_at, set-get_or, get_or-set_other}
 use lib.Pow.{are_bytes}
 use Rattle.units.specs.Bytes.{get16_of, be16}
-use Rattle.units.specs.Refusals.{verdict}
-use Rattle.units.specs.declared.refusals.Verdict.{Verdict}
-use Rattle.units.specs.declared.refusals.Verdict.TheVariants as verdicts
+use Rattle.units.specs.Refusals.{verdict, Verdict}
 use Rattle.units.proofs.Judging.{clear}
 use Rattle.check8.specs.Polynomial.{check_of}
 use Rattle.check8.proofs.Laws.{only_check}
 use Rattle.frame.specs.declared.Fields.{Fields}
 use Rattle.frame.specs.declared.FrameType.TheVariants.{Urgent}
-use Rattle.frame.specs.declared.Written.TheVariants.{Length}
 use Rattle.frame.specs.Types.{type_number, type_of, seq_given}
 use Rattle.frame.specs.Layout.{type_at, head_bytes, body_bytes, frame_bytes, payload_of}
 use Rattle.frame.specs.Reading.{header_at}
@@ -27,17 +24,18 @@ use Rattle.frame.proofs.TypeLaws.{number_of_type, number_known, type_of_number, 
 use Rattle.frame.proofs.WriteLaws.{length_body, length_frame}
 use Rattle.frame.proofs.ReadLaws.{Taken, taken, header_for, read_frame, payload_frame}
 use Rattle.frame.proofs.Parts.{byte, bytes_before, length_payload, last, last_byte, parts}
+use Rattle.std.specs.Prelude.{Ok, Err}
 
 -- ---- what the writer writes, the reader gives back
 
-accepted : (v : Verdict) (m n : ℕ) → written_as v m ≡ Length n → (v ≡ verdicts.Passed) × (m ≡ n)
-accepted verdicts.Passed m n e = (refl, cc)
-accepted (verdicts.Refused w) m n e = let z : ◌≡◌ {A = ℕ} 0 1 = cc in absurd (omega arith)
+accepted : (v : Verdict) (m n : ℕ) → written_as v m ≡ Ok n → (v ≡ Ok tt) × (m ≡ n)
+accepted (Ok _) m n e = (refl, cc)
+accepted (Err w) m n e = let z : ◌≡◌ {A = ℕ} 0 1 = cc in absurd (omega arith)
 
 same_fields : (d : Fields) (n : ℕ) → d.kind < 4 → d.user ≡ 0 → fields_of (header_for d n) ≡ d
 same_fields d n known plain = rw (number_of_type d.kind known, ← plain)
 
-gives : (d : Fields) (p b : List ℕ) → verdict (write_tests d (length p) (length b)) ≡ verdicts.Passed → Gives (frame_bytes d p) d p
+gives : (d : Fields) (p b : List ℕ) → verdict (write_tests d (length p) (length b)) ≡ Ok tt → Gives (frame_bytes d p) d p
 gives d p b v =
     let c = clear (write_tests d (length p) (length b)) v in
     let known : d.kind < 4 = leb-false 4 d.kind c.0 in
@@ -70,7 +68,7 @@ module _ (f : List ℕ) (bytes : T (are_bytes f)) (k : Taken f) where
   size_payload : length (payload_of f) ≡ get16_of f 4
   size_payload = omega (arith, length_payload f)
 
-  pass_again : (b : List ℕ) → length f ≤ length b → verdict (write_tests (fields_at f) (length (payload_of f)) (length b)) ≡ verdicts.Passed
+  pass_again : (b : List ℕ) → length f ≤ length b → verdict (write_tests (fields_at f) (length (payload_of f)) (length b)) ≡ Ok tt
   pass_again b room =
       let t = type_of (type_at f) in
       let enough : get16_of f 4 + 9 ≤ length b = omega arith in

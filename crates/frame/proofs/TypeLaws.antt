@@ -5,25 +5,9 @@ use Prim.Native.Nat.{ℕ, zero, suc, ◌≤◌, ◌<◌}
 use native.Mathlib.Omega.{arith}
 use borrow.Author.Tests.{leb-true, eqb-true}
 use lib.Dec.{leb}
-use Rattle.units.specs.Refusals.{pick}
 use Rattle.frame.specs.declared.FrameType.{FrameType}
 use Rattle.frame.specs.declared.FrameType.TheVariants.{Data, Acknowledge, Reset, Urgent}
-use Rattle.frame.specs.declared.types.Known.TheVariants.{Is, Unknown}
-use Rattle.frame.specs.Types.{type_number, type_of, known_of, suits, seq_reads, seq_writes, seq_given}
-
-pub known_is : (n : ℕ) (t : FrameType) → known_of n ≡ Is t → (leb 4 n ≡ false) × (type_of n ≡ t)
-known_is n t e = go (leb 4 n) e
-  where
-    go : (b : Bool) → pick b Unknown (Is (type_of n)) ≡ Is t → (b ≡ false) × (type_of n ≡ t)
-    go true h = let z : ◌≡◌ {A = ℕ} 0 1 = cc in absurd (omega arith)
-    go false h = (refl, cc)
-
-pub known_not : (n : ℕ) → known_of n ≡ Unknown → leb 4 n ≡ true
-known_not n e = go (leb 4 n) e
-  where
-    go : (b : Bool) → pick b Unknown (Is (type_of n)) ≡ Unknown → b ≡ true
-    go true h = refl
-    go false h = let z : ◌≡◌ {A = ℕ} 0 1 = cc in absurd (omega arith)
+use Rattle.frame.specs.Types.{type_number, type_of, suits, seq_reads, seq_writes, seq_given}
 
 and_le : (n : ℕ) → (leb 1 n && leb n 65520) ≡ true → n ≤ 65520
 and_le n e = leb-true n 65520 (go (leb 1 n) (leb n 65520) e)

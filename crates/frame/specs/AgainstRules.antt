@@ -1,8 +1,7 @@
 -- Paper 01's refusal 12, "against the frame rules", and the four faults that change request K1 put in its place: each
 -- is told exactly where its test is the first to fit, and but for the number every answer is that of before. Proved in
 -- proofs/AgainstRules.antt. Assumes nothing.
-use Rattle.std.specs.Prelude.{ℕ, ◌+◌, ◌≤◌, ◌<◌, ◌≡◌, ◌≢◌, ◌↔◌, ◌⊎◌, Bool, true, false, not, ◌||◌, List, [], eqb}
-use Rattle.std.specs.Prelude.{leb, ltb, length, get_or}
+use Rattle.std.specs.Prelude.{ℕ, ◌+◌, ◌≤◌, ◌<◌, ◌≡◌, ◌≢◌, ◌↔◌, ◌⊎◌, Bool, true, false, not, ◌||◌, List, [], eqb, leb, ltb, length, get_or, Result, Ok, Err}
 use Rattle.std.proofs.Common.{inl, inr}
 use Rattle.units.specs.Bytes.{get16_of}
 use Rattle.units.specs.Refusals.{number_of, pick}
@@ -10,10 +9,6 @@ use Rattle.units.specs.declared.refusals.Refusal.{Refusal}
 use Rattle.units.specs.declared.refusals.Refusal.TheVariants as refusal
 use Rattle.frame.specs.declared.Fields.{Fields}
 use Rattle.frame.specs.declared.Header.{Header}
-use Rattle.frame.specs.declared.Read.{Read}
-use Rattle.frame.specs.declared.Read.TheVariants as read
-use Rattle.frame.specs.declared.Written.{Written}
-use Rattle.frame.specs.declared.Written.TheVariants as written
 use Rattle.frame.specs.Types.{type_of, suits, seq_reads, seq_writes}
 use Rattle.frame.specs.Layout.{length_byte, sequence_byte, overhead, type_at, user_at}
 use Rattle.frame.specs.Faults.{byte_in}
@@ -31,7 +26,7 @@ sequence_fits f = seq_reads (type_of (type_at f)) (get_or f sequence_byte 0)
 
 -- what the header of a frame is refused for
 abbrev pub HasFault : List ℕ → Refusal → Type 0
-HasFault f w = header_of f ≡ read.Refused w
+HasFault f w = header_of f ≡ Err w
 
 -- each fault, where it is one and none before it is [R15, R16, R17, R18, R43]
 pub record FirstFault (f : List ℕ) : Type 0 where
@@ -53,11 +48,11 @@ IsFault w = byte_in w ≢ []
 -- the whole reader tells a fault exactly where the frame is sound and that is its first [R40, R43]
 unfoldable pub ReaderFaults : Type 0
 ReaderFaults = (f : List ℕ) (w : Refusal) → IsFault w
-    → (read_of f ≡ read.Refused w) ↔ ((sound_of f ≡ true) × HasFault f w)
+    → (read_of f ≡ Err w) ↔ ((sound_of f ≡ true) × HasFault f w)
 
 -- what the writer refuses fields for
 abbrev pub HasWrong : Fields → List ℕ → List ℕ → Refusal → Type 0
-HasWrong d p b w = write_answer d p b ≡ written.Refused w
+HasWrong d p b w = write_answer d p b ≡ Err w
 
 -- each where none before it is; a length that does not fit is no fault here [R15, R16, R17, R18, R43]
 pub record FirstWrong (d : Fields) (p b : List ℕ) : Type 0 where
@@ -91,13 +86,13 @@ abbrev pub number_before : Refusal → ℕ
 number_before w = pick (eqb (length (byte_in w)) 0) (number_of w) against_rules
 
 -- an answer with the number that it had
-abbrev pub read_before : Read → Header ⊎ ℕ
-read_before (read.Frame h) = inl h
-read_before (read.Refused w) = inr (number_before w)
+abbrev pub read_before : Result Header Refusal → Header ⊎ ℕ
+read_before (Ok h) = inl h
+read_before (Err w) = inr (number_before w)
 
-abbrev pub written_before : Written → ℕ ⊎ ℕ
-written_before (written.Length n) = inl n
-written_before (written.Refused w) = inr (number_before w)
+abbrev pub written_before : Result ℕ Refusal → ℕ ⊎ ℕ
+written_before (Ok n) = inl n
+written_before (Err w) = inr (number_before w)
 
 -- with that the reader is paper 01's: 10, 12, or the header. So the frames that are taken are those of before [R48]
 unfoldable pub ReadAsBefore : Type 0

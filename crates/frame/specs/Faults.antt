@@ -1,14 +1,13 @@
 -- Where in a frame the fault sits that a refusal is for. Cited by whoever gives a refusal in the paper's numbers, and
 -- for C. Assumes nothing.
-use Rattle.std.specs.Prelude.{ℕ, ◌≡◌, List, [], ◌∷◌, eqb, get_or}
+use Rattle.std.specs.Prelude.{ℕ, ◌≡◌, List, [], ◌∷◌, eqb, get_or, Result, Ok, Err}
 use Rattle.units.specs.Refusals.{number_of, pick}
 use Rattle.units.specs.declared.refusals.Refusal.{Refusal}
 use Rattle.units.specs.declared.refusals.Refusal.TheVariants as refusal
-use Rattle.frame.specs.declared.Read.{Read}
-use Rattle.frame.specs.declared.Read.TheVariants as read
 use Rattle.frame.specs.Layout.{type_byte, length_byte, sequence_byte}
-
 -- the number of the byte, for a refusal that is for a fault of the frame's header [R15, R16, R17, R18, R47]
+use Rattle.frame.specs.declared.Header.{Header}
+
 abbrev pub byte_in : Refusal → List ℕ
 byte_in refusal.BadTable = []
 byte_in refusal.NoEntry = []
@@ -37,9 +36,9 @@ abbrev pub refused_of : Refusal → List ℕ
 refused_of w = number_of w ∷ byte_in w
 
 -- the reader's answer in the paper's numbers: 0, or the refusal [R40, R47, O3]
-abbrev pub read_numbers : Read → List ℕ
-read_numbers (read.Frame h) = 0 ∷ []
-read_numbers (read.Refused w) = refused_of w
+abbrev pub read_numbers : Result Header Refusal → List ℕ
+read_numbers (Ok h) = 0 ∷ []
+read_numbers (Err w) = refused_of w
 
 -- ---- the byte of a refusal that is known by its number
 

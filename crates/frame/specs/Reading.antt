@@ -1,16 +1,12 @@
 -- The reader: 10, then 15, 16, 17, 18. Cited by its two halves and by whoever tests 11 between them. Assumes nothing.
-use Rattle.std.specs.Prelude.{ℕ, ◌+◌, Bool, ◌&&◌, not, List, [], ◌∷◌, eqb, leb, length, get_or}
+use Rattle.std.specs.Prelude.{ℕ, ◌+◌, Bool, ◌&&◌, not, List, [], ◌∷◌, eqb, leb, length, get_or, Result, Ok, Err}
 use Rattle.units.specs.Bytes.{get16_of}
-use Rattle.units.specs.Refusals.{verdict}
+use Rattle.units.specs.Refusals.{verdict, Verdict}
 use Rattle.units.specs.declared.refusals.Refusal.{Refusal}
 use Rattle.units.specs.declared.refusals.Refusal.TheVariants as refusal
-use Rattle.units.specs.declared.refusals.Verdict.{Verdict}
-use Rattle.units.specs.declared.refusals.Verdict.TheVariants as verdicts
 use Rattle.check8.specs.Polynomial.{check_of}
 use Rattle.frame.specs.declared.FrameType.{FrameType}
 use Rattle.frame.specs.declared.Header.{Header}
-use Rattle.frame.specs.declared.Read.{Read}
-use Rattle.frame.specs.declared.Read.TheVariants.{Frame, Refused}
 use Rattle.frame.specs.Types.{type_of, suits, seq_reads, seq_given}
 use Rattle.frame.specs.Layout.{destination_byte, protocol_byte, source_byte, length_byte, channel_byte, sequence_byte}
 use Rattle.frame.specs.Layout.{overhead, type_at, user_at}
@@ -45,15 +41,15 @@ header_at t f =
     }
 
 -- the fields where the tests pass [R43]
-abbrev pub read_as : Verdict → Header → Read
-read_as verdicts.Passed h = Frame h
-read_as (verdicts.Refused w) h = Refused w
+abbrev pub read_as : Verdict → Header → Result Header Refusal
+read_as (Ok _) h = Ok h
+read_as (Err w) h = Err w
 
 -- the second half: 15, 16, 17, 18 [R15, R16, R17, R18]
-unfoldable pub header_of : List ℕ → Read
+unfoldable pub header_of : List ℕ → Result Header Refusal
 header_of f = read_as (verdict (header_tests f)) (header_at (type_of (type_at f)) f)
 
 -- the whole reader: 10, then these [R40]
-unfoldable pub read_of : List ℕ → Read
+unfoldable pub read_of : List ℕ → Result Header Refusal
 read_of f =
     read_as (verdict ((not (sound_of f), refusal.BadFrame) ∷ header_tests f)) (header_at (type_of (type_at f)) f)

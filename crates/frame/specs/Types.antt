@@ -1,12 +1,12 @@
 -- The four types of frame: their numbers, and what each asks of payload and sequence. Cited by reader and writer.
 -- Assumes nothing.
-use Rattle.std.specs.Prelude.{ℕ, zero, suc, Bool, true, false, ◌&&◌, eqb, leb}
+use Rattle.std.specs.Prelude.{ℕ, zero, suc, Bool, true, false, ◌&&◌, eqb, leb, Result, Ok, Err}
 use Rattle.units.specs.Refusals.{pick}
+use Rattle.units.specs.declared.refusals.Refusal.{Refusal}
+use Rattle.units.specs.declared.refusals.Refusal.TheVariants.{UnknownType}
 use Rattle.frame.specs.Layout.{largest_payload}
 use Rattle.frame.specs.declared.FrameType.{FrameType}
 use Rattle.frame.specs.declared.FrameType.TheVariants.{Data, Acknowledge, Reset, Urgent}
-use Rattle.frame.specs.declared.types.Known.{Known}
-use Rattle.frame.specs.declared.types.Known.TheVariants.{Is, Unknown}
 
 -- a type's number [F6]
 abbrev pub type_number : FrameType → ℕ
@@ -22,9 +22,9 @@ type_of (suc zero) = Acknowledge
 type_of (suc (suc zero)) = Reset
 type_of (suc (suc (suc n))) = Urgent
 
--- 4 and above stand for none [F7, G4]
-abbrev pub known_of : ℕ → Known
-known_of n = pick (leb 4 n) Unknown (Is (type_of n))
+-- 4 and above stand for none [F7, G4, R15]
+abbrev pub known_of : ℕ → Result FrameType Refusal
+known_of n = pick (leb 4 n) (Err UnknownType) (Ok (type_of n))
 
 -- whether frames of a type have a payload [F12, F13]
 abbrev pub carries : FrameType → Bool

@@ -5,7 +5,6 @@
 // (specs/AgainstRules.antt).
 #![tactic(auto)]
 
-use units::refusals::Refusal;
 use units::{Address, Channel, Seq};
 
 pub mod layout; // layout.rt: where each field stands
@@ -36,12 +35,6 @@ pub struct Header {
     pub length: u16,
 }
 
-#[derive(Clone, Copy)]
-pub enum Read {
-    Frame(Header),
-    Refused(Refusal),
-}
-
 // What the writer is given: type and user bits are numbers that it may refuse.
 #[derive(Clone, Copy)]
 pub struct Fields {
@@ -52,10 +45,4 @@ pub struct Fields {
     pub user: u8,
     pub channel: Channel,
     pub seq: Seq,
-}
-
-#[derive(Clone, Copy)]
-pub enum Written {
-    Length(usize),
-    Refused(Refusal),
 }

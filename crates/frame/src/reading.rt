@@ -4,8 +4,8 @@ ghost use Rattle.units.specs.Refusals.{verdict};
 ghost use Rattle.frame.specs.Layout.{payload_of};
 ghost use Rattle.frame.specs.Reading.{sound_of, typed_tests, header_at, read_as, header_of, read_of};
 
-use crate::types::{Known, known_type, payload_suits, seq_given, seq_reads};
-use crate::{FrameType, Header, Read, layout};
+use crate::types::{payload_suits, seq_given, seq_reads};
+use crate::{FrameType, Header, layout};
 use units::bytes::{byte_at, get16};
 use units::refusals::Refusal;
 use units::{Address, Channel, Seq};
@@ -26,23 +26,23 @@ pub fn is_sound(frame: &[u8]) -> bool
 }
 
 // The second half for a frame of a known type.
-fn typed_header(frame: &[u8], kind: FrameType) -> Read
+fn typed_header(frame: &[u8], kind: FrameType) -> Result<Header, Refusal>
     ensures { result ≡ read_as (verdict (typed_tests kind frame.now))
         (header_at kind frame.now) }
 {
     let mark = byte_at(frame, layout::TYPE);
     if mark / 16 != 0 {
-        return Read::Refused(Refusal::UserBits);
+        return Err(Refusal::UserBits);
     }
     let length = get16(frame, layout::LENGTH);
     if !payload_suits(kind, length as usize) {
-        return Read::Refused(Refusal::LengthAgainstType);
+        return Err(Refusal::LengthAgainstType);
     }
     let seq = Seq(byte_at(frame, layout::SEQUENCE));
     if !seq_reads(kind, seq) {
-        return Read::Refused(Refusal::WrongSequence);
+        return Err(Refusal::WrongSequence);
     }
-    Read::Frame(Header {
+    Ok(Header {
         destination: Address(byte_at(frame, layout::DESTINATION)),
         protocol: byte_at(frame, layout::PROTOCOL),
         source: Address(byte_at(frame, layout::SOURCE)),
@@ -56,23 +56,21 @@ fn typed_header(frame: &[u8], kind: FrameType) -> Read
 // The second half: the header, or refusal 15, 16, 17 or 18.
 #[tactic(auto, unfolding(crate::specs::Reading::header_of))]
 #[inline(always)]
-pub fn header(frame: &[u8]) -> Read
+pub fn header(frame: &[u8]) -> Result<Header, Refusal>
     ensures { result ≡ header_of frame.now }
 {
     let mark = byte_at(frame, layout::TYPE);
-    match known_type(mark % 16) {
-        Known::Is(kind) => typed_header(frame, kind),
-        Known::Unknown => Read::Refused(Refusal::UnknownType),
-    }
+    let kind = FrameType::try_from(mark % 16)?;
+    typed_header(frame, kind)
 }
 
 // The whole reader.
 #[tactic(auto, unfolding(crate::specs::Reading::read_of, crate::specs::Reading::header_of))]
-pub fn read(frame: &[u8]) -> Read
+pub fn read(frame: &[u8]) -> Result<Header, Refusal>
     ensures { result ≡ read_of frame.now }
 {
     if !is_sound(frame) {
-        return Read::Refused(Refusal::BadFrame);
+        return Err(Refusal::BadFrame);
     }
     header(frame)
 }

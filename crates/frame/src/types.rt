@@ -1,16 +1,10 @@
 // The four types of frame, and what each asks of payload and sequence.
 ghost use Rattle.std.specs.Prelude.{◌≡◌};
-ghost use Rattle.frame.specs.Types.{type_number, known_of, suits, seq_reads, seq_writes, seq_given};
+ghost use Rattle.frame.specs.Types.{type_number, suits, seq_reads, seq_writes, seq_given};
 
 use crate::{FrameType, layout};
 use units::Seq;
-
-// What a number says of a frame's type.
-#[derive(Clone, Copy)]
-pub enum Known {
-    Is(FrameType),
-    Unknown,
-}
+use units::refusals::Refusal;
 
 // A type's number.
 pub fn type_number(kind: FrameType) -> u8
@@ -25,15 +19,22 @@ pub fn type_number(kind: FrameType) -> u8
 }
 
 // The type that a number stands for. [F7, G4]
-pub fn known_type(number: u8) -> Known
-    ensures { result ≡ known_of number }
-{
-    match number {
-        0 => Known::Is(FrameType::Data),
-        1 => Known::Is(FrameType::Acknowledge),
-        2 => Known::Is(FrameType::Reset),
-        3 => Known::Is(FrameType::Urgent),
-        4..=255 => Known::Unknown,
+impl TryFrom<u8> for FrameType {
+    ghost use Rattle.std.specs.Prelude.{◌≡◌};
+    ghost use Rattle.frame.specs.Types.{known_of};
+
+    type Error = Refusal;
+
+    ghost try_from_gives = { λ number kind. kind ≡ known_of number };
+
+    fn try_from(number: u8) -> Result<FrameType, Refusal> {
+        match number {
+            0 => Ok(FrameType::Data),
+            1 => Ok(FrameType::Acknowledge),
+            2 => Ok(FrameType::Reset),
+            3 => Ok(FrameType::Urgent),
+            4..=255 => Err(Refusal::UnknownType),
+        }
     }
 }
 

@@ -5,38 +5,36 @@ ghost use Rattle.units.specs.Refusals.{verdict};
 ghost use Rattle.frame.specs.Layout.{head_bytes, frame_bytes};
 ghost use Rattle.frame.specs.Writing.{typed_tests, write_tests, write_answer, written_of};
 
-use crate::types::{Known, known_type, payload_suits, seq_writes};
-use crate::{Fields, FrameType, Written, layout};
+use crate::types::{payload_suits, seq_writes};
+use crate::{Fields, FrameType, layout};
 use units::bytes::{put_all, put8};
-use units::refusals::{Refusal, Verdict};
+use units::refusals::Refusal;
 
 // The tests of a known type, with a payload of n bytes.
-fn judge_typed(fields: Fields, kind: FrameType, n: usize, room: usize) -> Verdict
+fn judge_typed(fields: Fields, kind: FrameType, n: usize, room: usize) -> Result<(), Refusal>
     ensures { result ≡ verdict (typed_tests kind fields n room) }
 {
     if fields.user != 0 {
-        return Verdict::Refused(Refusal::UserBits);
+        return Err(Refusal::UserBits);
     }
     if !seq_writes(kind, fields.seq) {
-        return Verdict::Refused(Refusal::WrongSequence);
+        return Err(Refusal::WrongSequence);
     }
     if !payload_suits(kind, n) {
-        return Verdict::Refused(Refusal::PayloadLength);
+        return Err(Refusal::PayloadLength);
     }
     if room < n + layout::OVERHEAD {
-        return Verdict::Refused(Refusal::TooShort);
+        return Err(Refusal::TooShort);
     }
-    Verdict::Passed
+    Ok(())
 }
 
 // All the writer's tests.
-fn judge(fields: Fields, n: usize, room: usize) -> Verdict
+fn judge(fields: Fields, n: usize, room: usize) -> Result<(), Refusal>
     ensures { result ≡ verdict (write_tests fields n room) }
 {
-    match known_type(fields.kind) {
-        Known::Is(kind) => judge_typed(fields, kind, n, room),
-        Known::Unknown => Verdict::Refused(Refusal::UnknownType),
-    }
+    let kind = FrameType::try_from(fields.kind)?;
+    judge_typed(fields, kind, n, room)
 }
 
 // Bytes 0 to 7, before a payload of n bytes.
@@ -73,16 +71,12 @@ pub fn emit(buffer: &mut [u8], fields: Fields, payload: &[u8])
 
 // The frame's length with its bytes at the buffer's start, or a refusal with the buffer as it was.
 #[tactic(auto, unfolding(crate::specs::Writing::write_answer, crate::specs::Writing::written_of))]
-pub fn write(buffer: &mut [u8], fields: Fields, payload: &[u8]) -> Written
+pub fn write(buffer: &mut [u8], fields: Fields, payload: &[u8]) -> Result<usize, Refusal>
     ensures answer { result ≡ write_answer fields payload.now buffer.old }
     ensures after { buffer.new ≡ written_of fields payload.now buffer.old }
 {
     let n = payload.len();
-    match judge(fields, n, buffer.len()) {
-        Verdict::Refused(w) => Written::Refused(w),
-        Verdict::Passed => {
-            emit(buffer, fields, payload);
-            Written::Length(n + layout::OVERHEAD)
-        }
-    }
+    judge(fields, n, buffer.len())?;
+    emit(buffer, fields, payload);
+    Ok(n + layout::OVERHEAD)
 }

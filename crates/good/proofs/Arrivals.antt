@@ -9,19 +9,15 @@ use native.Mathlib.Omega.{arith}
 use lib.ListN.{length, get_or, take, drop, length-take, length-drop}
 use lib.Dec.{leb}
 use borrow.Author.Tests.{leb-true, leb-false, ltb-false, not-false}
-use Rattle.units.specs.Refusals.{verdict}
+use Rattle.units.specs.Refusals.{verdict, Verdict}
 use Rattle.units.specs.Bytes.{get16_of}
 use Rattle.units.specs.declared.refusals.Refusal.{Refusal}
-use Rattle.units.specs.declared.refusals.Verdict.{Verdict}
-use Rattle.units.specs.declared.refusals.Verdict.TheVariants as verdicts
 use Rattle.units.proofs.Judging.{clear}
 use Rattle.waiting.specs.Acks.{waiting_of}
 use Rattle.frame.specs.Layout.{payload_of, type_at}
 use Rattle.frame.specs.Reading.{sound_of, header_of, read_of}
 use Rattle.frame.specs.Types.{type_of, suits, seq_given, for_sender, carries, answered}
 use Rattle.frame.specs.declared.Header.{Header}
-use Rattle.frame.specs.declared.Read.{Read}
-use Rattle.frame.specs.declared.Read.TheVariants as read
 use Rattle.frame.specs.declared.FrameType.{FrameType}
 use Rattle.frame.specs.declared.FrameType.TheVariants as type
 use Rattle.frame.proofs.ReadLaws.{taken as framed}
@@ -30,19 +26,19 @@ use Rattle.end_points.specs.Heads.{count_in, need_in}
 use Rattle.end_points.specs.States.{is_sends, is_closed, is_open}
 use Rattle.end_points.specs.Lent.{Lent}
 use Rattle.end_points.specs.declared.State.TheVariants.{Open}
-use Rattle.end_points.specs.declared.answers.Arrived.TheVariants as arrived
 use Rattle.arrive_lookup.specs.Lookup.{Indexed, entry_for}
 use Rattle.arrive_lookup.proofs.Found.{Fitting, found_fits}
 use Rattle.call_arrive.specs.Arriving.{block_room, entry_tests, entry_of, entry_verdict, taken_in_answer, taken_in_after, answer_as, after_as, entry_answer, entry_after, read_answer, read_after, frame_tests, arrival_answer, arrival_after}
 use Rattle.table.proofs.Every.{both}
 use Rattle.good.proofs.Known.{is_open_holds}
+use Rattle.std.specs.Prelude.{Result, Ok, Err}
 
 -- ---- what the tests make sure of
 
 pub record Taken (x : Lent) (f : List ℕ) : Type 0 where
   pub header : Header
   pub entry : ℕ
-  pub read : read_of f ≡ read.Frame header
+  pub read : read_of f ≡ Ok header
   pub known : entry < count_in x.node
   pub fit : Fitting (load_entry x.node entry) (for_sender header.kind) header.source.0 header.channel.0
   pub up : is_closed (end_of x.node entry).state ≡ false
@@ -53,12 +49,12 @@ pub record Taken (x : Lent) (f : List ℕ) : Type 0 where
   pub need : need_in x.node ≤ length x.store
   pub block : carries header.kind ≡ true → block_room (end_of x.node entry) ≤ length x.out
   pub byte : ((k : ℕ) → get_or f k 0 < 256) → header.seq.0 < 256
-  pub answer : arrival_answer x f ≡ arrived.At entry (taken_in_answer x entry (end_of x.node entry) header.kind header.seq.0 (payload_of f))
+  pub answer : arrival_answer x f ≡ Ok (record { entry = entry; was = taken_in_answer x entry (end_of x.node entry) header.kind header.seq.0 (payload_of f) })
   pub after : arrival_after x f ≡ taken_in_after x entry (end_of x.node entry) header.kind header.seq.0 (payload_of f)
 
 pub record Refused (x : Lent) (f : List ℕ) : Type 0 where
   pub why : Refusal
-  pub answer : arrival_answer x f ≡ arrived.Refused why
+  pub answer : arrival_answer x f ≡ Err why
   pub after : arrival_after x f ≡ x
 
 -- the entry that takes it in is of the kind that such a frame goes to
@@ -72,7 +68,7 @@ and_false true b h e = h
 and_false false b h e = absurd (true≢false (sym e))
 
 -- a payload is as long as the header says, and there is one where one is delivered
-pub payload_size : (f : List ℕ) (h : Header) → read_of f ≡ read.Frame h → (length (payload_of f) ≡ h.length) × (carries h.kind ≡ true → 1 ≤ length (payload_of f))
+pub payload_size : (f : List ℕ) (h : Header) → read_of f ≡ Ok h → (length (payload_of f) ≡ h.length) × (carries h.kind ≡ true → 1 ≤ length (payload_of f))
 unfolding payload_of
 payload_size f h e =
     let t = framed f h e in
@@ -94,7 +90,7 @@ seq_byte type.Acknowledge s h = h
 seq_byte type.Reset s h = h
 seq_byte type.Urgent s h = omega arith
 
-pub header_byte : (f : List ℕ) (h : Header) → read_of f ≡ read.Frame h → ((k : ℕ) → get_or f k 0 < 256) → h.seq.0 < 256
+pub header_byte : (f : List ℕ) (h : Header) → read_of f ≡ Ok h → ((k : ℕ) → get_or f k 0 < 256) → h.seq.0 < 256
 header_byte f h e b =
     let t = framed f h e in
     let q : seq_given (type_of (type_at f)) (get_or f 7 0) ≡ h.seq.0 = ap (λ (x : Header). x.seq.0) t.1 in
@@ -102,18 +98,18 @@ header_byte f h e b =
 
 -- ---- at the entry
 
-module _ (x : Lent) (index : Indexed x.node) (f : List ℕ) (h : Header) (r : read_of f ≡ read.Frame h)
+module _ (x : Lent) (index : Indexed x.node) (f : List ℕ) (h : Header) (r : read_of f ≡ Ok h)
     (answer : arrival_answer x f ≡ entry_answer x (entry_of x h) h (payload_of f))
     (after : arrival_after x f ≡ entry_after x (entry_of x h) h (payload_of f)) where
   at_entry : (v : Verdict) → entry_verdict x (entry_of x h) h ≡ v → Refused x f ⊎ Taken x f
   unfolding entry_answer entry_after entry_for
-  at_entry (verdicts.Refused w) e =
+  at_entry (Err w) e =
       inl (record {
         why = w;
-        answer = answer ∙ ap (λ (v : Verdict). answer_as v (arrived.At (entry_of x h) (taken_in_answer x (entry_of x h) (end_of x.node (entry_of x h)) h.kind h.seq.0 (payload_of f)))) e;
+        answer = answer ∙ ap (λ (v : Verdict). answer_as v (Ok (record { entry = entry_of x h; was = taken_in_answer x (entry_of x h) (end_of x.node (entry_of x h)) h.kind h.seq.0 (payload_of f) }))) e;
         after = after ∙ ap (λ (v : Verdict). after_as v x (taken_in_after x (entry_of x h) (end_of x.node (entry_of x h)) h.kind h.seq.0 (payload_of f))) e;
       })
-  at_entry verdicts.Passed e =
+  at_entry (Ok _) e =
       let i = entry_of x h in
       let c = clear (entry_tests x.node i (end_of x.node i) h.kind h.length (length x.store) (length x.out)) e in
       let p = payload_size f h r in
@@ -132,28 +128,28 @@ module _ (x : Lent) (index : Indexed x.node) (f : List ℕ) (h : Header) (r : re
         need = ltb-false (length x.store) (need_in x.node) c.1.1.1.1.1.0;
         block = λ d. ltb-false _ _ (and_false (carries h.kind) _ c.1.1.1.1.1.1.0 d);
         byte = header_byte f h r;
-        answer = answer ∙ ap (λ (v : Verdict). answer_as v (arrived.At (entry_of x h) (taken_in_answer x (entry_of x h) (end_of x.node (entry_of x h)) h.kind h.seq.0 (payload_of f)))) e;
+        answer = answer ∙ ap (λ (v : Verdict). answer_as v (Ok (record { entry = entry_of x h; was = taken_in_answer x (entry_of x h) (end_of x.node (entry_of x h)) h.kind h.seq.0 (payload_of f) }))) e;
         after = after ∙ ap (λ (v : Verdict). after_as v x (taken_in_after x (entry_of x h) (end_of x.node (entry_of x h)) h.kind h.seq.0 (payload_of f))) e;
       })
 
 -- ---- the call
 
 module _ (x : Lent) (index : Indexed x.node) (f : List ℕ) where
-  whole_read : (h : Header) → sound_of f ≡ true → header_of f ≡ read.Frame h → read_of f ≡ read.Frame h
+  whole_read : (h : Header) → sound_of f ≡ true → header_of f ≡ Ok h → read_of f ≡ Ok h
   unfolding header_of read_of
   whole_read h s e = rw s e
 
-  read_on : (v : Read) → header_of f ≡ v → verdict (frame_tests x.node f) ≡ verdicts.Passed → Refused x f ⊎ Taken x f
+  read_on : (v : Result Header Refusal) → header_of f ≡ v → verdict (frame_tests x.node f) ≡ Ok tt → Refused x f ⊎ Taken x f
   unfolding arrival_answer arrival_after read_answer read_after
-  read_on (read.Refused w) e p = inl (record { why = w; answer = rw (p, e); after = rw (p, e) })
-  read_on (read.Frame h) e p =
+  read_on (Err w) e p = inl (record { why = w; answer = rw (p, e); after = rw (p, e) })
+  read_on (Ok h) e p =
       let c = clear (frame_tests x.node f) p in
       at_entry x index f h (whole_read h (not-false (sound_of f) c.0) e) (rw (p, e)) (rw (p, e)) (entry_verdict x (entry_of x h) h) refl
 
   judged : (v : Verdict) → verdict (frame_tests x.node f) ≡ v → Refused x f ⊎ Taken x f
   unfolding arrival_answer arrival_after
-  judged (verdicts.Refused w) e = inl (record { why = w; answer = rw e; after = rw e })
-  judged verdicts.Passed e = read_on (header_of f) refl e
+  judged (Err w) e = inl (record { why = w; answer = rw e; after = rw e })
+  judged (Ok _) e = read_on (header_of f) refl e
 
   pub arrives : Refused x f ⊎ Taken x f
   arrives = judged (verdict (frame_tests x.node f)) refl

@@ -10,7 +10,6 @@ use lib.Dec.{eqb, leb}
 use borrow.Author.Tests.{le-leb, leb-false}
 use Rattle.units.specs.Refusals.{pick}
 use Rattle.units.specs.declared.refusals.Refusal.TheVariants as refusal
-use Rattle.units.specs.declared.refusals.Verdict.TheVariants.{Passed}
 use Rattle.units.proofs.Judging.{clear}
 use Rattle.memory.specs.Layout.{resets, reset_id}
 use Rattle.waiting.specs.Queues.{unlinked}
@@ -37,6 +36,7 @@ use Rattle.good.proofs.Offsets.{reset_owner}
 use Rattle.good.proofs.Turns.{run_fits, turned_to, end_saved, anew_fits, anew_size, anew_fresh, anew_window, ring_of, owed_other, free_turn, sender_turn, drop_apart, drop_end, not_in, Kept, kept_either}
 use Rattle.good.proofs.Senders.{reset_waited, reset_gone_holds}
 use Rattle.good.proofs.Idling.{idle}
+use Rattle.std.specs.Prelude.{Ok}
 
 -- ---- nothing of the entry waits
 
@@ -178,14 +178,14 @@ unfolding close_answer close_after
 close_refused x i h = rw (le-leb (count_in x.node) i h)
 
 -- where it went through there is such an entry
-pub close_known : (x : Lent) (i : ℕ) → close_answer x i ≡ Passed → i < count_in x.node
+pub close_known : (x : Lent) (i : ℕ) → close_answer x i ≡ Ok tt → i < count_in x.node
 unfolding close_answer
 close_known x i h =
     leb-false (count_in x.node) i
     (clear ((leb (count_in x.node) i, refusal.NoEntry) ∷ (is_closed (end_of x.node i).state, refusal.WrongState) ∷ []) h).0
 
 -- where it went through the entry is Closed with a run begun anew
-pub close_passed : (t : List ℕ) (x : Lent) (l : Lists) (i : ℕ) → Good t x.node x.book l → close_answer x i ≡ Passed
+pub close_passed : (t : List ℕ) (x : Lent) (l : Lists) (i : ℕ) → Good t x.node x.book l → close_answer x i ≡ Ok tt
     → end_of (close_after x i (close_answer x i)).node i ≡ turned_to (end_of x.node i) Closed (anew (end_of x.node i).run)
 unfolding close_after
 close_passed t x l i g h = rw h (closed_end x i t l g (close_known x i h) (is_sends (end_of x.node i).entry.kind))

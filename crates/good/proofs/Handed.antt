@@ -18,7 +18,6 @@ use Rattle.end_points.specs.States.{is_sends}
 use Rattle.end_points.specs.Runs.{urgent_gone}
 use Rattle.end_points.specs.Lent.{Lent}
 use Rattle.end_points.specs.declared.State.TheVariants.{Enabled, Open}
-use Rattle.end_points.specs.declared.answers.HandedOut.TheVariants.{Length, Refused}
 use Rattle.slots.specs.Slots.{slot_for, cell, past, number_in, length_in}
 use Rattle.timing.specs.Timing.{standing}
 use Rattle.frame.specs.declared.FrameType.TheVariants as type
@@ -29,6 +28,7 @@ use Rattle.memory.specs.Layout.{reset_entry, urgent_entry, id_cell, id_entry, id
 use Rattle.good.specs.Good.{Lists, id_at, Good}
 use Rattle.good.proofs.Framing.{Within, Apart}
 use Rattle.good.proofs.Turns.{turned_to}
+use Rattle.std.specs.Prelude.{Ok, Err}
 
 -- ---- what is told of a frame that went out
 
@@ -36,7 +36,7 @@ use Rattle.good.proofs.Turns.{turned_to}
 pub record Went (x x' : Lent) (n : Next) : Type 0 where
   pub none : under_in x.book ≡ 0
   pub sort : next_out x.node x.book ≡ n
-  pub answer : hand_out_answer x ≡ Length (length (frame_out x n))
+  pub answer : hand_out_answer x ≡ Ok (length (frame_out x n))
   pub after : x' ≡ handed_out x n
 
 -- and altered entry i's business alone
@@ -109,7 +109,7 @@ pub record DataOut (x x' : Lent) (l l' : Lists) (n : ℕ) : Type 0 where
   pub ends : end_of x'.node at ≡ turned_to (end_of x.node at) Open (handed_run (end_of x.node at).run)
 
 pub data Handed (x x' : Lent) (l l' : Lists) : Type 0 where
-  refused : (w : Refusal) → hand_out_answer x ≡ Refused w → x' ≡ x → Handed x x' l l'
+  refused : (w : Refusal) → hand_out_answer x ≡ Err w → x' ≡ x → Handed x x' l l'
   nothing : Went x x' next.Nothing → x'.node ≡ x.node → x'.book ≡ x.book → Handed x x' l l'
   acked : (w : ℕ) → Went x x' (next.Ack (ack_of w)) → AckOut x x' l l' w → Handed x x' l l'
   reset : (n : ℕ) → Went x x' (next.Reset n) → ResetOut x x' l l' n → Handed x x' l l'

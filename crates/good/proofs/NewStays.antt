@@ -14,8 +14,6 @@ use Rattle.units.specs.Refusals.{pick}
 use Rattle.memory.specs.Layout.{clock_at, quiet_at, under_at, row_at, node_words, book_halves}
 use Rattle.window.proofs.Bits.{bit_of_zero}
 use Rattle.end_points.specs.Heads.{count_in}
-use Rattle.end_points.specs.declared.answers.HandedOut.{HandedOut}
-use Rattle.end_points.specs.declared.answers.HandedOut.TheVariants.{Length, Refused as HandRefused}
 use Rattle.arrive_lookup.specs.Lookup.{row_in, channel_digit, remote_digit, Indexed}
 use Rattle.arrive_lookup.proofs.Rows.{row_zero}
 use Rattle.timing.specs.Timing.{clock_in, later}
@@ -33,6 +31,8 @@ use Rattle.good.proofs.CloseKeeps.{close_refused}
 use Rattle.good.proofs.SendKeeps.{send_refused}
 use Rattle.good.proofs.UrgentKeeps.{urgent_refused}
 use Rattle.good.proofs.Arrivals.{Taken, Refused, arrives as comes}
+use Rattle.std.specs.Prelude.{Result, Ok, Err}
+use Rattle.units.specs.declared.refusals.Refusal.{Refusal}
 
 module _ (store : List ℕ) (c q : ℕ) where
   abbrev new : Memory
@@ -62,10 +62,10 @@ module _ (store : List ℕ) (c q : ℕ) where
   unfolding next_out
   nothing = refl
 
-  hand_same : (buffer : List ℕ) (a : HandedOut) → kept (hand_out_after (lent new buffer) a) ≡ new
+  hand_same : (buffer : List ℕ) (a : Result ℕ Refusal) → kept (hand_out_after (lent new buffer) a) ≡ new
   unfolding hand_out_after out_node out_book
-  hand_same buffer (HandRefused w) = refl
-  hand_same buffer (Length n) = rw nothing
+  hand_same buffer (Err w) = refl
+  hand_same buffer (Ok n) = rw nothing
 
   arrive_same : (block f : List ℕ) → Refused (lent new block) f ⊎ Taken (lent new block) f → after new (arrives block f) ≡ new
   unfolding after

@@ -9,7 +9,6 @@ use lib.Dec.{leb}
 use borrow.Author.Tests.{le-leb, leb-false, not-false}
 use Rattle.units.specs.Refusals.{pick}
 use Rattle.units.specs.declared.refusals.Refusal.TheVariants as refusal
-use Rattle.units.specs.declared.refusals.Verdict.TheVariants.{Passed}
 use Rattle.units.proofs.Judging.{clear}
 use Rattle.memory.specs.Layout.{resets, reset_id}
 use Rattle.waiting.specs.Queues.{appended}
@@ -28,6 +27,7 @@ use Rattle.good.proofs.Known.{is_closed_holds, stated_as, entered_as}
 use Rattle.good.proofs.Framing.{Within, within_same, apart_saved, entry_low}
 use Rattle.good.proofs.Turns.{run_fits, turned_to, end_saved, anew_fits, anew_size, anew_fresh, anew_window, free_turn, not_owed, Kept, kept_either}
 use Rattle.good.proofs.Senders.{reset_within, reset_under, reset_silent, enabled_sender}
+use Rattle.std.specs.Prelude.{Ok}
 
 -- ---- the entry: Enabled, and its Reset waits where it sends
 
@@ -56,7 +56,7 @@ enabled_as x i e k =
     }
 
 module _ (x : Lent) (i : ℕ) where
-  open_known : open_answer x i ≡ Passed → (i < count_in x.node) × ((end_of x.node i).state ≡ Closed)
+  open_known : open_answer x i ≡ Ok tt → (i < count_in x.node) × ((end_of x.node i).state ≡ Closed)
   unfolding open_answer
   open_known h =
       let c = clear ((leb (count_in x.node) i, refusal.NoEntry) ∷ (not (is_closed (end_of x.node i).state), refusal.WrongState) ∷ []) h in
@@ -112,7 +112,7 @@ unfolding open_answer open_after
 open_refused x i h = rw (le-leb (count_in x.node) i h)
 
 -- where it went through the entry was Closed, and is Enabled with a run begun anew
-pub open_passed : (t : List ℕ) (x : Lent) (l : Lists) (i : ℕ) → Good t x.node x.book l → open_answer x i ≡ Passed
+pub open_passed : (t : List ℕ) (x : Lent) (l : Lists) (i : ℕ) → Good t x.node x.book l → open_answer x i ≡ Ok tt
     → ((end_of x.node i).state ≡ Closed)
     × (end_of (open_after x i (open_answer x i)).node i ≡ turned_to (end_of x.node i) (Enabled 0 false) (anew (end_of x.node i).run))
 unfolding open_after

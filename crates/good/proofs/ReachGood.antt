@@ -13,8 +13,6 @@ use borrow.Author.Tests.{ltb-false}
 use Rattle.units.specs.declared.refusals.Refusal.TheVariants as refusal
 use Rattle.table.specs.Rules.{good_table}
 use Rattle.units.proofs.Judging.{clear}
-use Rattle.units.specs.declared.refusals.Verdict.{Verdict}
-use Rattle.units.specs.declared.refusals.Verdict.TheVariants.{Passed, Refused}
 use Rattle.table.specs.Areas.{store_of}
 use Rattle.end_points.specs.Heads.{count_in}
 use Rattle.end_points.specs.Lent.{Lent}
@@ -26,7 +24,7 @@ use Rattle.frame.specs.declared.FrameType.TheVariants as type
 use Rattle.end_points.specs.Runs.{is_new}
 use Rattle.end_points.specs.declared.EndPoint.{EndPoint}
 use Rattle.arrive_data.specs.Receiving.{reset_after, first_time, repeated, data_after, urgent_after as received_urgent}
-use Rattle.units.specs.Refusals.{pick}
+use Rattle.units.specs.Refusals.{pick, Verdict}
 use Rattle.call_arrive.specs.Arriving.{taken_in_after}
 use Rattle.good.specs.Good.{Lists, Good}
 use Rattle.good.specs.Calls.{Memory, lent, bare, after, SetUp, at_setup, by_call, by_store}
@@ -45,17 +43,18 @@ use Rattle.good.proofs.Planned.{by_plan}
 use Rattle.good.proofs.ReportKeeps.{report_refused, report_keeps}
 use Rattle.waiting.specs.Port.{under_in}
 use Rattle.good.proofs.TickKeeps.{tick_keeps}
+use Rattle.std.specs.Prelude.{Ok, Err}
 
 abbrev Holds : List ℕ → Memory → Type 0
 Holds t n = (l : Lists) × Good t n.node n.book l × (store_of t ≤ length n.store)
 
 -- ---- setup
 
-setup_room : (x : Lent) (t : List ℕ) → setup_answer x t ≡ Passed → store_of t ≤ length x.store
+setup_room : (x : Lent) (t : List ℕ) → setup_answer x t ≡ Ok tt → store_of t ≤ length x.store
 unfolding setup_answer
 setup_room x t h = ltb-false (length x.store) (store_of t) (clear ((not (good_table t), refusal.BadTable) ∷ (ltb (length x.store) (store_of t), refusal.TooShort) ∷ []) h).1.0
 
-setup_store : (x : Lent) (t : List ℕ) → (setup_after x t Passed).store ≡ x.store
+setup_store : (x : Lent) (t : List ℕ) → (setup_after x t (Ok tt)).store ≡ x.store
 unfolding setup_after
 setup_store x t = refl
 
@@ -71,13 +70,13 @@ setup_holds t n s =
 
 send_long : (x : Lent) (i : ℕ) (p : List ℕ) (v : Verdict) → length (send_after x i p v).store ≡ length x.store
 unfolding send_after
-send_long x i p (Refused w) = refl
-send_long x i p Passed = length-sets x.store _ p
+send_long x i p (Err w) = refl
+send_long x i p (Ok _) = length-sets x.store _ p
 
 urgent_long : (x : Lent) (i : ℕ) (p : List ℕ) (v : Verdict) → length (urgent_after x i p v).store ≡ length x.store
 unfolding urgent_after
-urgent_long x i p (Refused w) = refl
-urgent_long x i p Passed = length-sets x.store _ p
+urgent_long x i p (Err w) = refl
+urgent_long x i p (Ok _) = length-sets x.store _ p
 
 data_long : (x : Lent) (i : ℕ) (e : EndPoint) (s : ℕ) (p : List ℕ) → length (data_after x i e s p).store ≡ length x.store
 unfolding data_after

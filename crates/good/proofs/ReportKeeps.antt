@@ -11,7 +11,6 @@ use lib.ListN.{length, set}
 use lib.Dec.{eqb, ltb}
 use borrow.Author.Tests.{not-true, eq-eqb, ne_eqb, eqb-true, eqb-false, ltb-true, lt-ltb}
 use Rattle.units.specs.Refusals.{pick}
-use Rattle.units.specs.declared.refusals.Verdict.TheVariants.{Passed}
 use Rattle.memory.specs.Layout.{quiet_at, node_words, timer_at}
 use Rattle.waiting.specs.Acks.{waiting_of}
 use Rattle.waiting.specs.Order.{acks_in}
@@ -40,6 +39,7 @@ use Rattle.good.proofs.Offsets.{cell_inj}
 use Rattle.good.proofs.Turns.{run_fits, turned_to, end_saved, saved_acks, book_turn, sender_put}
 use Rattle.good.proofs.Senders.{Timed, timed_outlasts, timed_set, within_timed, running_alike, entry_window, sender_timeout, timeout_fits}
 use Rattle.good.proofs.HandRuns.{timed_sending, timed_resends}
+use Rattle.std.specs.Prelude.{Ok}
 
 -- ---- when Data's timer starts
 
@@ -450,7 +450,7 @@ module _ (t : List ℕ) (x : Lent) (l : Lists) (G : Good t x.node x.book l) (som
       sides false d = failing_idle ke n q h d
   by_state false ke (Failing n) q h = absurd h
 
-  pub report_passed : Ends t x (report_after x Passed) l i
+  pub report_passed : Ends t x (report_after x (Ok tt)) l i
   unfolding report_after
   report_passed = by_state (is_sends e.entry.kind) refl e.state refl (G.entered i known).stated
 
@@ -459,7 +459,7 @@ pub report_refused : (x : Lent) → under_in x.book ≡ 0 → report_after x (re
 unfolding report_answer report_after
 report_refused x h = rw (eq-eqb (under_in x.book) 0 h)
 
-pub report_goes : (x : Lent) → under_in x.book ≢ 0 → report_answer x ≡ Passed
+pub report_goes : (x : Lent) → under_in x.book ≢ 0 → report_answer x ≡ Ok tt
 unfolding report_answer
 report_goes x h = rw (ne_eqb (under_in x.book) 0 h)
 

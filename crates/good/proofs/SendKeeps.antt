@@ -13,7 +13,6 @@ use lib.Dec.{eqb, leb}
 use borrow.Author.Tests.{not-false, eqb-false, leb-false, ltb-false, le-leb}
 use Rattle.units.specs.Refusals.{pick}
 use Rattle.units.specs.declared.refusals.Refusal.TheVariants as refusal
-use Rattle.units.specs.declared.refusals.Verdict.TheVariants.{Passed}
 use Rattle.units.proofs.Judging.{clear}
 use Rattle.memory.specs.Layout.{all_cells, cells_at, ids_end, under_at, datas, urgent_id, length_at, timer_at, retries_at}
 use Rattle.waiting.specs.Queues.{appended}
@@ -43,6 +42,7 @@ use Rattle.good.proofs.Offsets.{id_high, id_owner, data_ranged, cell_inj, id_inj
 use Rattle.good.proofs.Turns.{run_fits, turned_to, sender_put, Kept, kept_either}
 use Rattle.good.proofs.RunSets.{sent_puts, sent_end}
 use Rattle.good.proofs.Senders.{resends_kept, standing_kept}
+use Rattle.std.specs.Prelude.{Ok}
 
 -- ---- what waits
 
@@ -238,7 +238,7 @@ record Tested (x : Lent) (i : ℕ) (p : List ℕ) : Type 0 where
   room : (end_of x.node i).run.taken < (end_of x.node i).run.window.size
   stored : need_in x.node ≤ length x.store
 
-tested : (x : Lent) (i : ℕ) (p : List ℕ) → send_answer x i p ≡ Passed → Tested x i p
+tested : (x : Lent) (i : ℕ) (p : List ℕ) → send_answer x i p ≡ Ok tt → Tested x i p
 unfolding send_answer
 tested x i p h =
     let e = end_of x.node i in
@@ -289,7 +289,7 @@ sent_size : (r : Run) → (sent_run r).window ≡ r.window
 unfolding sent_run
 sent_size r = refl
 
-after_passed : (x : Lent) (i : ℕ) (p : List ℕ) → send_answer x i p ≡ Passed → send_after x i p (send_answer x i p) ≡ sent x i (end_of x.node i) p
+after_passed : (x : Lent) (i : ℕ) (p : List ℕ) → send_answer x i p ≡ Ok tt → send_after x i p (send_answer x i p) ≡ sent x i (end_of x.node i) p
 unfolding send_after
 after_passed x i p h = rw h
 
@@ -378,7 +378,7 @@ module _ (t : List ℕ) (x : Lent) (l : Lists) (i : ℕ) (p : List ℕ) (g : Goo
         stored = refl;
       }
 
-pub send_passed : (t : List ℕ) (x : Lent) (l : Lists) (i : ℕ) (p : List ℕ) → Good t x.node x.book l → send_answer x i p ≡ Passed
+pub send_passed : (t : List ℕ) (x : Lent) (l : Lists) (i : ℕ) (p : List ℕ) → Good t x.node x.book l → send_answer x i p ≡ Ok tt
     → SendPassed x i p (end_of x.node i) (send_after x i p (send_answer x i p))
 send_passed t x l i p g h =
     subst (SendPassed x i p (end_of x.node i)) (sym (after_passed x i p h)) (sent_passed t x l i p g (tested x i p h))

@@ -12,7 +12,6 @@ use lib.Seq.{length-sets}
 use lib.Dec.{ltb}
 use borrow.Author.Tests.{not-false}
 use Rattle.units.specs.declared.refusals.Refusal.TheVariants as refusal
-use Rattle.units.specs.declared.refusals.Verdict.TheVariants.{Passed}
 use Rattle.units.proofs.Judging.{clear}
 use Rattle.units.proofs.Runs.{get_d_sets_after, get_d_sets_at}
 use Rattle.memory.specs.Layout.{row_at, node_words, book_halves}
@@ -39,6 +38,7 @@ use Rattle.timing.specs.Timing.{clock_in, quiet_in}
 use Rattle.good.specs.Good.{Lines, Entered, Timely, Tabled, Good}
 use Rattle.good.proofs.Entering.{closed_at, tabled_long, tabled_head, tabled_at}
 use Rattle.good.proofs.Indexing.{tabled_index}
+use Rattle.std.specs.Prelude.{Ok}
 
 -- ---- the node
 
@@ -184,19 +184,19 @@ set_up t b g bytes long =
           subst (λ (e : EndPoint). Timely (clock_in ws) (quiet_in ws) (ended (emptied b)) i e e.state) (sym (node_end t g bytes i l)) tt;
     }
 
-passed_table : (x : Lent) (t : List ℕ) → setup_answer x t ≡ Passed → good_table t ≡ true
+passed_table : (x : Lent) (t : List ℕ) → setup_answer x t ≡ Ok tt → good_table t ≡ true
 unfolding setup_answer
 passed_table x t h =
     not-false _ (clear ((not (good_table t), refusal.BadTable) ∷ (ltb (length x.store) (store_of t), refusal.TooShort) ∷ []) h).0
 
 -- Setup that passed gives a good node with nothing waiting.
-pub setup_good : (x : Lent) (t : List ℕ) → length x.node ≡ node_words → length x.book ≡ book_halves → ((k : ℕ) → get_or t k 0 < 256) → setup_answer x t ≡ Passed
-    → Good t (setup_after x t Passed).node (setup_after x t Passed).book (λ q. [])
+pub setup_good : (x : Lent) (t : List ℕ) → length x.node ≡ node_words → length x.book ≡ book_halves → ((k : ℕ) → get_or t k 0 < 256) → setup_answer x t ≡ Ok tt
+    → Good t (setup_after x t (Ok tt)).node (setup_after x t (Ok tt)).book (λ q. [])
 unfolding setup_after
 setup_good x t n b bytes h = rw n (set_up t x.book (passed_table x t h) bytes b)
 
 -- and every entry is Closed, with no acknowledgement waiting
-pub setup_ends : (x : Lent) (t : List ℕ) → length x.node ≡ node_words → ((k : ℕ) → get_or t k 0 < 256) → setup_answer x t ≡ Passed
-    → ((i : ℕ) → i < count_of t → end_of (setup_after x t Passed).node i ≡ closed_at t i) × (acks_in (setup_after x t Passed).node ≡ [])
+pub setup_ends : (x : Lent) (t : List ℕ) → length x.node ≡ node_words → ((k : ℕ) → get_or t k 0 < 256) → setup_answer x t ≡ Ok tt
+    → ((i : ℕ) → i < count_of t → end_of (setup_after x t (Ok tt)).node i ≡ closed_at t i) × (acks_in (setup_after x t (Ok tt)).node ≡ [])
 unfolding setup_after
 setup_ends x t n bytes h = rw n (node_end t (passed_table x t h) bytes, acks_none t (passed_table x t h) bytes)

@@ -8,9 +8,7 @@ use native.Mathlib.Omega.{arith}
 use lib.ListN.{length}
 use lib.Dec.{eqb, leb, ltb}
 use borrow.Author.Tests.{le-ltb, lt-ltb}
-use Rattle.units.specs.Refusals.{number_of, pick, verdict}
-use Rattle.units.specs.declared.refusals.Verdict.{Verdict}
-use Rattle.units.specs.declared.refusals.Verdict.TheVariants.{Passed, Refused}
+use Rattle.units.specs.Refusals.{number_of, pick, verdict, Verdict}
 use Rattle.units.specs.declared.refusals.Refusal.{Refusal}
 use Rattle.units.specs.declared.refusals.Refusal.TheVariants as refusal
 use Rattle.units.proofs.Judging.{refused_not_zero}
@@ -19,8 +17,6 @@ use Rattle.frame.specs.Layout.{payload_of}
 use Rattle.frame.specs.Types.{carries, answered}
 use Rattle.frame.specs.Reading.{header_of}
 use Rattle.frame.specs.declared.Header.{Header}
-use Rattle.frame.specs.declared.Read.{Read}
-use Rattle.frame.specs.declared.Read.TheVariants as read
 use Rattle.waiting.specs.Acks.{waiting_of}
 use Rattle.waiting.specs.Port.{under_in}
 use Rattle.end_points.specs.Ends.{end_of}
@@ -28,9 +24,6 @@ use Rattle.end_points.specs.Heads.{count_in, need_in}
 use Rattle.end_points.specs.States.{is_closed, is_open}
 use Rattle.end_points.specs.Lent.{Lent}
 use Rattle.end_points.specs.Answers.{handed_of}
-use Rattle.end_points.specs.declared.answers.Arrived.{Arrived}
-use Rattle.end_points.specs.declared.answers.Arrived.TheVariants as arrived
-use Rattle.end_points.specs.declared.answers.HandedOut.TheVariants as handed
 use Rattle.call_send.specs.Sending.{sender_tests, send_answer, send_after, urgent_answer, urgent_after}
 use Rattle.call_plan.specs.Planning.{InOrder, sent_in_order, sent_block, plan_answer, plan_after}
 use Rattle.call_arrive.specs.Arriving.{entry_of, entry_verdict, answer_as, after_as, block_room}
@@ -41,27 +34,29 @@ use Rattle.good.specs.Good.{Lists, Good}
 use Rattle.good.specs.Calls.{Memory, lent, kept, answer, after, relent}
 use Rattle.good.specs.Reaching.{Stored, shortened, Declined, ReachIsGood, ShortIsRefused, ShortStopsPlans}
 use Rattle.good.proofs.ReachGood.{reach_is_good}
+use Rattle.std.specs.Prelude.{Result, Ok, Err}
+use Rattle.end_points.specs.declared.answers.Arrival.{Arrival}
 
 -- ---- a verdict with the longer store, and with the shorter one
 
 -- 6 where it let the call through
 abbrev or_short : Verdict → Verdict
-or_short Passed = Refused refusal.TooShort
-or_short (Refused w) = Refused w
+or_short (Ok _) = Err refusal.TooShort
+or_short (Err w) = Err w
 
 -- an arrival's answer
-abbrev or_short_at : Arrived → Arrived
-or_short_at (arrived.At i w) = arrived.Refused refusal.TooShort
-or_short_at (arrived.Refused w) = arrived.Refused w
+abbrev or_short_at : Result Arrival Refusal → Result Arrival Refusal
+or_short_at (Ok a) = Err refusal.TooShort
+or_short_at (Err w) = Err w
 
 -- the test for the store stands after ts; where it does not fit, what comes after it passes or answers 6 too
-or_short_holds : (ts more : List (Bool × Refusal)) → or_short (verdict more) ≡ Refused refusal.TooShort
+or_short_holds : (ts more : List (Bool × Refusal)) → or_short (verdict more) ≡ Err refusal.TooShort
     → verdict (ts ++ ((true, refusal.TooShort) ∷ more)) ≡ or_short (verdict (ts ++ ((false, refusal.TooShort) ∷ more)))
 or_short_holds [] more h = sym h
 or_short_holds (t ∷ ts) more h = sides t.0 (verdict (ts ++ ((false, refusal.TooShort) ∷ more))) (or_short_holds ts more h)
   where
     sides : (b : Bool) {u : Verdict} (v : Verdict) → u ≡ or_short v
-        → pick b (Refused t.1) u ≡ or_short (pick b (Refused t.1) v)
+        → pick b (Err t.1) u ≡ or_short (pick b (Err t.1) v)
     sides true v e = refl
     sides false v e = e
 
@@ -94,8 +89,8 @@ module _ (t : List ℕ) (n : Memory) (l : Lists) (g : Good t n.node n.book l) (l
 
   send_declined : (i : ℕ) (p : List ℕ) (v : Verdict) → send_answer (lent n []) i p ≡ v → Declined n s (sends i p)
   unfolding answer after send_after
-  send_declined i p Passed e = let d = send_tests i p ∙ ap or_short e in record { answered = rw (d, e) refl; left = rw d refl }
-  send_declined i p (Refused w) e =
+  send_declined i p (Ok _) e = let d = send_tests i p ∙ ap or_short e in record { answered = rw (d, e) refl; left = rw d refl }
+  send_declined i p (Err w) e =
       let d = send_tests i p ∙ ap or_short e in record { answered = rw (d, e, refused_not_zero w) refl; left = rw d refl }
 
   urgent_tests : (i : ℕ) (p : List ℕ) → urgent_answer (lent m []) i p ≡ or_short (urgent_answer (lent n []) i p)
@@ -109,9 +104,9 @@ module _ (t : List ℕ) (n : Memory) (l : Lists) (g : Good t n.node n.book l) (l
 
   urgent_declined : (i : ℕ) (p : List ℕ) (v : Verdict) → urgent_answer (lent n []) i p ≡ v → Declined n s (urges i p)
   unfolding answer after urgent_after
-  urgent_declined i p Passed e =
+  urgent_declined i p (Ok _) e =
       let d = urgent_tests i p ∙ ap or_short e in record { answered = rw (d, e) refl; left = rw d refl }
-  urgent_declined i p (Refused w) e =
+  urgent_declined i p (Err w) e =
       let d = urgent_tests i p ∙ ap or_short e in record { answered = rw (d, e, refused_not_zero w) refl; left = rw d refl }
 
   -- ---- an arrival
@@ -133,53 +128,53 @@ module _ (t : List ℕ) (n : Memory) (l : Lists) (g : Good t n.node n.book l) (l
         (or_short_holds before ((carries t && ltb (length block) (block_room e), refusal.TooShort) ∷ [])
         (last (carries t && ltb (length block) (block_room e))))
       where
-        last : (b : Bool) → or_short (verdict ((b, refusal.TooShort) ∷ [])) ≡ Refused refusal.TooShort
+        last : (b : Bool) → or_short (verdict ((b, refusal.TooShort) ∷ [])) ≡ Err refusal.TooShort
         last true = refl
         last false = refl
 
-    read_short : (r : Read) (p : List ℕ) → read_answer (lent m block) r p ≡ or_short_at (read_answer (lent n block) r p)
+    read_short : (r : Result Header Refusal) (p : List ℕ) → read_answer (lent m block) r p ≡ or_short_at (read_answer (lent n block) r p)
     unfolding read_answer entry_answer
-    read_short (read.Refused w) p = refl
-    read_short (read.Frame h) p = sides (entry_verdict (lent n block) (entry_of (lent n block) h) h) refl
+    read_short (Err w) p = refl
+    read_short (Ok h) p = sides (entry_verdict (lent n block) (entry_of (lent n block) h) h) refl
       where
         sides : (v : Verdict) → entry_verdict (lent n block) (entry_of (lent n block) h) h ≡ v
-            → read_answer (lent m block) (read.Frame h) p ≡ or_short_at (read_answer (lent n block) (read.Frame h) p)
-        sides Passed e = rw (entry_tests (entry_of (lent n block) h) h, e) refl
-        sides (Refused w) e = rw (entry_tests (entry_of (lent n block) h) h, e) refl
+            → read_answer (lent m block) (Ok h) p ≡ or_short_at (read_answer (lent n block) (Ok h) p)
+        sides (Ok _) e = rw (entry_tests (entry_of (lent n block) h) h, e) refl
+        sides (Err w) e = rw (entry_tests (entry_of (lent n block) h) h, e) refl
 
-    read_stays : (r : Read) (p : List ℕ) → read_after (lent m block) r p ≡ lent m block
+    read_stays : (r : Result Header Refusal) (p : List ℕ) → read_after (lent m block) r p ≡ lent m block
     unfolding read_after entry_after
-    read_stays (read.Refused w) p = refl
-    read_stays (read.Frame h) p = sides (entry_verdict (lent n block) (entry_of (lent n block) h) h) refl
+    read_stays (Err w) p = refl
+    read_stays (Ok h) p = sides (entry_verdict (lent n block) (entry_of (lent n block) h) h) refl
       where
         sides : (v : Verdict) → entry_verdict (lent n block) (entry_of (lent n block) h) h ≡ v
-            → read_after (lent m block) (read.Frame h) p ≡ lent m block
-        sides Passed e = rw (entry_tests (entry_of (lent n block) h) h, e) refl
-        sides (Refused w) e = rw (entry_tests (entry_of (lent n block) h) h, e) refl
+            → read_after (lent m block) (Ok h) p ≡ lent m block
+        sides (Ok _) e = rw (entry_tests (entry_of (lent n block) h) h, e) refl
+        sides (Err w) e = rw (entry_tests (entry_of (lent n block) h) h, e) refl
 
     arrive_tests : (f : List ℕ) → arrival_answer (lent m block) f ≡ or_short_at (arrival_answer (lent n block) f)
     unfolding arrival_answer
     arrive_tests f =
         sides (verdict (frame_tests ws f)) (read_answer (lent n block) (header_of f) (payload_of f)) (read_short (header_of f) (payload_of f))
       where
-        sides : (v : Verdict) {a : Arrived} (b : Arrived) → a ≡ or_short_at b → answer_as v a ≡ or_short_at (answer_as v b)
-        sides Passed b e = e
-        sides (Refused w) b e = refl
+        sides : (v : Verdict) {a : Result Arrival Refusal} (b : Result Arrival Refusal) → a ≡ or_short_at b → answer_as v a ≡ or_short_at (answer_as v b)
+        sides (Ok _) b e = e
+        sides (Err w) b e = refl
 
     arrive_stays : (f : List ℕ) → arrival_after (lent m block) f ≡ lent m block
     unfolding arrival_after
     arrive_stays f = sides (verdict (frame_tests ws f)) (read_stays (header_of f) (payload_of f))
       where
         sides : (v : Verdict) {x y : Lent} → y ≡ x → after_as v x y ≡ x
-        sides Passed e = e
-        sides (Refused w) e = refl
+        sides (Ok _) e = e
+        sides (Err w) e = refl
 
-    arrive_declined : (f : List ℕ) (a : Arrived) → arrival_answer (lent n block) f ≡ a → Declined n s (arrives block f)
+    arrive_declined : (f : List ℕ) (a : Result Arrival Refusal) → arrival_answer (lent n block) f ≡ a → Declined n s (arrives block f)
     unfolding answer after
-    arrive_declined f (arrived.At i w) e =
+    arrive_declined f (Ok a) e =
         let d = arrive_tests f ∙ ap or_short_at e in
         record { answered = rw (d, e, arrive_stays f) refl; left = rw (arrive_stays f) refl }
-    arrive_declined f (arrived.Refused w) e =
+    arrive_declined f (Err w) e =
         let d = arrive_tests f ∙ ap or_short_at e in
         record { answered = rw (d, e, arrive_stays f, refused_not_zero w) refl; left = rw (arrive_stays f) refl }
 
@@ -192,7 +187,7 @@ module _ (t : List ℕ) (n : Memory) (l : Lists) (g : Good t n.node n.book l) (l
       sides : (b : Bool) (k : ℕ)
           → record { numbers = number_of refusal.TooShort ∷ []; out = buffer }
           ≡ shortened (hands_out buffer)
-          (record { numbers = handed_of (pick b (handed.Refused refusal.TooShort) (handed.Length k)); out = buffer })
+          (record { numbers = handed_of (pick b (Err refusal.TooShort) (Ok k)); out = buffer })
       sides true k = refl
       sides false k = refl
 
@@ -225,8 +220,8 @@ short_is_refused t n r s short c f = let h = reach_is_good t n r in declined t n
 -- ---- a plan
 
 -- its first send is refused, and so it is the last
-stops : (n : Memory) (i : ℕ) (p : List ℕ) (ps : List (List ℕ)) (w : Refusal) → send_answer (lent n []) i p ≡ Refused w
-    → sent_in_order (lent n []) i 0 (p ∷ ps) ≡ record { accepted = 0; stop = Refused w; left = lent n [] }
+stops : (n : Memory) (i : ℕ) (p : List ℕ) (ps : List (List ℕ)) (w : Refusal) → send_answer (lent n []) i p ≡ Err w
+    → sent_in_order (lent n []) i 0 (p ∷ ps) ≡ record { accepted = 0; stop = Err w; left = lent n [] }
 unfolding sent_in_order send_after
 stops n i p ps w e = rw e
 
@@ -236,16 +231,16 @@ short_stops_plans t n r s short i block p ps plan read =
     let h = reach_is_good t n r in
     sides (send_answer (lent n []) i p) (send_tests t n h.0 h.1 h.2 s short i p)
   where
-    by : (w : Refusal) → send_answer (lent (relent s n) []) i p ≡ Refused w
+    by : (w : Refusal) → send_answer (lent (relent s n) []) i p ≡ Err w
         → ((answer (relent s n) (plans i block)).numbers ≡ 0 ∷ 0 ∷ (answer (relent s n) (sends i p)).numbers)
         × (after (relent s n) (plans i block) ≡ relent s n)
     by w e =
         let o = stops (relent s n) i p ps w e in
-        let b : sent_block (lent (relent s n) []) i block ≡ record { accepted = 0; stop = Refused w; left = lent (relent s n) [] } = rw read o in
+        let b : sent_block (lent (relent s n) []) i block ≡ record { accepted = 0; stop = Err w; left = lent (relent s n) [] } = rw read o in
         (rw (plan, b, e), rw plan (ap (λ (x : InOrder). kept x.left) b))
 
     sides : (v : Verdict) → send_answer (lent (relent s n) []) i p ≡ or_short v
         → ((answer (relent s n) (plans i block)).numbers ≡ 0 ∷ 0 ∷ (answer (relent s n) (sends i p)).numbers)
         × (after (relent s n) (plans i block) ≡ relent s n)
-    sides Passed e = by refusal.TooShort e
-    sides (Refused w) e = by w e
+    sides (Ok _) e = by refusal.TooShort e
+    sides (Err w) e = by w e

@@ -13,10 +13,8 @@ use lib.ListN.{length, get_or, set, length-set}
 use lib.Seq.{get_or-set_other}
 use lib.Dec.{eqb}
 use borrow.Author.Tests.{eqb-false}
-use Rattle.units.specs.Refusals.{pick}
+use Rattle.units.specs.Refusals.{pick, Verdict}
 use Rattle.units.specs.declared.refusals.Refusal.{Refusal}
-use Rattle.units.specs.declared.refusals.Verdict.{Verdict}
-use Rattle.units.specs.declared.refusals.Verdict.TheVariants.{Passed, Refused}
 use Rattle.memory.specs.Layout.{oldest_at, acks_at, ack_at, clock_at, quiet_at, node_words}
 use Rattle.waiting.specs.Acks.{place_of, waiting_of, oldest_of, pushed, popped, turned, turns, dropped}
 use Rattle.waiting.specs.Order.{from, acks_in, not_of}
@@ -37,6 +35,7 @@ use Rattle.end_points.specs.declared.EndPoint.{EndPoint}
 use Rattle.timing.specs.Timing.{clock_in, quiet_in}
 use Rattle.good.specs.Good.{Lists, Fresh, Entered, Timely, Owed, Good}
 use Rattle.good.proofs.Framing.{Within, within_same, Apart, apart_same, apart_saved, apart_rest, framed, apart_count, apart_timely, entry_low}
+use Rattle.std.specs.Prelude.{Ok, Err}
 
 -- ---- an end point as it is loaded
 
@@ -277,6 +276,6 @@ kept_same t x l i g = record { lists = l; good = g; apart = apart_same i x.node;
 
 -- a call that answers a verdict: refused, it leaves all as it was
 pub kept_either : (t : List ℕ) (x : Lent) (l : Lists) (i : ℕ) → Good t x.node x.book l → (after : Verdict → Lent)
-    → ((w : Refusal) → after (Refused w) ≡ x) → (v : Verdict) → (v ≡ Passed → Kept t x (after Passed) l i) → Kept t x (after v) l i
-kept_either t x l i g after same Passed h = h refl
-kept_either t x l i g after same (Refused w) h = subst (λ (y : Lent). Kept t x y l i) (sym (same w)) (kept_same t x l i g)
+    → ((w : Refusal) → after (Err w) ≡ x) → (v : Verdict) → (v ≡ Ok tt → Kept t x (after (Ok tt)) l i) → Kept t x (after v) l i
+kept_either t x l i g after same (Ok _) h = h refl
+kept_either t x l i g after same (Err w) h = subst (λ (y : Lent). Kept t x y l i) (sym (same w)) (kept_same t x l i g)

@@ -13,7 +13,6 @@ use lib.Dec.{eqb, leb}
 use borrow.Author.Tests.{not-false, eqb-true, eqb-false, leb-false, ltb-false, le-leb, eq-eqb, ne_eqb}
 use Rattle.units.specs.Refusals.{pick}
 use Rattle.units.specs.declared.refusals.Refusal.TheVariants as refusal
-use Rattle.units.specs.declared.refusals.Verdict.TheVariants.{Passed}
 use Rattle.units.proofs.Judging.{clear}
 use Rattle.memory.specs.Layout.{cells_at, urgents, urgent_id, length_at, timer_at}
 use Rattle.waiting.specs.Queues.{appended}
@@ -40,6 +39,7 @@ use Rattle.good.proofs.Framing.{same_under, Within, within_append, apart_saved, 
 use Rattle.good.proofs.Offsets.{urgent_owner, urgent_ranged}
 use Rattle.good.proofs.Turns.{run_fits, state_fits, turned_to, end_saved, sender_turn, Kept, kept_either}
 use Rattle.good.proofs.Senders.{resends_kept, standing_kept}
+use Rattle.std.specs.Prelude.{Ok}
 
 -- ---- what waits
 
@@ -130,7 +130,7 @@ record Tested (x : Lent) (i : ℕ) (p : List ℕ) : Type 0 where
   waits : (end_of x.node i).run.urgent ≡ 0
   need : need_in x.node ≤ length x.store
 
-tested : (x : Lent) (i : ℕ) (p : List ℕ) → urgent_answer x i p ≡ Passed → Tested x i p
+tested : (x : Lent) (i : ℕ) (p : List ℕ) → urgent_answer x i p ≡ Ok tt → Tested x i p
 unfolding urgent_answer
 tested x i p h =
     let e = end_of x.node i in
@@ -174,7 +174,7 @@ urged_window : (r : Run) (n : ℕ) → (urgent_run r n).window ≡ r.window
 unfolding urgent_run
 urged_window r n = refl
 
-after_passed : (x : Lent) (i : ℕ) (p : List ℕ) → urgent_answer x i p ≡ Passed → urgent_after x i p (urgent_answer x i p) ≡ urged x i (end_of x.node i) p
+after_passed : (x : Lent) (i : ℕ) (p : List ℕ) → urgent_answer x i p ≡ Ok tt → urgent_after x i p (urgent_answer x i p) ≡ urged x i (end_of x.node i) p
 unfolding urgent_after
 after_passed x i p h = rw h
 
@@ -245,7 +245,7 @@ module _ (t : List ℕ) (x : Lent) (l : Lists) (i : ℕ) (p : List ℕ) (g : Goo
         stored = refl;
       }
 
-pub urgent_passed : (t : List ℕ) (x : Lent) (l : Lists) (i : ℕ) (p : List ℕ) → Good t x.node x.book l → urgent_answer x i p ≡ Passed
+pub urgent_passed : (t : List ℕ) (x : Lent) (l : Lists) (i : ℕ) (p : List ℕ) → Good t x.node x.book l → urgent_answer x i p ≡ Ok tt
     → UrgentPassed x i p (end_of x.node i) (urgent_after x i p (urgent_answer x i p))
 urgent_passed t x l i p g h =
     subst (UrgentPassed x i p (end_of x.node i)) (sym (after_passed x i p h)) (urged_passed t x l i p g (tested x i p h))

@@ -1,8 +1,7 @@
 -- A node with its store, and its public calls as one: what each answers, in the paper's numbers, and what it leaves, as
 -- the contracts of crates/node have it; and the nodes that a setup and calls after it can give. Cited by what is proved
 -- of such nodes. Assumes nothing.
-use Rattle.std.specs.Prelude.{ℕ, ◌≤◌, ◌≡◌, List, [], ◌∷◌, length}
-use Rattle.units.specs.declared.refusals.Verdict.TheVariants.{Passed}
+use Rattle.std.specs.Prelude.{ℕ, ◌≤◌, ◌≡◌, List, [], ◌∷◌, length, Ok}
 use Rattle.memory.specs.Layout.{node_words, book_halves}
 use Rattle.table.specs.Areas.{store_of}
 use Rattle.end_points.specs.Lent.{Lent}
@@ -83,8 +82,8 @@ pub record SetUp (t : List ℕ) (n : Memory) : Type 0 where
   pub node : length before.node ≡ node_words
   pub book : length before.book ≡ book_halves
   pub bytes : Bytes t
-  pub passed : setup_answer before t ≡ Passed
-  pub is : n ≡ kept (setup_after before t Passed)
+  pub passed : setup_answer before t ≡ Ok tt
+  pub is : n ≡ kept (setup_after before t (Ok tt))
 
 -- with another store, of another content and another length
 abbrev pub relent : List ℕ → Memory → Memory

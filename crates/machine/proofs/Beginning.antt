@@ -7,7 +7,6 @@ use lib.Dec.{ltb}
 use borrow.Author.Tests.{le-ltb, ltb-false}
 use Rattle.units.specs.Refusals.{pick}
 use Rattle.units.specs.declared.refusals.Refusal.TheVariants as refusal
-use Rattle.units.specs.declared.refusals.Verdict.TheVariants.{Passed, Refused}
 use Rattle.table.specs.Layout.{count_of, entry_of}
 use Rattle.table.specs.Areas.{store_of}
 use Rattle.table.specs.Rules.{good_table}
@@ -15,13 +14,14 @@ use Rattle.machine.specs.Machine.{first, begun, done, judged, setting}
 use Rattle.machine.specs.LawsCalls.{SetupGoes, SetupBegins}
 use Rattle.machine.proofs.Judged.{refused_not}
 use Rattle.machine.proofs.Listed.{length_listed, elem_listed}
+use Rattle.std.specs.Prelude.{Ok, Err}
 
 pub setup_goes : SetupGoes
 unfolding SetupGoes setting
 setup_goes m t room = (λ h. goes (good_table t) (ltb room (store_of t)) refl h, λ h. rw (h.0, le-ltb room (store_of t) h.1))
   where
     goes : (g s : Bool) → ltb room (store_of t) ≡ s
-        → (judged (pick (not g) (Refused refusal.BadTable) (pick s (Refused refusal.TooShort) Passed)) [] m (done (begun t room))).answer.numbers ≡ 0 ∷ []
+        → (judged (pick (not g) (Err refusal.BadTable) (pick s (Err refusal.TooShort) (Ok tt))) [] m (done (begun t room))).answer.numbers ≡ 0 ∷ []
         → (g ≡ true) × (store_of t ≤ room)
     goes true true q h = absurd (refused_not refusal.TooShort [] h)
     goes true false q h = (refl, ltb-false room (store_of t) q)

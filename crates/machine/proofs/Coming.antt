@@ -14,7 +14,6 @@ use Rattle.frame.specs.Layout.{payload_of, head_bytes, body_bytes, frame_bytes}
 use Rattle.frame.specs.Reading.{sound_of, header_of, read_of}
 use Rattle.frame.specs.Types.{type_number, suits, seq_writes, for_sender, carries, answered}
 use Rattle.frame.specs.declared.Header.{Header}
-use Rattle.frame.specs.declared.Read.TheVariants as read
 use Rattle.frame.specs.declared.FrameType.{FrameType}
 use Rattle.frame.specs.declared.FrameType.TheVariants as type
 use Rattle.frame.proofs.ReadLaws.{taken as framed, header_for, payload_frame, read_frame}
@@ -35,6 +34,7 @@ use Rattle.machine.specs.Sound.{Sound}
 use Rattle.machine.specs.Laws.{Is}
 use Rattle.machine.specs.LawsArriving.{Comes, fields_for, WrittenComes, FaultTold}
 use Rattle.machine.proofs.Entries.{not_none, elem_lt}
+use Rattle.std.specs.Prelude.{Ok}
 
 -- ---- the entry that is found
 
@@ -104,18 +104,18 @@ module _ (t : List ℕ) (m : Machine) (S : Sound t m) where
 -- ---- the tests
 
 -- a frame that is read is sound, and its header follows the rules
-pub read_sound : (f : List ℕ) (h : Header) → read_of f ≡ read.Frame h → sound_of f ≡ true
+pub read_sound : (f : List ℕ) (h : Header) → read_of f ≡ Ok h → sound_of f ≡ true
 unfolding sound_of
 read_sound f h e =
     let t = (framed f h e).0 in
     rw (le-leb 9 (length f) t.long, eq-eqb (get16_of f 4 + 9) (length f) t.size, eq-eqb _ _ t.check)
 
-pub read_header : (f : List ℕ) (h : Header) → read_of f ≡ read.Frame h → header_of f ≡ read.Frame h
+pub read_header : (f : List ℕ) (h : Header) → read_of f ≡ Ok h → header_of f ≡ Ok h
 unfolding read_of header_of
 read_header f h e = rw (read_sound f h e) at e
 
 -- a payload is as long as the header says
-payload_size : (f : List ℕ) (h : Header) → read_of f ≡ read.Frame h → length (payload_of f) ≡ h.length
+payload_size : (f : List ℕ) (h : Header) → read_of f ≡ Ok h → length (payload_of f) ≡ h.length
 unfolding payload_of
 payload_size f h e =
     let t = framed f h e in

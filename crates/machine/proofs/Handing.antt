@@ -13,7 +13,6 @@ use lib.Dec.{leb, ltb}
 use borrow.Author.Tests.{eq-eqb, le-leb, le-ltb, lt-ltb}
 use Rattle.units.specs.declared.refusals.Refusal.{Refusal}
 use Rattle.units.specs.declared.refusals.Refusal.TheVariants as refusal
-use Rattle.units.specs.declared.refusals.Verdict.TheVariants.{Refused}
 use Rattle.table.specs.Layout.{count_of, entry_of}
 use Rattle.table.proofs.Good.{good_entry}
 use Rattle.frame.specs.Types.{type_number, suits, seq_writes}
@@ -24,7 +23,6 @@ use Rattle.frame.proofs.ReadLaws.{taken as framed, header_for, payload_frame, re
 use Rattle.frame.proofs.TypeLaws.{type_of_number}
 use Rattle.frame.proofs.WriteLaws.{length_frame}
 use Rattle.end_points.specs.Answers.{answer_of, handed_of}
-use Rattle.end_points.specs.declared.answers.HandedOut.TheVariants.{Length}
 use Rattle.machine.specs.Calls.{hands_out}
 use Rattle.machine.specs.Machine.{End, Item, Sort, acks, resets, urgents, resends, datas, Out, Machine, Outcome, numbered, port, turned, rank, only, waiting_as, answers, unless, too_short, is_some, offset, number_at, timed, type_of, carried, frame_of, handed, going_out, in_order, handing_out, step}
 use Rattle.machine.specs.Sound.{Sound, Sized, Owned, Waits, WaitsData}
@@ -35,6 +33,7 @@ use Rattle.machine.proofs.Items.{sort_of, sort_of_rank, rank_of_sort, rank_low, 
 use Rattle.machine.proofs.Blocks.{beyond_stays}
 use Rattle.machine.proofs.Coming.{number_low, read_sound, read_header}
 use Rattle.machine.proofs.Receiving.{carry}
+use Rattle.std.specs.Prelude.{Ok, Err}
 
 -- ---- what goes out next
 
@@ -87,7 +86,7 @@ room_tests m out q x e = (ltb (length out) (length (frame_of m q e x.number)), r
 abbrev pub gone : Machine → List ℕ → Sort → Item → End → Outcome
 gone m out q x e =
     let f = frame_of m q e x.number in
-    answers (handed_of (Length (length f))) (sets out 0 f)
+    answers (handed_of (Ok (length f))) (sets out 0 f)
     (port (some (type_of q, x)) (waiting_as (only q (drop 1)) (turned x.entry (handed q e x.number) m)))
 
 abbrev pub goes : Machine → List ℕ → Sort → Item → End → Outcome
@@ -108,7 +107,7 @@ out_over m buffer u = unless ((is_some u, refusal.UnderWay) ∷ too_short m ∷ 
 
 -- while one is under way none goes out
 pub under_is : (m : Machine) (f : Out) → m.under ≡ some f → (buffer : List ℕ)
-    → step m (hands_out buffer) ≡ answers (answer_of (Refused refusal.UnderWay)) buffer m
+    → step m (hands_out buffer) ≡ answers (answer_of (Err refusal.UnderWay)) buffer m
 unfolding step handing_out
 under_is m f under buffer = ap (out_over m buffer) under
 
@@ -135,7 +134,7 @@ module _ (t : List ℕ) (m : Machine) (S : Sound t m) (under : m.under ≡ none)
         sides datas n =
             rw (n.before acks (omega arith), n.before resets (omega arith), n.before urgents (omega arith), n.before resends (omega arith), n.first, h)
 
-  pub none_is : ((q : Sort) → m.waiting q ≡ []) → (buffer : List ℕ) → step m (hands_out buffer) ≡ answers (handed_of (Length 0)) buffer m
+  pub none_is : ((q : Sort) → m.waiting q ≡ []) → (buffer : List ℕ) → step m (hands_out buffer) ≡ answers (handed_of (Ok 0)) buffer m
   unfolding in_order going_out
   none_is h buffer = order_is buffer ∙ rw (h acks, h resets, h urgents, h resends, h datas)
 
@@ -172,7 +171,7 @@ module _ (t : List ℕ) (m : Machine) (S : Sound t m) (under : m.under ≡ none)
       abbrev then : Machine
       then = port (some (type_of q, x)) (waiting_as (only q (drop 1)) (turned x.entry (handed q e x.number) m))
 
-      out_is : step m (hands_out buffer) ≡ answers (handed_of (Length (length f))) (sets buffer 0 f) then
+      out_is : step m (hands_out buffer) ≡ answers (handed_of (Ok (length f))) (sets buffer 0 f) then
       out_is = goes_is q x xs n e here buffer ∙ rw (le-ltb (length buffer) (length f) fits)
 
       in_buffer : take (length f) (sets buffer 0 f) ≡ f

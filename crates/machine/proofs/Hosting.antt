@@ -17,13 +17,13 @@ use Rattle.end_points.specs.Answers.{counted_of}
 use Rattle.end_points.specs.States.{is_sends, is_closed, is_open}
 use Rattle.end_points.specs.declared.State.{State}
 use Rattle.end_points.specs.declared.State.TheVariants.{Closed, Enabled, Open, Failing}
-use Rattle.end_points.specs.declared.answers.Counted.TheVariants.{Counts}
 use Rattle.machine.specs.Machine.{End, resets, urgents, datas, Machine, Outcome, turned, waits, silent, past, anew, enabled, answers, done, too_short, opening, closing, counting, sender_tests, send_tests, taking, sending, is_some, urging, urgent_sending, step}
 use Rattle.machine.specs.Laws.{Is, Anew, of_entry}
 use Rattle.machine.specs.LawsCalls.{OpenGoes, Enables, OpenEnables, CloseGoes, Closes, CloseCloses, CountsGo, CountsTell, MaySend, SendGoes, Takes, SendTakes, MayUrge, UrgentGoes, Urges, UrgentTakes}
 use Rattle.machine.proofs.Entries.{elem_lt, elem_set_same}
 use Rattle.machine.proofs.Items.{share_gone, waits_last}
 use Rattle.machine.proofs.Judged.{by_entry, by_verdict, done_is, only_done}
+use Rattle.std.specs.Prelude.{Ok}
 
 -- ---- states by their tests
 
@@ -136,7 +136,7 @@ abbrev pub count_tests : End → List (Bool × Refusal)
 count_tests e = (not (is_sends e.entry.kind), refusal.OtherKind) ∷ []
 
 abbrev pub counts_of : Machine → End → Outcome
-counts_of m e = answers (counted_of (Counts (record { 0 = e.accepted }) (record { 0 = e.confirmed }))) [] m
+counts_of m e = answers (counted_of (Ok (record { accepted = record { 0 = e.accepted }; confirmed = record { 0 = e.confirmed } }))) [] m
 
 pub counts_go : CountsGo
 unfolding CountsGo step counting

@@ -7,15 +7,14 @@ use mathlib.Core.Option.{Option, none, some}
 use mathlib.Core.List.{List, [], ◌∷◌}
 use native.Mathlib.Omega.{arith}
 use lib.ListN.{get_elem?}
-use Rattle.units.specs.Refusals.{number_of, verdict}
+use Rattle.units.specs.Refusals.{number_of, verdict, Verdict}
 use Rattle.units.specs.declared.refusals.Refusal.{Refusal}
 use Rattle.units.specs.declared.refusals.Refusal.TheVariants as refusal
-use Rattle.units.specs.declared.refusals.Verdict.{Verdict}
-use Rattle.units.specs.declared.refusals.Verdict.TheVariants.{Passed, Refused}
 use Rattle.units.proofs.Judging.{Clear, clear, refused_some}
 use Rattle.frame.specs.Faults.{refused_of}
 use Rattle.machine.specs.Machine.{End, Machine, Outcome, at, found, answers, judged, unless, on_entry}
 use Rattle.machine.specs.Laws.{Is}
+use Rattle.std.specs.Prelude.{Ok, Err}
 
 -- ---- a refusal is no 0
 
@@ -33,16 +32,16 @@ module _ (P : Outcome → Type 0) where
       sides (some e) h = g e h
 
   pub by_verdict : (tests : List (Bool × Refusal)) (out : List ℕ) (m : Machine) (o : Outcome)
-      → ((w : Refusal) → P (answers (refused_of w) out m)) → (verdict tests ≡ Passed → P o) → P (unless tests out m o)
+      → ((w : Refusal) → P (answers (refused_of w) out m)) → (verdict tests ≡ Ok tt → P o) → P (unless tests out m o)
   by_verdict tests out m o x g = sides (verdict tests) refl
     where
       sides : (v : Verdict) → verdict tests ≡ v → P (judged v out m o)
-      sides Passed h = g h
-      sides (Refused w) h = x w
+      sides (Ok _) h = g h
+      sides (Err w) h = x w
 
 -- ---- where no test fits
 
-pub passes : (tests : List (Bool × Refusal)) → Clear tests → verdict tests ≡ Passed
+pub passes : (tests : List (Bool × Refusal)) → Clear tests → verdict tests ≡ Ok tt
 passes [] c = refl
 passes (t ∷ ts) c = rw c.0 (passes ts c.1)
 

@@ -9,19 +9,15 @@ use native.Mathlib.Omega.{arith}
 use lib.ListN.{length, get_elem?}
 use lib.Dec.{eqb}
 use borrow.Author.Tests.{le-ltb}
-use Rattle.units.specs.Refusals.{pick, verdict}
+use Rattle.units.specs.Refusals.{pick, verdict, Verdict}
 use Rattle.units.specs.declared.refusals.Refusal.{Refusal}
 use Rattle.units.specs.declared.refusals.Refusal.TheVariants as refusal
-use Rattle.units.specs.declared.refusals.Verdict.{Verdict}
-use Rattle.units.specs.declared.refusals.Verdict.TheVariants.{Passed, Refused}
 use Rattle.frame.specs.Layout.{payload_of}
 use Rattle.frame.specs.Reading.{sound_of, header_of}
 use Rattle.blocks.specs.Reading.{read_block}
 use Rattle.frame.specs.declared.Header.{Header}
 use Rattle.frame.specs.declared.FrameType.{FrameType}
 use Rattle.frame.specs.declared.FrameType.TheVariants as type
-use Rattle.frame.specs.declared.Read.{Read}
-use Rattle.frame.specs.declared.Read.TheVariants as read
 use Rattle.end_points.specs.Answers.{answer_of}
 use Rattle.end_points.specs.States.{is_sends}
 use Rattle.end_points.specs.declared.State.{State}
@@ -40,6 +36,7 @@ use Rattle.machine.proofs.Hosting.{open_tests, opened, close_tests, closed, coun
 use Rattle.machine.proofs.Planning.{plan_tests}
 use Rattle.machine.proofs.Standing.{table_stays}
 use Rattle.machine.proofs.Handing.{out_tests, room_tests, gone, goes}
+use Rattle.std.specs.Prelude.{Result, Ok, Err}
 
 module _ (room : ℕ) where
   -- ---- what an outcome is made of
@@ -50,8 +47,8 @@ module _ (room : ℕ) where
   judged_lent {v'} v q out m {o'} o h = ap (λ (u : Verdict). judged u out (lending room m) o') q ∙ sides v
     where
       sides : (u : Verdict) → judged u out (lending room m) o' ≡ relent room (judged u out m o)
-      sides Passed = h
-      sides (Refused w) = refl
+      sides (Ok _) = h
+      sides (Err w) = refl
 
   found_lent : (x : Option End) {a' : Outcome} (a : Outcome) (f' f : End → Outcome) → a' ≡ relent room a
       → ((e : End) → f' e ≡ relent room (f e)) → found x a' f' ≡ relent room (found x a f)
@@ -64,7 +61,7 @@ module _ (room : ℕ) where
       → on_entry (lending room m) i (λ e. unless (tests' e) [] (lending room m) (g' e))
       ≡ relent room (on_entry m i (λ e. unless (tests e) [] m (g e)))
   entry_lent m i tests' tests g' g q h =
-      found_lent (get_elem? m.ends i) (answers (answer_of (Refused refusal.NoEntry)) [] m)
+      found_lent (get_elem? m.ends i) (answers (answer_of (Err refusal.NoEntry)) [] m)
       (λ e. unless (tests' e) [] (lending room m) (g' e)) (λ e. unless (tests e) [] m (g e)) refl
       (λ e. judged_lent (verdict (tests e)) (q e) [] m (g e) (h e))
 
@@ -168,11 +165,11 @@ module _ (room : ℕ) where
         unless (entry_tests y e d.kind d.length (length out)) out y
         (taken_in y out (entry_for m d) e d.kind d.seq.0 p)
 
-    reading_lent : (out : List ℕ) (r : Read) (p : List ℕ) → reading (lending room m) out r p ≡ relent room (reading m out r p)
+    reading_lent : (out : List ℕ) (r : Result Header Refusal) (p : List ℕ) → reading (lending room m) out r p ≡ relent room (reading m out r p)
     unfolding reading
-    reading_lent out (read.Refused w) p = refl
-    reading_lent out (read.Frame d) p =
-        found_lent (get_elem? m.ends (entry_for m d)) (answers (answer_of (Refused refusal.NoEndPoint)) out m)
+    reading_lent out (Err w) p = refl
+    reading_lent out (Ok d) p =
+        found_lent (get_elem? m.ends (entry_for m d)) (answers (answer_of (Err refusal.NoEndPoint)) out m)
         (comes (lending room m) out d p) (comes m out d p) refl
         (λ e. judged_lent (verdict (entry_tests m e d.kind d.length (length out)))
         (entry_same e d.kind d.length (length out)) out m

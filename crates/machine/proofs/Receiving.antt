@@ -16,7 +16,6 @@ use Rattle.end_points.specs.Answers.{arrived_of}
 use Rattle.end_points.specs.States.{is_closed}
 use Rattle.end_points.specs.declared.State.TheVariants.{Open}
 use Rattle.end_points.specs.declared.answers.Was.TheVariants as was
-use Rattle.end_points.specs.declared.answers.Arrived.TheVariants as arrived
 use Rattle.blocks.specs.Blocks.{block_of}
 use Rattle.blocks.specs.Reading.{read_block}
 use Rattle.blocks.proofs.Appending.{length_one}
@@ -31,6 +30,7 @@ use Rattle.machine.proofs.Items.{rank_other, waits_last}
 use Rattle.machine.proofs.Blocks.{Places, run_start, run_later, run_behind, gap_behind, new_there, not_new, block_fits, run_fits, put_short, beyond_stays}
 use Rattle.machine.proofs.Coming.{May, come_is}
 use Rattle.machine.proofs.Hosting.{not_closed, anew_is}
+use Rattle.std.specs.Prelude.{Ok}
 
 -- what holds of what the entry makes of it holds of the call
 pub carry : {o : Outcome} (P : Machine → Answer → Type 0) {n : Outcome} → o ≡ n → P n.machine n.answer → P o.machine o.answer
@@ -50,7 +50,7 @@ ready m e p block r =
     record { up = ap is_closed r.opened; opened = λ d. r.opened; short = λ d. r.short; few = λ d. r.few; room = λ d. r.room }
 
 tells : (m : Machine) (es : List End) (i s : ℕ) (ps : List (List ℕ)) (block : List ℕ) → length (block_of ps) ≤ length block
-    → Told m (waits acks i s (node m es m.waiting)) (record { numbers = arrived_of (arrived.At i (was.Data (length (block_of ps)))); out = sets block 0 (block_of ps) }) i s ps block
+    → Told m (waits acks i s (node m es m.waiting)) (record { numbers = arrived_of (Ok (record { entry = i; was = was.Data (length (block_of ps)) })); out = sets block 0 (block_of ps) }) i s ps block
 tells m es i s ps block h =
     record { numbers = refl; holds = reads_back block ps h; beyond = beyond_stays block (block_of ps) h; behind = waits_last m es acks i s }
 

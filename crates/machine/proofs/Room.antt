@@ -12,15 +12,11 @@ use lib.ListN.{length, get_or}
 use lib.Seq.{length-sets}
 use lib.Dec.{ltb}
 use Rattle.units.specs.Limits.{most_store}
-use Rattle.units.specs.Refusals.{number_of, pick, verdict}
+use Rattle.units.specs.Refusals.{number_of, pick, verdict, Verdict}
 use Rattle.units.specs.declared.refusals.Refusal.{Refusal}
-use Rattle.units.specs.declared.refusals.Verdict.{Verdict}
-use Rattle.units.specs.declared.refusals.Verdict.TheVariants.{Passed, Refused}
 use Rattle.frame.specs.Layout.{payload_of}
 use Rattle.frame.specs.Reading.{header_tests, header_of}
 use Rattle.frame.specs.Types.{carries}
-use Rattle.frame.specs.declared.Read.{Read}
-use Rattle.frame.specs.declared.Read.TheVariants as read
 use Rattle.frame.specs.declared.FrameType.{FrameType}
 use Rattle.frame.proofs.AgainstRules.{read_refused}
 use Rattle.frame.proofs.WriteLaws.{length_frame}
@@ -45,6 +41,8 @@ use Rattle.machine.proofs.Touching.{by_taken, by_read, arrival_tests, by_done, b
 use Rattle.machine.proofs.Hosting.{open_tests, opened, close_tests, closed, count_tests, counts_of, sent, urgent_tests, urged}
 use Rattle.machine.proofs.Planning.{plan_tests, by_plan, first_zero}
 use Rattle.machine.proofs.Handing.{fields_out, out_tests, room_tests, gone, goes, next_or_none, owned_waits, owner, under_is, goes_is, none_is}
+use Rattle.std.specs.Prelude.{Result, Ok, Err}
+use Rattle.frame.specs.declared.Header.{Header}
 
 -- ---- no test for 6 fits
 
@@ -60,12 +58,12 @@ Spared (t ∷ ts) = (t.0 ≡ true → number_of t.1 ≢ 6) × Spared ts
 unmet : {A : Type 0} (b : Bool) → b ≡ false → b ≡ true → A
 unmet b f h = absurd (true≢false (sym h ∙ f))
 
-spared : (ts : List (Bool × Refusal)) → Spared ts → (w : Refusal) → verdict ts ≡ Refused w → number_of w ≢ 6
+spared : (ts : List (Bool × Refusal)) → Spared ts → (w : Refusal) → verdict ts ≡ Err w → number_of w ≢ 6
 spared [] s w h = let z : ◌≡◌ {A = ℕ} 0 1 = cc in absurd (omega arith)
 spared (t ∷ ts) s w h = sides t.0 s.0 (spared ts s.1 w) h
   where
-    sides : (b : Bool) → (b ≡ true → number_of t.1 ≢ 6) → (verdict ts ≡ Refused w → number_of w ≢ 6)
-        → pick b (Refused t.1) (verdict ts) ≡ Refused w → number_of w ≢ 6
+    sides : (b : Bool) → (b ≡ true → number_of t.1 ≢ 6) → (verdict ts ≡ Err w → number_of w ≢ 6)
+        → pick b (Err t.1) (verdict ts) ≡ Err w → number_of w ≢ 6
     sides true here later z = let e : t.1 ≡ w = cc in subst (λ (v : Refusal). number_of v ≢ 6) e (here refl)
     sides false here later z = later z
 
@@ -73,8 +71,8 @@ roomed : (tests : List (Bool × Refusal)) → Spared tests → (out : List ℕ) 
 roomed tests s out m o p = sides (verdict tests) refl
   where
     sides : (v : Verdict) → verdict tests ≡ v → Roomed (judged v out m o)
-    sides Passed h = p
-    sides (Refused w) h = spared tests s w h
+    sides (Ok _) h = p
+    sides (Err w) h = spared tests s w h
 
 -- what begins with 0 is no 6
 done_roomed : ◌≢◌ {A = ℕ} 0 6
@@ -135,7 +133,7 @@ module _ (t : List ℕ) (m : Machine) (S : Sound t m) where
 
   -- ---- an arrival
 
-  header_roomed : (f : List ℕ) (w : Refusal) → header_of f ≡ read.Refused w → number_of w ≢ 6
+  header_roomed : (f : List ℕ) (w : Refusal) → header_of f ≡ Err w → number_of w ≢ 6
   unfolding header_of
   header_roomed f w h =
       spared (header_tests f) ((λ _ z. omega arith), ((λ _ z. omega arith), ((λ _ z. omega arith), ((λ _ z. omega arith), tt)))) w ((read_refused (verdict (header_tests f)) _ w).0 h)
@@ -148,10 +146,10 @@ module _ (t : List ℕ) (m : Machine) (S : Sound t m) where
         block_room_holds : (carries q && ltb (length block) (block_room e.entry)) ≡ false
         block_room_holds = rw (le-ltb (length block) (block_room e.entry) (omega (arith, block_fits i e here))) (and-false (carries q))
 
-    read_roomed : (f : List ℕ) (r : Read) → header_of f ≡ r → (p : List ℕ) → Roomed (reading m block r p)
+    read_roomed : (f : List ℕ) (r : Result Header Refusal) → header_of f ≡ r → (p : List ℕ) → Roomed (reading m block r p)
     unfolding reading
-    read_roomed f (read.Refused w) h p = header_roomed f w h
-    read_roomed f (read.Frame h) z p =
+    read_roomed f (Err w) h p = header_roomed f w h
+    read_roomed f (Ok h) z p =
         by_entry Roomed m (entry_for m h) _ _ (λ y. omega arith)
         (λ e here. roomed (entry_tests m e h.kind h.length (length block)) (entry_spared (entry_for m h) e here h.kind h.length) block m _
         (by_taken Roomed m block (entry_for m h) e here (λ m' y ns out' l. done_roomed) h.kind h.seq.0 p))

@@ -17,8 +17,6 @@ use Rattle.units.specs.declared.refusals.Refusal.TheVariants as refusal
 use Rattle.frame.specs.Faults.{refused_of}
 use Rattle.frame.specs.Reading.{sound_of}
 use Rattle.frame.specs.declared.Header.{Header}
-use Rattle.frame.specs.declared.Read.{Read}
-use Rattle.frame.specs.declared.Read.TheVariants as read
 use Rattle.frame.specs.declared.FrameType.{FrameType}
 use Rattle.frame.specs.declared.FrameType.TheVariants as type
 use Rattle.end_points.specs.declared.State.{State}
@@ -31,6 +29,7 @@ use Rattle.machine.specs.Laws.{Is, Free}
 use Rattle.machine.proofs.Entries.{not_none}
 use Rattle.machine.proofs.Blocks.{Places}
 use Rattle.machine.proofs.Judged.{by_entry, by_verdict}
+use Rattle.std.specs.Prelude.{Result, Ok, Err}
 
 -- ---- an end point and what it may become
 
@@ -124,11 +123,11 @@ module _ (P : Outcome → Type 0) (m : Machine) (out : List ℕ) (i : ℕ) (e : 
 
 -- an arrival is refused, or the frame is taken in by the entry that it is for
 module _ (P : Outcome → Type 0) (m : Machine) (out : List ℕ) (refused : (w : Refusal) → P (answers (refused_of w) out m)) where
-  pub by_read : (r : Read) (p : List ℕ)
-      → ((h : Header) → r ≡ read.Frame h → (m' : Machine) → Touched (entry_for m h) m m' → (ns out' : List ℕ) → length out' ≡ length out → P (answers (0 ∷ ns) out' m')) → P (reading m out r p)
+  pub by_read : (r : Result Header Refusal) (p : List ℕ)
+      → ((h : Header) → r ≡ Ok h → (m' : Machine) → Touched (entry_for m h) m m' → (ns out' : List ℕ) → length out' ≡ length out → P (answers (0 ∷ ns) out' m')) → P (reading m out r p)
   unfolding reading
-  by_read (read.Refused w) p t = refused w
-  by_read (read.Frame h) p t =
+  by_read (Err w) p t = refused w
+  by_read (Ok h) p t =
       by_entry P m (entry_for m h) _ _ (refused refusal.NoEndPoint)
       (λ e z. by_verdict P (entry_tests m e h.kind h.length (length out)) out m (taken_in m out (entry_for m h) e h.kind h.seq.0 p) refused
       (λ v. by_taken P m out (entry_for m h) e z (t h refl) h.kind h.seq.0 p))

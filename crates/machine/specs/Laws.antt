@@ -2,14 +2,12 @@
 -- it was, and that a call on one entry leaves every other. The laws of single calls are in the other files
 -- Laws*.antt. In square brackets: the rules of docs/RULES.md that a law is about. Proved in proofs/Standing.antt and
 -- proofs/Apart.antt. Assumes nothing.
-use Rattle.std.specs.Prelude.{ℕ, ◌≤◌, ◌<◌, ◌≡◌, ◌≢◌, Bool, true, not, List, [], ◌∷◌, ◌++◌, length, get_or}
-use Rattle.std.specs.Prelude.{replicate, eqb}
+use Rattle.std.specs.Prelude.{ℕ, ◌≤◌, ◌<◌, ◌≡◌, ◌≢◌, Bool, true, not, List, [], ◌∷◌, ◌++◌, length, get_or, replicate, eqb, Ok}
 use Rattle.std.proofs.Math.Option.{none, some}
 use Rattle.std.proofs.Math.ListN.{get_elem?}
 use Rattle.end_points.specs.declared.State.{State}
 use Rattle.frame.specs.Reading.{header_of}
 use Rattle.frame.specs.declared.Header.{Header}
-use Rattle.frame.specs.declared.Read.TheVariants as read
 use Rattle.machine.specs.Calls.{Call, opens, closes, counts, sends, urges, plans, arrives, hands_out, reports}
 use Rattle.machine.specs.Calls.{ticks, Answer}
 use Rattle.machine.specs.Machine.{End, Item, Sort, Machine, Outcome, node, port, lending, rank, without, past}
@@ -159,7 +157,7 @@ On m (counts j) i = j ≡ i
 On m (sends j p) i = j ≡ i
 On m (urges j p) i = j ≡ i
 On m (plans j block) i = j ≡ i
-On m (arrives block f) i = (h : Header) × (header_of f ≡ read.Frame h) × (entry_for m h ≡ i)
+On m (arrives block f) i = (h : Header) × (header_of f ≡ Ok h) × (entry_for m h ≡ i)
 On m (hands_out buffer) i = (q : Sort) × (x : Item) × (xs : List Item) × Next m q x xs × (x.entry ≡ i)
 On m reports i = is_of i m.under ≡ true
 On m ticks i = Unit {0}

@@ -2,8 +2,7 @@
 -- node that refuses all, one that always answers "ignored", one that leaves its state alone, and one that delivers
 -- the first payload and afterwards only acknowledges. That nothing is held at the start of a window is StartStaysFree
 -- of Laws.antt. Proved in proofs/Coming.antt, Receiving.antt, Acking.antt. Assumes nothing.
-use Rattle.std.specs.Prelude.{ℕ, suc, ◌+◌, ◌≤◌, ◌<◌, ◌≡◌, ◌≢◌, Bool, true, false, ◌&&◌, List, [], ◌∷◌, ◌++◌}
-use Rattle.std.specs.Prelude.{length, drop, set, replicate, eqb}
+use Rattle.std.specs.Prelude.{ℕ, suc, ◌+◌, ◌≤◌, ◌<◌, ◌≡◌, ◌≢◌, Bool, true, false, ◌&&◌, List, [], ◌∷◌, ◌++◌, length, drop, set, replicate, eqb, Ok}
 use Rattle.std.proofs.Math.Option.{none, some}
 use Rattle.std.proofs.Math.ListN.{get_elem?}
 use Rattle.units.specs.declared.refusals.Refusal.{Refusal}
@@ -15,7 +14,6 @@ use Rattle.frame.specs.Reading.{sound_of, read_of}
 use Rattle.frame.specs.Types.{type_number, suits, seq_writes, for_sender}
 use Rattle.frame.specs.declared.Fields.{Fields}
 use Rattle.frame.specs.declared.Header.{Header}
-use Rattle.frame.specs.declared.Read.TheVariants as read
 use Rattle.frame.specs.declared.FrameType.{FrameType}
 use Rattle.frame.specs.declared.FrameType.TheVariants as type
 use Rattle.end_points.specs.States.{is_sends}
@@ -37,7 +35,7 @@ pub record Comes (m : Machine) (f : List ℕ) (i : ℕ) (e : End) (t : FrameType
   pub there : Is m i e
   pub byte : s < 256
   pub header : Header
-  pub reads : read_of f ≡ read.Frame header
+  pub reads : read_of f ≡ Ok header
   pub ours : is_ours m f ≡ true
   pub kind : is_sends e.entry.kind ≡ for_sender t
   pub source : e.entry.remote.0 ≡ header.source.0

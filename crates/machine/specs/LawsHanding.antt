@@ -1,6 +1,6 @@
 -- Laws of handing out: what goes out next, what that leaves, and that each frame that goes out reads back as what was
 -- meant. Proved in proofs/Handing.antt. Assumes nothing.
-use Rattle.std.specs.Prelude.{ℕ, ◌≤◌, ◌<◌, ◌≡◌, ◌≢◌, ◌⊎◌, true, false, length, take, drop, set}
+use Rattle.std.specs.Prelude.{ℕ, ◌≤◌, ◌<◌, ◌≡◌, ◌≢◌, ◌⊎◌, true, false, length, take, drop, set, Ok}
 use Rattle.std.proofs.Math.Option.{none, some}
 use mathlib.Core.List.{List, [], ◌∷◌, Memᴰ}
 use Rattle.std.proofs.Math.ListN.{get_elem?}
@@ -8,7 +8,6 @@ use Rattle.frame.specs.Layout.{payload_of}
 use Rattle.frame.specs.Reading.{sound_of, header_of, read_of}
 use Rattle.frame.specs.Types.{for_sender}
 use Rattle.frame.specs.declared.Header.{Header}
-use Rattle.frame.specs.declared.Read.TheVariants as read
 use Rattle.end_points.specs.States.{is_sends}
 use Rattle.end_points.specs.declared.State.TheVariants.{Enabled}
 use Rattle.machine.specs.Calls.{Answer, hands_out}
@@ -90,7 +89,7 @@ UnderWayRefuses = (m : Machine) (f : Out) → m.under ≡ some f → (buffer : L
 -- f is read as the frame of number s of a sort, from our address to the entry's remote end, with what it carries [H6]
 pub record ReadsAs (m : Machine) (q : Sort) (e : End) (s : ℕ) (f : List ℕ) : Type 0 where
   pub header : Header
-  pub reads : read_of f ≡ read.Frame header
+  pub reads : read_of f ≡ Ok header
   pub destination : header.destination ≡ e.entry.remote
   pub source : header.source ≡ m.own
   pub protocol : header.protocol ≡ m.protocol
@@ -109,7 +108,7 @@ ReadsBack = (t : List ℕ) (m : Machine) → Sound t m → (q : Sort) (x : Item)
 unfoldable pub PairedTakes : Type 0
 PairedTakes = (m n : Machine) (q : Sort) (e : End) (s : ℕ) (f : List ℕ) → (r : ReadsAs m q e s f)
     → n.own ≡ e.entry.remote → n.protocol ≡ m.protocol
-    → (sound_of f ≡ true) × (is_ours n f ≡ true) × (header_of f ≡ read.Frame r.header)
+    → (sound_of f ≡ true) × (is_ours n f ≡ true) × (header_of f ≡ Ok r.header)
 
 -- at an entry of n that names m, over the same channel and of the kind that takes such frames, it comes: so what is
 -- handed out here does there what LawsArriving.antt says [F16, H6]

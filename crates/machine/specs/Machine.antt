@@ -2,18 +2,15 @@
 -- is what a reader must believe of demand 2. That the nodes of crates/node are this machine is proved in
 -- crates/refinement. Frames, blocks, tables and states are those of their own crates. In square brackets: the rules
 -- of docs/RULES.md that a definition states. Assumes nothing.
-use Rattle.std.specs.Prelude.{ℕ, zero, suc, ◌+◌, ◌-◌, ◌*◌, ◌^◌, ◌≡◌, Bool, true, false, not, ◌&&◌, ◌||◌, List}
-use Rattle.std.specs.Prelude.{[], ◌∷◌, ◌++◌, length, drop, get_or, set, replicate, eqb, leb, ltb}
+use Rattle.std.specs.Prelude.{ℕ, zero, suc, ◌+◌, ◌-◌, ◌*◌, ◌^◌, ◌≡◌, Bool, true, false, not, ◌&&◌, ◌||◌, List, [], ◌∷◌, ◌++◌, length, drop, get_or, set, replicate, eqb, leb, ltb, Result, Ok, Err}
 use Rattle.std.proofs.Math.Option.{Option, none, some}
 use Rattle.std.proofs.Math.ListN.{get_elem?}
 use Rattle.std.proofs.lemmas.List.Edits.{sets}
 use Rattle.units.specs.Limits.{most_accepted}
-use Rattle.units.specs.Refusals.{pick, verdict}
+use Rattle.units.specs.Refusals.{pick, verdict, Verdict}
 use Rattle.units.specs.declared.Address.{Address}
 use Rattle.units.specs.declared.refusals.Refusal.{Refusal}
 use Rattle.units.specs.declared.refusals.Refusal.TheVariants as refusal
-use Rattle.units.specs.declared.refusals.Verdict.{Verdict}
-use Rattle.units.specs.declared.refusals.Verdict.TheVariants.{Passed, Refused}
 use Rattle.window.specs.Numbers.{distance_of, byte_of}
 use Rattle.table.specs.Layout.{count_of, own_of, protocol_of, entry_of}
 use Rattle.table.specs.Areas.{store_of}
@@ -23,20 +20,14 @@ use Rattle.frame.specs.Layout.{destination_byte, protocol_byte, payload_of, fram
 use Rattle.frame.specs.Types.{type_number, carries, answered, for_sender}
 use Rattle.frame.specs.Reading.{sound_of, header_of}
 use Rattle.frame.specs.declared.Header.{Header}
-use Rattle.frame.specs.declared.Read.{Read}
-use Rattle.frame.specs.declared.Read.TheVariants as read
 use Rattle.frame.specs.declared.FrameType.{FrameType}
 use Rattle.frame.specs.declared.FrameType.TheVariants as type
 use Rattle.end_points.specs.States.{is_sends, is_closed, is_open, is_over}
 use Rattle.end_points.specs.Answers.{state_number, answer_of, counted_of, planned_of, arrived_of, handed_of}
 use Rattle.end_points.specs.declared.State.{State}
 use Rattle.end_points.specs.declared.State.TheVariants.{Closed, Enabled, Open, Failing}
-use Rattle.end_points.specs.declared.answers.Counted.TheVariants.{Counts}
-use Rattle.end_points.specs.declared.answers.Planned.TheVariants.{Accepted}
 use Rattle.end_points.specs.declared.answers.Was.{Was}
 use Rattle.end_points.specs.declared.answers.Was.TheVariants as was
-use Rattle.end_points.specs.declared.answers.Arrived.TheVariants as arrived
-use Rattle.end_points.specs.declared.answers.HandedOut.TheVariants.{Length}
 use Rattle.arrive_lookup.specs.Fitting.{fits}
 use Rattle.blocks.specs.Blocks.{empty, offset_bytes, block_of}
 use Rattle.blocks.specs.Reading.{read_block, is_plan}
@@ -241,12 +232,12 @@ answers numbers out m = record { answer = record { numbers = numbers; out = out 
 
 -- done, with nothing more to say [O3]
 abbrev pub done : Machine → Outcome
-done m = answers (answer_of Passed) [] m
+done m = answers (answer_of (Ok tt)) [] m
 
 -- o where the tests pass; else the refusal, with all as before [R44]
 abbrev pub judged : Verdict → List ℕ → Machine → Outcome → Outcome
-judged Passed out m o = o
-judged (Refused w) out m o = answers (answer_of (Refused w)) out m
+judged (Ok _) out m o = o
+judged (Err w) out m o = answers (answer_of (Err w)) out m
 
 -- o unless a test refuses; out is what the block or frame buffer holds [R43, R44]
 abbrev pub unless : List (Bool × Refusal) → List ℕ → Machine → Outcome → Outcome
@@ -258,7 +249,7 @@ too_short m = (ltb m.room m.need, refusal.TooShort)
 
 -- on entry i; 2 where there is no such entry [R2]
 abbrev pub on_entry : Machine → ℕ → (End → Outcome) → Outcome
-on_entry m i f = at m i (answers (answer_of (Refused refusal.NoEntry)) [] m) f
+on_entry m i f = at m i (answers (answer_of (Err refusal.NoEntry)) [] m) f
 
 -- ---- setup
 
@@ -316,11 +307,11 @@ unfoldable pub counting : Machine → ℕ → Outcome
 counting m i =
     on_entry m i λ e.
     unless ((not (is_sends e.entry.kind), refusal.OtherKind) ∷ []) [] m
-    (answers (counted_of (Counts (record { 0 = e.accepted }) (record { 0 = e.confirmed }))) [] m)
+    (answers (counted_of (Ok (record { accepted = record { 0 = e.accepted }; confirmed = record { 0 = e.confirmed } }))) [] m)
 
 -- 2; it alters nothing, so that it is no step of the machine [E1, R2, R45]
 unfoldable pub stating : Machine → ℕ → List ℕ
-stating m i = at m i (answer_of (Refused refusal.NoEntry)) (λ e. 0 ∷ state_number e.state ∷ [])
+stating m i = at m i (answer_of (Err refusal.NoEntry)) (λ e. 0 ∷ state_number e.state ∷ [])
 
 -- ---- send and Urgent
 
@@ -374,7 +365,7 @@ accepts o = eqb (get_or o.answer.numbers 0 0) 0
 -- payloads sent in order, up to and including the first that is refused, n being accepted before them: it answers how
 -- many were accepted, and what the last send answered if it was refused, or 0 [E18, O10]
 unfoldable pub sending_all : Machine → ℕ → ℕ → List (List ℕ) → Outcome
-sending_all m i n [] = answers (planned_of (Accepted n Passed)) [] m
+sending_all m i n [] = answers (planned_of (Ok (record { accepted = n; stop = Ok tt }))) [] m
 sending_all m i n (p ∷ ps) =
     let o = sending m i p in
     pick (accepts o) (sending_all o.machine i (n + 1) ps) (answers (0 ∷ n ∷ o.answer.numbers) [] o.machine)
@@ -411,7 +402,7 @@ passing n ns e = counted e.accepted (e.confirmed + n) (numbered (past e n) (drop
 
 -- which entry an arrival was for, and what it was there [O3, O8]
 abbrev pub told : ℕ → Was → List ℕ → Machine → Outcome
-told i a out m = answers (arrived_of (arrived.At i a)) out m
+told i a out m = answers (arrived_of (Ok (record { entry = i; was = a }))) out m
 
 -- it counts if its number is in the window, handed out and not yet acknowledged; its timer stops. Else it is ignored.
 -- [A2, A3, A5]
@@ -513,11 +504,11 @@ abbrev pub entry_for : Machine → Header → ℕ
 entry_for m h = place_of (λ e. fits e.entry (for_sender h.kind) h.source.0 h.channel.0) m.ends
 
 -- the header's fault, then 13 where there is no such entry [R13, R15, R16, R17, R18, R37]
-unfoldable pub reading : Machine → List ℕ → Read → List ℕ → Outcome
-reading m out (read.Refused w) p = answers (answer_of (Refused w)) out m
-reading m out (read.Frame h) p =
+unfoldable pub reading : Machine → List ℕ → Result Header Refusal → List ℕ → Outcome
+reading m out (Err w) p = answers (answer_of (Err w)) out m
+reading m out (Ok h) p =
     let i = entry_for m h in
-    at m i (answers (answer_of (Refused refusal.NoEndPoint)) out m) λ e.
+    at m i (answers (answer_of (Err refusal.NoEndPoint)) out m) λ e.
     unless (entry_tests m e h.kind h.length (length out)) out m (taken_in m out i e h.kind h.seq.0 p)
 
 -- destination and protocol ID are ours [F2, F3, R11]
@@ -584,12 +575,12 @@ going_out m out q (x ∷ xs) other =
     at m x.entry other λ e.
     let f = frame_of m q e x.number in
     unless ((ltb (length out) (length f), refusal.TooShort) ∷ []) out m
-    (answers (handed_of (Length (length f))) (sets out 0 f)
+    (answers (handed_of (Ok (length f))) (sets out 0 f)
     (port (some (type_of q, x)) (waiting_as (only q (drop 1)) (turned x.entry (handed q e x.number) m))))
 
 -- sort after sort; nothing waiting: length 0, with any frame buffer [H2, H5]
 unfoldable pub in_order : Machine → List ℕ → List Sort → Outcome
-in_order m out [] = answers (handed_of (Length 0)) out m
+in_order m out [] = answers (handed_of (Ok 0)) out m
 in_order m out (q ∷ qs) = going_out m out q (m.waiting q) (in_order m out qs)
 
 -- 19, 6; acknowledgements first, then Resets, Urgents, retransmissions, data [H2, R6, R19, R38, R42]
@@ -630,7 +621,7 @@ ended type.Urgent e s = e
 
 -- 20 where none is under way; else none is any more [H8, R20, R49]
 unfoldable pub reported : Machine → Option Out → Outcome
-reported m none = answers (answer_of (Refused refusal.NoneUnderWay)) [] m
+reported m none = answers (answer_of (Err refusal.NoneUnderWay)) [] m
 reported m (some f) =
     let i = f.1.entry in
     done (port none (at m i m (λ e. turned i (ended f.0 e f.1.number) m)))
@@ -732,5 +723,5 @@ step m ticks = ticking m
 pub record SetUp (t : List ℕ) (m : Machine) : Type 0 where
   pub room : ℕ
   pub bytes : Bytes t
-  pub passed : verdict (setup_tests t room) ≡ Passed
+  pub passed : verdict (setup_tests t room) ≡ Ok tt
   pub is : m ≡ begun t room

@@ -18,9 +18,10 @@ ghost use Rattle.call_hand_out.specs.Handing.{hand_out_answer, hand_out_after};
 ghost use Rattle.call_report.specs.Reporting.{report_answer, report_after};
 ghost use Rattle.call_tick.specs.Ticking.{tick_answer, tick_after};
 
-use end_points::answers::{Arrived, Counted, HandedOut, Needed, Planned, Stated};
+use end_points::State;
+use end_points::answers::{Arrival, Counts, Plan};
 use memory::layout;
-use units::refusals::Verdict;
+use units::refusals::Refusal;
 
 // A node's words, and its book. All zeros is a new node. [N1]
 pub type Node = [u64; layout::NODE_WORDS];
@@ -28,14 +29,14 @@ pub type Node = [u64; layout::NODE_WORDS];
 pub type Book = [u16; layout::BOOK_HALVES];
 
 // How many bytes of store a table needs. Refuses 1. [S1, R46]
-pub fn store_need(table: &[u8]) -> Needed
+pub fn store_need(table: &[u8]) -> Result<usize, Refusal>
     ensures { result ≡ need_answer table.now }
 {
     call_open::store_need(table)
 }
 
 // The table is read: every entry Closed, nothing waiting or under way, start 1, counts 0. Refuses 1, 6. [E3, R31]
-pub fn setup(node: &mut Node, book: &mut Book, store: &[u8], table: &[u8]) -> Verdict
+pub fn setup(node: &mut Node, book: &mut Book, store: &[u8], table: &[u8]) -> Result<(), Refusal>
     ensures answer { let x = stored node.old book.old store.now in
         result ≡ setup_answer x table.now }
     ensures after { let x = stored node.old book.old store.now in
@@ -45,7 +46,7 @@ pub fn setup(node: &mut Node, book: &mut Book, store: &[u8], table: &[u8]) -> Ve
 }
 
 // Entry `index` becomes Enabled; a sender's Reset then waits. Refuses 2, 4. [E4, E5, R32]
-pub fn open(node: &mut Node, book: &mut Book, index: usize) -> Verdict
+pub fn open(node: &mut Node, book: &mut Book, index: usize) -> Result<(), Refusal>
     ensures answer { result ≡ open_answer (bare node.old book.old) index }
     ensures after { let x = bare node.old book.old in
         bare node.new book.new ≡ open_after x index result }
@@ -54,7 +55,7 @@ pub fn open(node: &mut Node, book: &mut Book, index: usize) -> Verdict
 }
 
 // Entry `index` becomes Closed; what it held and what of it waited goes. Refuses 2, 4. [E6, E7, R33]
-pub fn close(node: &mut Node, book: &mut Book, index: usize) -> Verdict
+pub fn close(node: &mut Node, book: &mut Book, index: usize) -> Result<(), Refusal>
     ensures answer { result ≡ close_answer (bare node.old book.old) index }
     ensures after { let x = bare node.old book.old in
         bare node.new book.new ≡ close_after x index result }
@@ -63,14 +64,14 @@ pub fn close(node: &mut Node, book: &mut Book, index: usize) -> Verdict
 }
 
 // A sender's counts, accepted and confirmed, in every state. Refuses 2, 3. [E17, R34]
-pub fn counts(node: &Node, index: usize) -> Counted
+pub fn counts(node: &Node, index: usize) -> Result<Counts, Refusal>
     ensures { result ≡ counts_answer node.now index }
 {
     call_open::counts(node, index)
 }
 
 // An entry's state. Refuses 2. [E1, R45]
-pub fn state(node: &Node, index: usize) -> Stated
+pub fn state(node: &Node, index: usize) -> Result<State, Refusal>
     ensures { result ≡ state_answer node.now index }
 {
     call_open::state(node, index)
@@ -83,7 +84,7 @@ pub fn send(
     store: &mut [u8],
     index: usize,
     payload: &[u8],
-) -> Verdict
+) -> Result<(), Refusal>
     ensures answer { let x = stored node.old book.old store.old in
         result ≡ send_answer x index payload.now }
     ensures after { let x = stored node.old book.old store.old in
@@ -100,7 +101,7 @@ pub fn urgent(
     store: &mut [u8],
     index: usize,
     payload: &[u8],
-) -> Verdict
+) -> Result<(), Refusal>
     ensures answer { let x = stored node.old book.old store.old in
         result ≡ urgent_answer x index payload.now }
     ensures after { let x = stored node.old book.old store.old in
@@ -118,7 +119,7 @@ pub fn plan(
     store: &mut [u8],
     index: usize,
     block: &[u8],
-) -> Planned
+) -> Result<Plan, Refusal>
     ensures answer { let x = stored node.old book.old store.old in
         result ≡ plan_answer x index block.now }
     ensures after { let x = stored node.old book.old store.old in
@@ -136,7 +137,7 @@ pub fn arrival(
     store: &mut [u8],
     block: &mut [u8],
     arrived: &[u8],
-) -> Arrived
+) -> Result<Arrival, Refusal>
     ensures answer { let x = whole node.old book.old store.old block.old in
         result ≡ arrival_answer x arrived.now }
     ensures after { let x = whole node.old book.old store.old block.old in
@@ -148,7 +149,12 @@ pub fn arrival(
 
 // What goes out next is written into the frame buffer, and is under way then. Refuses 19, 6; answers the length, 0
 // where nothing waits. [H1, H5, H8, R38]
-pub fn hand_out(node: &mut Node, book: &mut Book, store: &[u8], frame: &mut [u8]) -> HandedOut
+pub fn hand_out(
+    node: &mut Node,
+    book: &mut Book,
+    store: &[u8],
+    frame: &mut [u8],
+) -> Result<usize, Refusal>
     ensures answer { let x = whole node.old book.old store.now frame.old in
         result ≡ hand_out_answer x }
     ensures after { let x = whole node.old book.old store.now frame.old in
@@ -158,7 +164,7 @@ pub fn hand_out(node: &mut Node, book: &mut Book, store: &[u8], frame: &mut [u8]
 }
 
 // The frame under way has ended; Data or a Reset starts its timer. Refuses 20. [D2, H8, R49]
-pub fn report(node: &mut Node, book: &mut Book) -> Verdict
+pub fn report(node: &mut Node, book: &mut Book) -> Result<(), Refusal>
     ensures answer { result ≡ report_answer (bare node.old book.old) }
     ensures after { let x = bare node.old book.old in
         bare node.new book.new ≡ report_after x result }

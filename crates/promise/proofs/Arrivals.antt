@@ -10,11 +10,9 @@ use lib.ListN.{length, get_elem?}
 use lib.Dec.{eqb}
 use native.Mathlib.Decide.{ℕ_discrete}
 use borrow.Author.Tests.{not-false}
-use Rattle.units.specs.Refusals.{pick, verdict}
+use Rattle.units.specs.Refusals.{pick, verdict, Verdict}
 use Rattle.units.specs.declared.refusals.Refusal.{Refusal}
 use Rattle.units.specs.declared.refusals.Refusal.TheVariants as refusal
-use Rattle.units.specs.declared.refusals.Verdict.{Verdict}
-use Rattle.units.specs.declared.refusals.Verdict.TheVariants as verdicts
 use Rattle.units.proofs.Judging.{Clear, clear}
 use Rattle.table.specs.Layout.{entry_of}
 use Rattle.frame.specs.Faults.{refused_of}
@@ -22,8 +20,6 @@ use Rattle.frame.specs.Layout.{payload_of}
 use Rattle.frame.specs.Reading.{sound_of, header_of, read_of}
 use Rattle.frame.specs.Types.{for_sender}
 use Rattle.frame.specs.declared.Header.{Header}
-use Rattle.frame.specs.declared.Read.{Read}
-use Rattle.frame.specs.declared.Read.TheVariants as read
 use Rattle.frame.specs.declared.FrameType.{FrameType}
 use Rattle.frame.specs.declared.FrameType.TheVariants as type
 use Rattle.end_points.specs.States.{is_sends}
@@ -37,6 +33,7 @@ use Rattle.machine.specs.Laws.{On}
 use Rattle.promise.specs.Seen.{is_done, names}
 use Rattle.promise.proofs.Entries.{some_same, found_fits, names_own, names_other}
 use Rattle.promise.proofs.Watched.{Watch, Follows, Step, seen_as, still, refused_done, elsewhere}
+use Rattle.std.specs.Prelude.{Result, Ok, Err}
 
 -- ---- refused, or taken in
 
@@ -46,15 +43,15 @@ record Refused (m : Machine) (block f : List ℕ) : Type 0 where
 
 pub record Taken (m : Machine) (block f : List ℕ) : Type 0 where
   pub header : Header
-  pub head : header_of f ≡ read.Frame header
-  pub read : read_of f ≡ read.Frame header
+  pub head : header_of f ≡ Ok header
+  pub read : read_of f ≡ Ok header
   pub end : End
   pub there : get_elem? m.ends (entry_for m header) ≡ some end
   pub fit : Fitting end.entry (for_sender header.kind) header.source.0 header.channel.0
   pub clear : Clear (entry_tests m end header.kind header.length (length block))
   pub is : arriving m block f ≡ taken_in m block (entry_for m header) end header.kind header.seq.0 (payload_of f)
 
-whole_read : (f : List ℕ) (h : Header) → sound_of f ≡ true → header_of f ≡ read.Frame h → read_of f ≡ read.Frame h
+whole_read : (f : List ℕ) (h : Header) → sound_of f ≡ true → header_of f ≡ Ok h → read_of f ≡ Ok h
 unfolding header_of read_of
 whole_read f h s e = rw s e
 
@@ -75,25 +72,25 @@ module _ (m : Machine) (block f : List ℕ) where
   unfolding arriving
   by_header = refl
 
-  by_entry : (h : Header) → reading m block (read.Frame h) (payload_of f) ≡ entered h (get_elem? m.ends (entry_for m h))
+  by_entry : (h : Header) → reading m block (Ok h) (payload_of f) ≡ entered h (get_elem? m.ends (entry_for m h))
   unfolding reading
   by_entry h = refl
 
-  refused_read : (w : Refusal) → reading m block (read.Refused w) (payload_of f) ≡ answers (refused_of w) block m
+  refused_read : (w : Refusal) → reading m block (Err w) (payload_of f) ≡ answers (refused_of w) block m
   unfolding reading
   refused_read w = refl
 
-  module _ (p : verdict frame_tests ≡ verdicts.Passed) where
-    read_as : (r : Read) → header_of f ≡ r → arriving m block f ≡ reading m block r (payload_of f)
+  module _ (p : verdict frame_tests ≡ Ok tt) where
+    read_as : (r : Result Header Refusal) → header_of f ≡ r → arriving m block f ≡ reading m block r (payload_of f)
     read_as r q = by_header ∙ rw (p, q)
 
-    module _ (h : Header) (q : header_of f ≡ read.Frame h) where
+    module _ (h : Header) (q : header_of f ≡ Ok h) where
       found_as : (z : Option End) → get_elem? m.ends (entry_for m h) ≡ z → arriving m block f ≡ entered h z
-      found_as z g = read_as (read.Frame h) q ∙ by_entry h ∙ rw g
+      found_as z g = read_as (Ok h) q ∙ by_entry h ∙ rw g
 
       at_entry : (e : End) → get_elem? m.ends (entry_for m h) ≡ some e → (v : Verdict) → verdict (tests h e) ≡ v
           → Refused m block f ⊎ Taken m block f
-      at_entry e g verdicts.Passed z =
+      at_entry e g (Ok _) z =
           inr (record {
             header = h;
             head = q;
@@ -104,19 +101,19 @@ module _ (m : Machine) (block f : List ℕ) where
             clear = clear (tests h e) z;
             is = found_as (some e) g ∙ rw z;
           })
-      at_entry e g (verdicts.Refused w) z = inl (record { why = w; is = found_as (some e) g ∙ rw z })
+      at_entry e g (Err w) z = inl (record { why = w; is = found_as (some e) g ∙ rw z })
 
       at_found : (z : Option End) → get_elem? m.ends (entry_for m h) ≡ z → Refused m block f ⊎ Taken m block f
       at_found none g = inl (record { why = refusal.NoEndPoint; is = found_as none g })
       at_found (some e) g = at_entry e g (verdict (tests h e)) refl
 
-    at_read : (r : Read) → header_of f ≡ r → Refused m block f ⊎ Taken m block f
-    at_read (read.Refused w) q = inl (record { why = w; is = read_as (read.Refused w) q ∙ refused_read w })
-    at_read (read.Frame h) q = at_found h q (get_elem? m.ends (entry_for m h)) refl
+    at_read : (r : Result Header Refusal) → header_of f ≡ r → Refused m block f ⊎ Taken m block f
+    at_read (Err w) q = inl (record { why = w; is = read_as (Err w) q ∙ refused_read w })
+    at_read (Ok h) q = at_found h q (get_elem? m.ends (entry_for m h)) refl
 
   at_frame : (v : Verdict) → verdict frame_tests ≡ v → Refused m block f ⊎ Taken m block f
-  at_frame verdicts.Passed p = at_read p (header_of f) refl
-  at_frame (verdicts.Refused w) p = inl (record { why = w; is = by_header ∙ rw p })
+  at_frame (Ok _) p = at_read p (header_of f) refl
+  at_frame (Err w) p = inl (record { why = w; is = by_header ∙ rw p })
 
   arrival : Refused m block f ⊎ Taken m block f
   arrival = at_frame (verdict frame_tests) refl
@@ -126,7 +123,7 @@ not_on : (m : Machine) (block f : List ℕ) (a : Taken m block f) (i : ℕ) → 
     → On m (arrives block f) i → ⊥
 not_on m block f a i d (h, q, z) = d (sym z ∙ ap (entry_for m) (same (sym q ∙ a.head)))
   where
-    same : read.Frame h ≡ read.Frame a.header → h ≡ a.header
+    same : ◌≡◌ {A = Result Header Refusal} (Ok h) (Ok a.header) → h ≡ a.header
     same e = cc
 
 -- ---- what is taken in is done
@@ -179,7 +176,7 @@ module _ (K : Watch) (t : List ℕ) (m : Machine) (S : Sound t m) (i : ℕ) (e :
 
     -- what is seen of it
     abbrev came : K.Seen
-    came = K.inward (read.Frame a.header) (payload_of f) o.answer.out
+    came = K.inward (Ok a.header) (payload_of f) o.answer.out
 
     arrives_is : step m (arrives block f) ≡ o
     unfolding step

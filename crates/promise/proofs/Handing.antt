@@ -18,7 +18,6 @@ use Rattle.table.specs.Layout.{entry_of}
 use Rattle.frame.specs.Faults.{refused_of}
 use Rattle.frame.specs.Reading.{sound_of, read_of}
 use Rattle.frame.specs.declared.Header.{Header}
-use Rattle.frame.specs.declared.Read.TheVariants as read
 use Rattle.end_points.specs.States.{is_sends}
 use Rattle.good.proofs.Stores.{read_own}
 use Rattle.machine.specs.Calls.{hands_out}
@@ -34,6 +33,7 @@ use Rattle.machine.proofs.Apart.{gone_leaves}
 use Rattle.promise.specs.Seen.{names}
 use Rattle.promise.proofs.Entries.{some_same, names_own, names_other}
 use Rattle.promise.proofs.Watched.{Watch, owed, Step, seen_as, still, untouched, refused_done}
+use Rattle.std.specs.Prelude.{Ok, Err}
 
 -- ---- what goes out
 
@@ -64,8 +64,8 @@ header_out m q e s =
     }
 
 out_reads : (m : Machine) (q : Sort) (e : End) (s : ℕ) (f : List ℕ) → ReadsAs m q e s f
-    → read_of f ≡ read.Frame (header_out m q e s)
-out_reads m q e s f r = r.reads ∙ ap read.Frame header_is
+    → read_of f ≡ Ok (header_out m q e s)
+out_reads m q e s f r = r.reads ∙ ap Ok header_is
   where
     parts : (h : Header) → h ≡ record {
       destination = h.destination;
@@ -86,7 +86,7 @@ out_reads m q e s f r = r.reads ∙ ap read.Frame header_is
 frame_in : (buffer f : List ℕ) → length f ≤ length buffer → take (length f) (sets buffer 0 f) ≡ f
 frame_in buffer f h = read_own buffer f 0 (omega (arith, h))
 
-read_nothing : read_of [] ≡ read.Refused refusal.BadFrame
+read_nothing : read_of [] ≡ Err refusal.BadFrame
 unfolding read_of sound_of
 read_nothing = refl
 
@@ -113,7 +113,7 @@ module _ (K : Watch) (t : List ℕ) (m : Machine) (S : Sound t m) (i : ℕ) (e :
 
     -- what is seen of it
     abbrev went : K.Seen
-    went = K.outward (read.Frame (header_out m q x s)) (carried q x s)
+    went = K.outward (Ok (header_out m q x s)) (carried q x s)
 
     seen : K.seen (hands_out buffer) o.answer ≡ went
     unfolding ReadsBack

@@ -10,7 +10,6 @@ use native.Mathlib.Omega.{arith}
 use lib.ListN.{length, take, replicate, get_elem?, length-append, length-replicate}
 use lib.Seq.{length-take-le, take_at}
 use Rattle.units.specs.Sizes.{is_size}
-use Rattle.units.specs.declared.refusals.Verdict.TheVariants.{Passed}
 use Rattle.memory.specs.Layout.{node_words, book_halves}
 use Rattle.waiting.specs.Order.{acks_in}
 use Rattle.table.specs.Layout.{count_of, entry_of}
@@ -54,6 +53,7 @@ use Rattle.promise.proofs.ReceiverCalls.{r_watch, RStep, r_opens, r_closes_it, r
 use Rattle.promise.proofs.ReceiverArrives.{r_arrives}
 use Rattle.promise.proofs.ReceiverHands.{r_hands}
 use Rattle.promise.proofs.ReceiverTicks.{r_ticks}
+use Rattle.std.specs.Prelude.{Ok}
 
 -- ---- every call is a step
 
@@ -114,7 +114,7 @@ set_up t i h n u =
 zeros : ℕ → Lent
 zeros room = record { node = replicate node_words 0; book = replicate book_halves 0; store = replicate room 0; out = [] }
 
-zeros_up : (t : List ℕ) (m : Machine) → (u : SetUp t m) → nodes.SetUp t (kept (setup_after (zeros u.room) t Passed))
+zeros_up : (t : List ℕ) (m : Machine) → (u : SetUp t m) → nodes.SetUp t (kept (setup_after (zeros u.room) t (Ok tt)))
 unfolding SetupAnswers zeros
 zeros_up t m u =
     record {
@@ -129,7 +129,7 @@ zeros_up t m u =
 begun_up : (t : List ℕ) (i : ℕ) → i < count_of t → (m : Machine) → SetUp t m → (n : Memory) × At t i n m
 unfolding setup_after zeros
 begun_up t i h m u =
-    let n = kept (setup_after (zeros u.room) t Passed) in
+    let n = kept (setup_after (zeros u.room) t (Ok tt)) in
     let is = ap (begun t) (length-replicate {A = ℕ} u.room 0) ∙ sym u.is in
     (n, subst (At t i n) is (set_up t i h n (zeros_up t m u)))
 

@@ -16,8 +16,6 @@ use Rattle.frame.specs.Faults.{refused_of}
 use Rattle.frame.specs.Layout.{payload_of}
 use Rattle.frame.specs.Reading.{read_of}
 use Rattle.frame.specs.declared.FrameType.{FrameType}
-use Rattle.frame.specs.declared.Read.{Read}
-use Rattle.frame.specs.declared.Read.TheVariants as read
 use Rattle.end_points.specs.States.{is_sends}
 use Rattle.end_points.specs.declared.State.TheVariants.{Closed, Enabled}
 use Rattle.machine.specs.Calls.{Call, opens, closes, counts, sends, urges, arrives, hands_out, reports, Answer}
@@ -34,6 +32,8 @@ use Rattle.machine.proofs.Apart.{others_stay}
 use Rattle.promise.specs.Seen.{is_done, frame_in}
 use Rattle.promise.specs.Link.{owed_to}
 use Rattle.promise.proofs.Owing.{owed_share}
+use Rattle.std.specs.Prelude.{Result, Err}
+use Rattle.frame.specs.declared.Header.{Header}
 
 -- ---- what is to be shown
 
@@ -47,13 +47,13 @@ pub record Watch : Type 1 where
   pub view : End → List ℕ → View  -- the entry's end, with the acknowledgements that wait for it
   pub seen : Call → Answer → Seen
   -- of an arrival and of handing out: by the frame as it reads, its payload, and the host's block
-  pub inward : Read → List ℕ → List ℕ → Seen
-  pub outward : Read → List ℕ → Seen
+  pub inward : Result Header Refusal → List ℕ → List ℕ → Seen
+  pub outward : Result Header Refusal → List ℕ → Seen
   pub comes : (block f : List ℕ) (a : Answer)
       → seen (arrives block f) a ≡ pick (is_done a.numbers) (inward (read_of f) (payload_of f) a.out) quiet
   pub goes : (buffer : List ℕ) (a : Answer) → seen (hands_out buffer) a
       ≡ pick (is_done a.numbers) (outward (read_of (frame_in a)) (payload_of (frame_in a))) quiet
-  pub unread : (w : Refusal) (p : List ℕ) → outward (read.Refused w) p ≡ quiet
+  pub unread : (w : Refusal) (p : List ℕ) → outward (Err w) p ≡ quiet
 
 -- the acknowledgements that wait for entry i
 abbrev pub owed : ℕ → Machine → List ℕ

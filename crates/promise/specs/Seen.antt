@@ -1,13 +1,11 @@
 -- What a bystander sees of a call at the sender's or the receiver's node: nothing is read but the call, the numbers
 -- that it answered, and the bytes of frames and blocks. Cited by the promise. Assumes nothing.
-use Rattle.std.specs.Prelude.{ℕ, ◌/◌, ◌%◌, ◌^◌, Bool, false, ◌&&◌, List, [], ◌∷◌, take, get_or, eqb}
+use Rattle.std.specs.Prelude.{ℕ, ◌/◌, ◌%◌, ◌^◌, Bool, false, ◌&&◌, List, [], ◌∷◌, take, get_or, eqb, Result, Ok, Err}
 use Rattle.units.specs.Refusals.{pick}
 use Rattle.table.specs.declared.Entry.{Entry}
 use Rattle.frame.specs.Layout.{payload_of}
 use Rattle.frame.specs.Reading.{read_of}
 use Rattle.frame.specs.declared.Header.{Header}
-use Rattle.frame.specs.declared.Read.{Read}
-use Rattle.frame.specs.declared.Read.TheVariants as read
 use Rattle.frame.specs.declared.FrameType.{FrameType}
 use Rattle.frame.specs.declared.FrameType.TheVariants as type
 use Rattle.end_points.specs.declared.State.{State}
@@ -18,6 +16,7 @@ use Rattle.machine.specs.Calls.{Answer}
 use Rattle.promise.specs.History.{Pay, SState, s_closed, s_enabled, s_open, s_failing}
 use Rattle.promise.specs.History.{SSeen, s_quiet, s_accepts, s_resets, s_sends, s_hears, s_ends}
 use Rattle.promise.specs.History.{RSeen, r_quiet, r_acks, r_resets, r_takes, r_closes}
+use Rattle.units.specs.declared.refusals.Refusal.{Refusal}
 
 -- ---- a call and what came back
 
@@ -60,13 +59,13 @@ s_went e h p type.Acknowledge = s_quiet
 s_went e h p type.Reset = pick (names e h.destination.0 h.channel.0) s_resets s_quiet
 s_went e h p type.Urgent = s_quiet
 
-abbrev pub s_in : Entry → Read → SSeen
-s_in e (read.Frame h) = s_came e h h.kind
-s_in e (read.Refused w) = s_quiet
+abbrev pub s_in : Entry → Result Header Refusal → SSeen
+s_in e (Ok h) = s_came e h h.kind
+s_in e (Err w) = s_quiet
 
-abbrev pub s_out : Entry → Read → List ℕ → SSeen
-s_out e (read.Frame h) p = s_went e h p h.kind
-s_out e (read.Refused w) p = s_quiet
+abbrev pub s_out : Entry → Result Header Refusal → List ℕ → SSeen
+s_out e (Ok h) p = s_went e h p h.kind
+s_out e (Err w) p = s_quiet
 
 -- what a call was for the sender's entry e, its i-th; a refused one is nothing to it [P1, P2, P6]
 unfoldable pub s_seen : Entry → ℕ → Call → Answer → SSeen
@@ -96,13 +95,13 @@ r_went e h type.Acknowledge = pick (names e h.destination.0 h.channel.0) (r_acks
 r_went e h type.Reset = r_quiet
 r_went e h type.Urgent = r_quiet
 
-abbrev pub r_in : Entry → Read → List ℕ → List Pay → RSeen
-r_in e (read.Frame h) p given = r_came e h p given h.kind
-r_in e (read.Refused w) p given = r_quiet
+abbrev pub r_in : Entry → Result Header Refusal → List ℕ → List Pay → RSeen
+r_in e (Ok h) p given = r_came e h p given h.kind
+r_in e (Err w) p given = r_quiet
 
-abbrev pub r_out : Entry → Read → RSeen
-r_out e (read.Frame h) = r_went e h h.kind
-r_out e (read.Refused w) = r_quiet
+abbrev pub r_out : Entry → Result Header Refusal → RSeen
+r_out e (Ok h) = r_went e h h.kind
+r_out e (Err w) = r_quiet
 
 -- what a call was for the receiver's entry e, its j-th [P2, P3, P6]
 unfoldable pub r_seen : Entry → ℕ → Call → Answer → RSeen

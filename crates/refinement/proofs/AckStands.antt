@@ -31,8 +31,6 @@ use Rattle.end_points.specs.declared.State.{State}
 use Rattle.end_points.specs.declared.State.TheVariants.{Closed, Enabled, Open, Failing}
 use Rattle.end_points.specs.declared.Run.{Run}
 use Rattle.end_points.specs.declared.EndPoint.{EndPoint}
-use Rattle.end_points.specs.declared.answers.Arrived.{Arrived}
-use Rattle.end_points.specs.declared.answers.Arrived.TheVariants.{At}
 use Rattle.end_points.specs.declared.answers.Was.TheVariants.{Ignored, Acknowledged, Opened}
 use Rattle.slots.specs.Slots.{cell, past, timer_in, retries_in}
 use Rattle.timing.specs.Timing.{clock_in, roused}
@@ -68,9 +66,12 @@ use Rattle.refinement.proofs.Waiting.{silent_steady, windows_other, lists_are, w
 use Rattle.refinement.proofs.Following.{state_in, low_at, stated_at, stated_then, item_for, item_at}
 use Rattle.refinement.proofs.Passing.{start_past}
 use Rattle.refinement.proofs.Numbers.{counts_is, run_is, numbers_then}
+use Rattle.std.specs.Prelude.{Result, Ok}
+use Rattle.end_points.specs.declared.answers.Arrival.{Arrival}
+use Rattle.units.specs.declared.refusals.Refusal.{Refusal}
 
 -- what a frame that is taken in came to, and what the machine makes of it
-pub record Takes (t : List ℕ) (o : Outcome) (a : Arrived) (x : Lent) : Type 0 where
+pub record Takes (t : List ℕ) (o : Outcome) (a : Result Arrival Refusal) (x : Lent) : Type 0 where
   pub numbers : arrived_of a ≡ o.answer.numbers
   pub out : x.out ≡ o.answer.out
   pub stands : Stands t (kept x) o.machine
@@ -155,7 +156,7 @@ module _ (t : List ℕ) (n : Memory) (l : Lists) (g : Good t n.node n.book l) (r
   cell_small : c₀ < all_cells
   cell_small = cell_low i low w window s
 
-  same : Takes t (answers (0 ∷ 0 ∷ i ∷ []) block M) (At i Ignored) x
+  same : Takes t (answers (0 ∷ 0 ∷ i ∷ []) block M) (Ok (record { entry = i; was = Ignored })) x
   same = record { numbers = refl; out = refl; stands = still g room }
 
   left : (z : State) → e.state ≡ z → Leaves t n (kept (now z)) l i
@@ -485,23 +486,23 @@ module _ (t : List ℕ) (n : Memory) (l : Lists) (g : Good t n.node n.book l) (r
   counts_as : (z : State) (f : End → Machine) → Sending n.book i e.run e.entry.largest
       → (memory.counts e.run s ≡ false → now z ≡ x)
       → (memory.counts e.run s ≡ true → (acked_run noted ≡ p) × Stands t (kept (now z)) (f passed))
-      → Takes t (machine.acked M block i E s f) (At i (pick (memory.counts e.run s) (Acknowledged p) Ignored)) (now z)
+      → Takes t (machine.acked M block i E s f) (Ok (record { entry = i; was = pick (memory.counts e.run s) (Acknowledged p) Ignored })) (now z)
   counts_as z f S stays counts = rw (← counts_is L zero_left n.store n.book i e s S) (sides (memory.counts e.run s) refl)
     where
       sides : (y : Bool) → memory.counts e.run s ≡ y
           → Takes t (pick y (answers (0 ∷ 1 ∷ i ∷ acked_run noted ∷ []) block (f passed)) (answers (0 ∷ 0 ∷ i ∷ []) block M))
-          (At i (pick y (Acknowledged p) Ignored)) (now z)
+          (Ok (record { entry = i; was = pick y (Acknowledged p) Ignored })) (now z)
       sides true c =
           record { numbers = ap (λ (k : ℕ). 0 ∷ 1 ∷ i ∷ k ∷ []) (sym (counts c).0); out = refl; stands = (counts c).1 }
       sides false c = rw (stays c) same
 
-  takes_in : (z : State) → e.state ≡ z → Takes t (acking M block i E s (state_in L n.store n.book i e z)) (At i (ack_answer e z s)) (now z)
+  takes_in : (z : State) → e.state ≡ z → Takes t (acking M block i E s (state_in L n.store n.book i e z)) (Ok (record { entry = i; was = ack_answer e z s })) (now z)
   unfolding acking ack_answer ack_node ack_book
   takes_in Closed q = same
   takes_in (Enabled timer₀ sent) q = sides (sent && eqb s 0) refl
     where
       sides : (z : Bool) → (sent && eqb s 0) ≡ z
-          → Takes t (acking M block i E s (state_in L n.store n.book i e (Enabled timer₀ sent))) (At i (ack_answer e (Enabled timer₀ sent) s)) (now (Enabled timer₀ sent))
+          → Takes t (acking M block i E s (state_in L n.store n.book i e (Enabled timer₀ sent))) (Ok (record { entry = i; was = ack_answer e (Enabled timer₀ sent) s })) (now (Enabled timer₀ sent))
       sides true c = rw c (record { numbers = refl; out = refl; stands = rw c at (opened_stands timer₀ sent q c) })
       sides false c = rw c same
   takes_in Open q =
@@ -510,6 +511,6 @@ module _ (t : List ℕ) (n : Memory) (l : Lists) (g : Good t n.node n.book l) (r
       counts_as (Failing m) (λ E. turned i (stated (Failing (running E.numbers)) E) M)
       (stated_at g li true kind (Failing m) q).sending (λ c. rw c) (λ c. failing_counts c m q)
 
-  pub ack_takes : Takes t (acking M block i E s E.state) (At i (ack_answer e e.state s)) (ack_after x i e e.state s)
+  pub ack_takes : Takes t (acking M block i E s E.state) (Ok (record { entry = i; was = ack_answer e e.state s })) (ack_after x i e e.state s)
   unfolding end_for
   ack_takes = takes_in e.state refl

@@ -8,12 +8,10 @@ use native.Mathlib.Omega.{arith}
 use lib.ListN.{length, get_or, length-map}
 use lib.Dec.{ltb}
 use borrow.Author.Tests.{lt-leb, le-leb, lt-ltb, le-ltb, not-false, ltb-false, leb-false}
-use Rattle.units.specs.Refusals.{pick, verdict}
+use Rattle.units.specs.Refusals.{pick, verdict, Verdict}
 use Rattle.units.specs.declared.Address.{Address}
 use Rattle.units.specs.declared.refusals.Refusal.{Refusal}
 use Rattle.units.specs.declared.refusals.Refusal.TheVariants as refusal
-use Rattle.units.specs.declared.refusals.Verdict.{Verdict}
-use Rattle.units.specs.declared.refusals.Verdict.TheVariants.{Passed, Refused}
 use Rattle.units.proofs.Judging.{clear}
 use Rattle.waiting.specs.Acks.{place_of as oldest_place, waiting_of}
 use Rattle.waiting.specs.Order.{acks_in}
@@ -24,8 +22,6 @@ use Rattle.frame.specs.Faults.{refused_of}
 use Rattle.frame.specs.Layout.{payload_of}
 use Rattle.frame.specs.Reading.{sound_of, header_of, read_of}
 use Rattle.frame.specs.declared.Header.{Header}
-use Rattle.frame.specs.declared.Read.{Read}
-use Rattle.frame.specs.declared.Read.TheVariants as read
 use Rattle.frame.specs.declared.FrameType.{FrameType}
 use Rattle.frame.specs.declared.FrameType.TheVariants as type
 use Rattle.frame.specs.Types.{for_sender, carries, answered}
@@ -35,8 +31,6 @@ use Rattle.end_points.specs.States.{is_sends, is_open}
 use Rattle.end_points.specs.Lent.{Lent}
 use Rattle.end_points.specs.declared.State.TheVariants.{Open}
 use Rattle.end_points.specs.declared.EndPoint.{EndPoint}
-use Rattle.end_points.specs.declared.answers.Arrived.{Arrived}
-use Rattle.end_points.specs.declared.answers.Arrived.TheVariants as arrived
 use Rattle.arrive_lookup.specs.Lookup.{first_from, entry_for}
 use Rattle.arrive_lookup.specs.Fitting.{fits}
 use Rattle.arrive_lookup.proofs.First.{first_is}
@@ -58,6 +52,8 @@ use Rattle.machine.proofs.Listed.{length_listed, get_d_listed, elem_listed, elem
 use Rattle.refinement.proofs.Following.{closed_for, open_for, size_is}
 use Rattle.refinement.proofs.AckStands.{Takes, ack_takes}
 use Rattle.refinement.proofs.ReceiveStands.{urgent_takes, reset_takes, data_takes}
+use Rattle.std.specs.Prelude.{Result, Ok, Err}
+use Rattle.end_points.specs.declared.answers.Arrival.{Arrival}
 
 -- ---- the first that fits
 
@@ -142,13 +138,13 @@ module _ (t : List ℕ) (n : Memory) (l : Lists) (g : Good t n.node n.book l) (r
 
   -- ---- refused
 
-  refuse : (w : Refusal) → Takes t (answers (refused_of w) block M) (arrived.Refused w) x
+  refuse : (w : Refusal) → Takes t (answers (refused_of w) block M) (Err w) x
   refuse w = record { numbers = refl; out = refl; stands = record { lists = l; good = g; room = room; is = refl } }
 
-  judge : (v : Verdict) (o : Outcome) (a : Arrived) (y : Lent) → (v ≡ Passed → Takes t o a y)
+  judge : (v : Verdict) (o : Outcome) (a : Result Arrival Refusal) (y : Lent) → (v ≡ Ok tt → Takes t o a y)
       → Takes t (judged v block M o) (answer_as v a) (after_as v x y)
-  judge Passed o a y h = h refl
-  judge (Refused w) o a y h = refuse w
+  judge (Ok _) o a y h = h refl
+  judge (Err w) o a y h = refuse w
 
   -- ---- at entry i
 
@@ -163,7 +159,7 @@ module _ (t : List ℕ) (n : Memory) (l : Lists) (g : Good t n.node n.book l) (r
     e = end_of n.node i
 
     abbrev TakesAs : FrameType → Type 0
-    TakesAs q = Takes t (taken_in M block i (end_at n i) q h.seq.0 p) (arrived.At i (taken_in_answer x i e q h.seq.0 p)) (taken_in_after x i e q h.seq.0 p)
+    TakesAs q = Takes t (taken_in M block i (end_at n i) q h.seq.0 p) (Ok (record { entry = i; was = taken_in_answer x i e q h.seq.0 p })) (taken_in_after x i e q h.seq.0 p)
 
     took : (q : FrameType) → is_sends e.entry.kind ≡ for_sender q → (carries q ≡ true → e.state ≡ Open)
         → (carries q ≡ true → length p ≤ e.entry.largest) → (carries q ≡ true → 1 ≤ length p)
@@ -183,7 +179,7 @@ module _ (t : List ℕ) (n : Memory) (l : Lists) (g : Good t n.node n.book l) (r
     unfolding end_for
     same = rw (closed_for (read_at n) n.store n.book i e e.state, open_for (read_at n) n.store n.book i e e.state, waiting_is, lt-leb (count_in n.node) i li, g.tabled.need, size_is g li)
 
-    passed : entry_verdict x i h ≡ Passed → TakesAs h.kind
+    passed : entry_verdict x i h ≡ Ok tt → TakesAs h.kind
     passed v =
         let c = clear (memory.entry_tests n.node i e h.kind h.length (length n.store) (length block)) v in
         took h.kind kind
@@ -202,11 +198,11 @@ module _ (t : List ℕ) (n : Memory) (l : Lists) (g : Good t n.node n.book l) (r
   -- ---- the call
 
   module _ (f : List ℕ) (bytes : Bytes f) where
-    whole_read : (h : Header) → sound_of f ≡ true → header_of f ≡ read.Frame h → read_of f ≡ read.Frame h
+    whole_read : (h : Header) → sound_of f ≡ true → header_of f ≡ Ok h → read_of f ≡ Ok h
     unfolding header_of read_of
     whole_read h s e = rw s e
 
-    no_end : (i : ℕ) (h : Header) → count_in n.node ≤ i → entry_verdict x i h ≡ Refused refusal.NoEndPoint
+    no_end : (i : ℕ) (h : Header) → count_in n.node ≤ i → entry_verdict x i h ≡ Err refusal.NoEndPoint
     no_end i h li = rw (le-leb (count_in n.node) i li)
 
     refused_at : (k : ℕ) (h : Header) (p : List ℕ) → count_in n.node ≤ k
@@ -218,18 +214,18 @@ module _ (t : List ℕ) (n : Memory) (l : Lists) (g : Good t n.node n.book l) (r
     unfolding entry_for end_of
     kinds h li = (found_fits n.node g.tabled.index (for_sender h.kind) h.source.0 h.channel.0 li).kind
 
-    abbrev Reads : Read → Type 0
+    abbrev Reads : Result Header Refusal → Type 0
     Reads v = Takes t (reading M block v (payload_of f)) (read_answer x v (payload_of f)) (read_after x v (payload_of f))
 
-    framed : (h : Header) → sound_of f ≡ true → header_of f ≡ read.Frame h
-        → Reads (read.Frame h)
+    framed : (h : Header) → sound_of f ≡ true → header_of f ≡ Ok h
+        → Reads (Ok h)
     unfolding reading read_answer read_after
     framed h sound e = sides (dec_lt (j h) (count_in n.node))
       where
-        r : read_of f ≡ read.Frame h
+        r : read_of f ≡ Ok h
         r = whole_read h sound e
 
-        sides : Dec (j h < count_in n.node) → Reads (read.Frame h)
+        sides : Dec (j h < count_in n.node) → Reads (Ok h)
         sides (yes hj) =
             let z = same_entry h hj in
             let li : i h < count_in n.node = rw z hj in
@@ -239,10 +235,10 @@ module _ (t : List ℕ) (n : Memory) (l : Lists) (g : Good t n.node n.book l) (r
             let far = no_entry h (omega arith) in
             rw (elem_none (count_of t) (end_at n) (j h) (omega (arith, count_is))) (refused_at (i h) h (payload_of f) far)
 
-    reads : (v : Read) → sound_of f ≡ true → header_of f ≡ v → Reads v
+    reads : (v : Result Header Refusal) → sound_of f ≡ true → header_of f ≡ v → Reads v
     unfolding reading read_answer read_after
-    reads (read.Refused w) sound e = refuse w
-    reads (read.Frame h) sound e = framed h sound e
+    reads (Err w) sound e = refuse w
+    reads (Ok h) sound e = framed h sound e
 
     frame_same : verdict ((not (sound_of f), refusal.BadFrame) ∷ (not (machine.is_ours M f), refusal.NotOurs) ∷ [])
         ≡ verdict (frame_tests n.node f)

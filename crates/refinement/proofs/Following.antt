@@ -9,11 +9,9 @@ use native.Mathlib.Omega.{arith}
 use lib.ListN.{length}
 use lib.Dec.{leb}
 use borrow.Author.Tests.{le-leb, lt-leb}
-use Rattle.units.specs.Refusals.{pick, verdict}
+use Rattle.units.specs.Refusals.{pick, verdict, Verdict}
 use Rattle.units.specs.declared.refusals.Refusal.{Refusal}
 use Rattle.units.specs.declared.refusals.Refusal.TheVariants.{NoEntry}
-use Rattle.units.specs.declared.refusals.Verdict.{Verdict}
-use Rattle.units.specs.declared.refusals.Verdict.TheVariants.{Passed, Refused}
 use Rattle.window.specs.Windows.{held, Good as GoodWindow}
 use Rattle.window.proofs.Sizes.{size_le}
 use Rattle.window.specs.declared.Window.{Window}
@@ -45,6 +43,7 @@ use Rattle.machine.specs.Machine.{End, Machine, Outcome, listed, anew, answers, 
 use Rattle.refinement.specs.Standing.{Reading, state_for, number_for, end_for, end_at, slot_item, stands_for, Stands, Follows}
 use Rattle.machine.proofs.Listed.{elem_listed, elem_none}
 use Rattle.refinement.proofs.Elsewhere.{none_held, Leaves, still}
+use Rattle.std.specs.Prelude.{Ok, Err}
 
 -- ---- a call on entry i that answers a verdict
 
@@ -55,8 +54,8 @@ pub follows : {t : List ℕ} {n : Memory} {l : Lists} → Good t n.node n.book l
     let v = verdict ((leb (count_in n.node) i, NoEntry) ∷ tests) in
     step m c ≡ on_entry m i f
     → (i < count_in n.node → f (end_at n i) ≡ judged (verdict tests) [] m o)
-    → ((w : Refusal) → v ≡ Refused w → (answer n c ≡ (answers (answer_of (Refused w)) [] m).answer) × (after n c ≡ n))
-    → (i < count_in n.node → v ≡ Passed → (answer n c ≡ o.answer) × Stands t (after n c) o.machine) → Follows t n m c
+    → ((w : Refusal) → v ≡ Err w → (answer n c ≡ (answers (answer_of (Err w)) [] m).answer) × (after n c ≡ n))
+    → (i < count_in n.node → v ≡ Ok tt → (answer n c ≡ o.answer) × Stands t (after n c) o.machine) → Follows t n m c
 follows {t} {n} {l} g room i {c} tests o f steps same refused passed = sides (dec_lt i (count_in n.node))
   where
     M : Machine
@@ -65,12 +64,12 @@ follows {t} {n} {l} g room i {c} tests o f steps same refused passed = sides (de
     v : Verdict
     v = verdict ((leb (count_in n.node) i, NoEntry) ∷ tests)
 
-    refuses : (w : Refusal) → v ≡ Refused w → step M c ≡ answers (answer_of (Refused w)) [] M → Follows t n M c
+    refuses : (w : Refusal) → v ≡ Err w → step M c ≡ answers (answer_of (Err w)) [] M → Follows t n M c
     refuses w h s = record { answers = rw s (refused w h).0; stands = rw (s, (refused w h).1) (still g room) }
 
     by : i < count_in n.node → (u : Verdict) → v ≡ u → step M c ≡ judged u [] M o → Follows t n M c
-    by li Passed h s = record { answers = rw s (passed li h).0; stands = rw s (passed li h).1 }
-    by li (Refused w) h s = refuses w h s
+    by li (Ok _) h s = record { answers = rw s (passed li h).0; stands = rw s (passed li h).1 }
+    by li (Err w) h s = refuses w h s
 
     sides : Dec (i < count_in n.node) → Follows t n M c
     sides (yes li) =

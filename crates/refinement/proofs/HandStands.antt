@@ -36,7 +36,6 @@ use Rattle.end_points.specs.Lent.{Lent}
 use Rattle.end_points.specs.declared.State.{State}
 use Rattle.end_points.specs.declared.State.TheVariants.{Enabled, Open}
 use Rattle.end_points.specs.declared.EndPoint.{EndPoint}
-use Rattle.end_points.specs.declared.answers.HandedOut.TheVariants as handed
 use Rattle.slots.specs.Slots.{cell, past, number_in, retries_in}
 use Rattle.timing.specs.Timing.{clock_in, left_of, standing}
 use Rattle.timing.proofs.Falling.{left_zero}
@@ -71,6 +70,7 @@ use Rattle.refinement.proofs.Elsewhere.{cells_but, cells_as, still, ported_stand
 use Rattle.refinement.proofs.Waiting.{item_of, waiting_is, queue_of, window_steady, waits_only, waits_less, lists_are}
 use Rattle.refinement.proofs.Following.{low_at, stated_at, unheld}
 use Rattle.refinement.proofs.Numbers.{handed_to, timer_under, number_is, timed_end}
+use Rattle.std.specs.Prelude.{Ok, Err}
 
 -- ---- what waits, by the tests that handing out makes
 
@@ -96,7 +96,7 @@ OutAs x x' l l' (next.Resend k) = ResendOut x x' l l' k
 OutAs x x' l l' (next.Data k) = DataOut x x' l l' k
 
 out_as : (x x' : Lent) (l l' : Lists) (d : Next) (n : ℕ) → next_out x.node x.book ≡ d
-    → hand_out_answer x ≡ handed.Length n → Handed x x' l l' → OutAs x x' l l' d
+    → hand_out_answer x ≡ Ok n → Handed x x' l l' → OutAs x x' l l' d
 out_as x x' l l' d n is fits (was.refused w z y) = absurd (let u : ◌≡◌ {A = ℕ} 0 1 = cc in omega arith)
 out_as x x' l l' d n is fits (was.nothing W z y) = subst (OutAs x x' l l') (sym W.sort ∙ is) tt
 out_as x x' l l' d n is fits (was.acked w W o) = subst (OutAs x x' l l') (sym W.sort ∙ is) (w, refl, o)
@@ -146,7 +146,7 @@ module _ (t : List ℕ) (n : Memory) (l : Lists) (g : Good t n.node n.book l) (r
   frame_any (next.Data k) a b = refl
 
   module _ (d : Next) (is : next_out n.node n.book ≡ d) where
-    fits : hand_out_answer (X d) ≡ handed.Length (length (frame_out (lent n []) d))
+    fits : hand_out_answer (X d) ≡ Ok (length (frame_out (lent n []) d))
     unfolding hand_out_answer
     fits =
         rw (
@@ -547,11 +547,11 @@ module _ (t : List ℕ) (n : Memory) (l : Lists) (g : Good t n.node n.book l) (r
 
         sides : (z : Bool) → ltb (length buffer) (length F) ≡ z → Follows t n M call
         sides true h =
-            let a : hand_out_answer x ≡ handed.Refused TooShort = answered d is ∙ ap (fitted buffer) (W.frame buffer) ∙ rw h in
+            let a : hand_out_answer x ≡ Err TooShort = answered d is ∙ ap (fitted buffer) (W.frame buffer) ∙ rw h in
             let m : step M call ≡ answers (6 ∷ []) buffer M = step_is ∙ rw h in
             record { answers = rw (a, m); stands = rw (a, m) (still g room) }
         sides false h =
-            let a : hand_out_answer x ≡ handed.Length (length F) = answered d is ∙ ap (fitted buffer) (W.frame buffer) ∙ rw h in
+            let a : hand_out_answer x ≡ Ok (length F) = answered d is ∙ ap (fitted buffer) (W.frame buffer) ∙ rw h in
             let m : step M call ≡ answers (0 ∷ length F ∷ []) (sets buffer 0 F) then = step_is ∙ rw h in
             record {
               answers = rw (a, is, m, W.frame buffer);
@@ -575,7 +575,7 @@ module _ (t : List ℕ) (n : Memory) (l : Lists) (g : Good t n.node n.book l) (r
     nothing : Hands (in_order M buffer []) next.Nothing
     unfolding answer after hand_out_after frame_out out_node out_book in_order
     nothing is s =
-        let a : hand_out_answer x ≡ handed.Length 0 = answered next.Nothing is ∙ rw (le-ltb (length buffer) 0 (omega arith)) in
+        let a : hand_out_answer x ≡ Ok 0 = answered next.Nothing is ∙ rw (le-ltb (length buffer) 0 (omega arith)) in
         record { answers = rw (a, is, s); stands = rw (a, is, s) (still g room) }
 
     hands : Follows t n M call
@@ -604,6 +604,6 @@ hand_follows t n l g room buffer = sides (ℕ_discrete (under_in n.book) 0)
     sides (no u) =
         let z = ne_eqb (under_in n.book) 0 u in
         let M = stands_for t n l in
-        let a : hand_out_answer (lent n buffer) ≡ handed.Refused UnderWay = rw z in
+        let a : hand_out_answer (lent n buffer) ≡ Err UnderWay = rw z in
         let m : step M (hands_out buffer) ≡ answers (19 ∷ []) buffer M = rw z in
         record { answers = rw (a, m); stands = rw (a, m) (still g room) }

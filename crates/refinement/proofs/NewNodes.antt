@@ -8,13 +8,9 @@ use lib.ListN.{length}
 use native.Mathlib.Omega.{arith}
 use lib.Dec.{leb, eqb}
 use borrow.Author.Tests.{le-leb, le-ltb}
-use Rattle.units.specs.Refusals.{pick, verdict}
-use Rattle.units.specs.declared.refusals.Verdict.{Verdict}
-use Rattle.units.specs.declared.refusals.Verdict.TheVariants.{Passed, Refused}
+use Rattle.units.specs.Refusals.{pick, verdict, Verdict}
 use Rattle.frame.specs.Layout.{payload_of}
 use Rattle.frame.specs.Reading.{header_of}
-use Rattle.frame.specs.declared.Read.{Read}
-use Rattle.frame.specs.declared.Read.TheVariants as read
 use Rattle.end_points.specs.Heads.{count_in}
 use Rattle.end_points.specs.Lent.{Lent}
 use Rattle.end_points.specs.Answers.{arrived_of}
@@ -32,6 +28,9 @@ use Rattle.machine.specs.Calls.{Call, opens, closes, counts, sends, urges, plans
 use Rattle.machine.specs.Machine.{Machine, Outcome, blank, opening, closing, counting, sending, urgent_sending, reading, arriving, going_out, in_order, handing_out, reported, reporting, each, bits_from, ticking, judged, step}
 use Rattle.refinement.specs.Standing.{NewIsBlank}
 use Rattle.refinement.proofs.PlanStands.{Does, plans_do}
+use Rattle.std.specs.Prelude.{Result, Ok, Err}
+use Rattle.frame.specs.declared.Header.{Header}
+use Rattle.units.specs.declared.refusals.Refusal.{Refusal}
 
 module _ (store : List ℕ) (c q : ℕ) where
   abbrev M : Machine
@@ -106,21 +105,21 @@ module _ (store : List ℕ) (c q : ℕ) where
     abbrev x : Lent
     x = lent new block
 
-    abbrev answered : Verdict → Read → Answer
+    abbrev answered : Verdict → Result Header Refusal → Answer
     answered v r =
         record {
           numbers = arrived_of (memory.answer_as v (memory.read_answer x r (payload_of f)));
           out = (memory.after_as v x (memory.read_after x r (payload_of f))).out;
         }
 
-    abbrev outcome : Verdict → Read → Outcome
+    abbrev outcome : Verdict → Result Header Refusal → Outcome
     outcome v r = judged v block M (reading M block r (payload_of f))
 
-    refused : (v : Verdict) (r : Read) → (answered v r ≡ (outcome v r).answer) × ((outcome v r).machine ≡ M)
+    refused : (v : Verdict) (r : Result Header Refusal) → (answered v r ≡ (outcome v r).answer) × ((outcome v r).machine ≡ M)
     unfolding reading memory.read_answer memory.read_after memory.entry_answer memory.entry_after
-    refused (Refused w) r = (refl, refl)
-    refused Passed (read.Refused w) = (refl, refl)
-    refused Passed (read.Frame h) = (rw (none (memory.entry_of x h)), refl)
+    refused (Err w) r = (refl, refl)
+    refused (Ok _) (Err w) = (refl, refl)
+    refused (Ok _) (Ok h) = (rw (none (memory.entry_of x h)), refl)
 
     arrives_same : same (arrives block f)
     unfolding answer step arriving memory.arrival_answer memory.arrival_after

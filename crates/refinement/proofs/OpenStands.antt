@@ -5,7 +5,6 @@ use mathlib.Core.Bool.{Bool, true, false, not}
 use mathlib.Core.List.{List, [], ◌∷◌}
 use lib.ListN.{length}
 use Rattle.units.specs.Refusals.{pick}
-use Rattle.units.specs.declared.refusals.Verdict.TheVariants.{Passed}
 use Rattle.units.specs.declared.refusals.Refusal.TheVariants.{WrongState, OtherKind}
 use Rattle.memory.specs.Layout as layout
 use Rattle.waiting.specs.Queues.{appended}
@@ -35,6 +34,7 @@ use Rattle.refinement.specs.Standing.{read_at, end_for, end_at, stands_for, Stan
 use Rattle.refinement.proofs.Elsewhere.{Leaves, leaves, end_at_holds, turned_stands, still}
 use Rattle.refinement.proofs.Waiting.{silent_steady, waits_still, waits_reset, sender_acks, silent_stands}
 use Rattle.refinement.proofs.Following.{closed_for, low_at, stated_at, follows, begun_end, enabled_end, stated_then}
+use Rattle.std.specs.Prelude.{Ok}
 
 module _ (t : List ℕ) (n : Memory) (l : Lists) (g : Good t n.node n.book l) (room : store_of t ≤ length n.store) (i : ℕ) where
   abbrev M : Machine
@@ -45,7 +45,7 @@ module _ (t : List ℕ) (n : Memory) (l : Lists) (g : Good t n.node n.book l) (r
 
   -- ---- open
 
-  module _ (li : i < count_in n.node) (h : open_answer (bare n) i ≡ Passed) where
+  module _ (li : i < count_in n.node) (h : open_answer (bare n) i ≡ Ok tt) where
     abbrev now : Memory
     now = kept_bare n (open_after (bare n) i (open_answer (bare n) i))
 
@@ -85,7 +85,7 @@ module _ (t : List ℕ) (n : Memory) (l : Lists) (g : Good t n.node n.book l) (r
 
   -- ---- close
 
-  module _ (li : i < count_in n.node) (h : close_answer (bare n) i ≡ Passed) where
+  module _ (li : i < count_in n.node) (h : close_answer (bare n) i ≡ Ok tt) where
     abbrev now_c : Memory
     now_c = kept_bare n (close_after (bare n) i (close_answer (bare n) i))
 
@@ -126,5 +126,5 @@ module _ (t : List ℕ) (n : Memory) (l : Lists) (g : Good t n.node n.book l) (r
   unfolding answer after counts_answer step counting end_for
   counts_follow =
       follows g room i ((not (is_sends e.entry.kind), OtherKind) ∷ [])
-      (answers (counted_of (counted_as Passed e.run)) [] M) _ refl (λ li. refl)
+      (answers (counted_of (counted_as (Ok tt) e.run)) [] M) _ refl (λ li. refl)
       (λ w h. (rw h, refl)) (λ li h. (rw h, still g room))

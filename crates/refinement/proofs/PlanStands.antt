@@ -5,21 +5,21 @@ use mathlib.Core.Bool.{Bool, true, false, true≢false, not}
 use mathlib.Core.List.{List, [], ◌∷◌}
 use lib.ListN.{get_or}
 use lib.Dec.{eqb}
-use Rattle.units.specs.Refusals.{pick}
+use Rattle.units.specs.Refusals.{pick, Verdict}
 use Rattle.units.specs.declared.refusals.Refusal.TheVariants as refusal
-use Rattle.units.specs.declared.refusals.Verdict.{Verdict}
-use Rattle.units.specs.declared.refusals.Verdict.TheVariants.{Passed, Refused}
 use Rattle.units.proofs.Judging.{refused_not_zero}
 use Rattle.blocks.specs.Reading.{is_plan, read_block}
 use Rattle.end_points.specs.Answers.{answer_of, planned_of}
 use Rattle.end_points.specs.Lent.{Lent}
-use Rattle.end_points.specs.declared.answers.Planned.TheVariants as planned
 use Rattle.call_send.specs.Sending.{send_answer, send_after}
 use Rattle.call_plan.specs.Planning.{InOrder, goes_on, sent_in_order, sent_block, plan_answer, plan_after}
 use Rattle.good.specs.Calls.{Memory, lent, kept, answer, after}
 use Rattle.good.proofs.Planned.{lent_kept}
 use Rattle.machine.specs.Calls.{Call, sends, plans, Answer}
 use Rattle.machine.specs.Machine.{Machine, Outcome, answers, unless, sending, accepts, sending_all, planning, step}
+use Rattle.std.specs.Prelude.{Result, Ok, Err}
+use Rattle.units.specs.declared.refusals.Refusal.{Refusal}
+use Rattle.end_points.specs.declared.answers.Plan.{Plan}
 
 -- what a memory stands for, in whatever sense: where every send keeps to it and answers as the machine's, so does a plan
 module _ (R : Memory → Machine → Type 0) (i : ℕ) where
@@ -29,7 +29,7 @@ module _ (R : Memory → Machine → Type 0) (i : ℕ) where
   module _ (send : (n : Memory) (m : Machine) (p : List ℕ) → R n m → Does n m (sends i p)) where
     abbrev Same : InOrder → Outcome → Type 0
     Same s o =
-        (record { numbers = planned_of (planned.Accepted s.accepted s.stop); out = [] } ≡ o.answer)
+        (record { numbers = planned_of (Ok (record { accepted = s.accepted; stop = s.stop })); out = [] } ≡ o.answer)
         × R (kept s.left) o.machine
 
     same : (n : Memory) (m : Machine) (k : ℕ) (ps : List (List ℕ)) → R n m → Same (sent_in_order (lent n []) i k ps) (sending_all m i k ps)
@@ -50,11 +50,11 @@ module _ (R : Memory → Machine → Type 0) (i : ℕ) where
             → (others : InOrder) → Same others (sending_all o.machine i (k + 1) ps)
             → Same (goes_on v k y others)
             (pick b (sending_all o.machine i (k + 1) ps) (answers (0 ∷ k ∷ o.answer.numbers) [] o.machine))
-        sides Passed true y a h r others e = e
-        sides Passed false y a h r others e = absurd (true≢false (ap (λ (l : List ℕ). eqb (get_or l 0 0) 0) a ∙ h))
-        sides (Refused w) true y a h r others e =
+        sides (Ok _) true y a h r others e = e
+        sides (Ok _) false y a h r others e = absurd (true≢false (ap (λ (l : List ℕ). eqb (get_or l 0 0) 0) a ∙ h))
+        sides (Err w) true y a h r others e =
             absurd (true≢false (sym h ∙ sym (ap (λ (l : List ℕ). eqb (get_or l 0 0) 0) a) ∙ refused_not_zero w))
-        sides (Refused w) false y a h r others e = (ap (λ (l : List ℕ). record { numbers = 0 ∷ k ∷ l; out = [] }) a, r)
+        sides (Err w) false y a h r others e = (ap (λ (l : List ℕ). record { numbers = 0 ∷ k ∷ l; out = [] }) a, r)
 
     pub plans_do : (n : Memory) (m : Machine) (block : List ℕ) → R n m → Does n m (plans i block)
     unfolding answer after step planning plan_answer plan_after
@@ -65,7 +65,7 @@ module _ (R : Memory → Machine → Type 0) (i : ℕ) where
 
         sides : (b : Bool) →
             let s = sent_block x i block in
-            let a = pick b (planned.Accepted s.accepted s.stop) (planned.Refused refusal.BadBlock) in
+            let a = pick {A = Result Plan Refusal} b (Ok (record { accepted = s.accepted; stop = s.stop })) (Err refusal.BadBlock) in
             let o = unless ((not b, refusal.BadBlock) ∷ []) [] m (sending_all m i 0 (read_block block)) in
             (record { numbers = planned_of a; out = [] } ≡ o.answer) × R (kept (plan_after x i block a)) o.machine
         sides true = same n m 0 (read_block block) r

@@ -34,7 +34,6 @@ use Rattle.end_points.specs.declared.State.{State}
 use Rattle.end_points.specs.declared.State.TheVariants.{Open}
 use Rattle.end_points.specs.declared.EndPoint.{EndPoint}
 use Rattle.end_points.specs.declared.answers.Was.TheVariants as was
-use Rattle.end_points.specs.declared.answers.Arrived.TheVariants.{At}
 use Rattle.slots.specs.Slots.{slot_for, cell, past}
 use Rattle.blocks.specs.Blocks.{block_of, takes}
 use Rattle.arrive_data.specs.Receiving as memory
@@ -66,6 +65,7 @@ use Rattle.refinement.proofs.Passing.{start_past}
 use Rattle.refinement.proofs.Places.{count_is, new_is, payloads_listed, delivered_is, places_then}
 use Rattle.refinement.proofs.AckStands.{Takes}
 use Rattle.refinement.proofs.Sounding.{sound_at}
+use Rattle.std.specs.Prelude.{Ok}
 
 -- an acknowledgement of s by entry i
 ack_item_holds : (i s : ℕ) → i < 16 → s < 256 → ack_item (i * 256 + s) ≡ record { entry = i; number = s }
@@ -120,7 +120,7 @@ module _ (t : List ℕ) (n : Memory) (l : Lists) (g : Good t n.node n.book l) (r
   -- ---- an Urgent
 
   pub urgent_takes : (p : List ℕ) → length p ≤ e.entry.largest → block_room e ≤ length block
-      → Takes t (delivering i was.Urgent (p ∷ []) block M) (At i (urgent_answer block p)) (urgent_after x p)
+      → Takes t (delivering i was.Urgent (p ∷ []) block M) (Ok (record { entry = i; was = urgent_answer block p })) (urgent_after x p)
   unfolding urgent_answer urgent_after
   urgent_takes p most roomy =
       record {
@@ -163,7 +163,7 @@ module _ (t : List ℕ) (n : Memory) (l : Lists) (g : Good t n.node n.book l) (r
         (ap (map ack_item) acks_then ∙ map-append ack_item (not_of i (acks_in n.node)) ((i * 256 + 0) ∷ [])
         ∙ rw (not_map i (acks_in n.node), ack_item_holds i 0 low (omega arith)))
 
-    pub reset_takes : (s : ℕ) (p : List ℕ) → Takes t (taken_in M block i (end_at n i) type.Reset s p) (At i (reset_answer e)) (reset_after x i e)
+    pub reset_takes : (s : ℕ) (p : List ℕ) → Takes t (taken_in M block i (end_at n i) type.Reset s p) (Ok (record { entry = i; was = reset_answer e })) (reset_after x i e)
     unfolding taken_in machine.resetting reset_answer reset_after
     reset_takes s p =
         record {
@@ -349,11 +349,11 @@ module _ (t : List ℕ) (n : Memory) (l : Lists) (g : Good t n.node n.book l) (r
     unfolding receiving end_for
     receiving_as = ap received (new_is (read_at n) n.store n.book i e kind window (size_is g li) s)
 
-    pub data_takes : Takes t (receiving M block i (end_at n i) s p) (At i (data_answer x i e s p)) (data_after x i e s p)
+    pub data_takes : Takes t (receiving M block i (end_at n i) s p) (Ok (record { entry = i; was = data_answer x i e s p })) (data_after x i e s p)
     unfolding data_answer given
     data_takes = rw receiving_as (sides (is_new (accept_of w s).found) refl)
       where
-        sides : (z : Bool) → is_new (accept_of w s).found ≡ z → Takes t (received z) (At i (data_answer x i e s p)) (data_after x i e s p)
+        sides : (z : Bool) → is_new (accept_of w s).found ≡ z → Takes t (received z) (Ok (record { entry = i; was = data_answer x i e s p })) (data_after x i e s p)
         sides true z =
             record {
               numbers =

@@ -11,10 +11,8 @@ use lib.ListN.{length, set, length-set}
 use lib.Seq.{get_or-set_same, get_or-set_other}
 use lib.Dec.{eqb}
 use borrow.Author.Tests.{eq-eqb, ne_eqb, lt-ltb}
-use Rattle.units.specs.Refusals.{pick}
+use Rattle.units.specs.Refusals.{pick, Verdict}
 use Rattle.units.specs.declared.refusals.Refusal.TheVariants.{NoneUnderWay}
-use Rattle.units.specs.declared.refusals.Verdict.{Verdict}
-use Rattle.units.specs.declared.refusals.Verdict.TheVariants.{Passed, Refused}
 use Rattle.memory.specs.Layout.{all_cells, under_at, book_halves, length_at, timer_at, retries_at, quiet_at}
 use Rattle.waiting.specs.Port.{under_in, out_entry, out_number, is_data, is_reset, no_number, data_out, ended}
 use Rattle.window.specs.Windows.{offset_of, held, Good as GoodWindow}
@@ -56,6 +54,7 @@ use Rattle.refinement.proofs.Elsewhere.{timer_for, cells_read, still, ported_sta
 use Rattle.refinement.proofs.Waiting.{window_steady, waits_same}
 use Rattle.refinement.proofs.Following.{state_in, low_at}
 use Rattle.refinement.proofs.Numbers.{timer_unhanded, timer_under, timer_else, timed_end, counts_is}
+use Rattle.std.specs.Prelude.{Ok, Err}
 
 -- ---- what is under way, by its type
 
@@ -469,9 +468,9 @@ module _ (t : List ℕ) (n : Memory) (l : Lists) (g : Good t n.node n.book l) (r
   K = report_keeps t x l g some_under
 
   abbrev now : Memory
-  now = kept_bare n (report_after x Passed)
+  now = kept_bare n (report_after x (Ok tt))
 
-  K-now : Ends t x (report_after x Passed) l i
+  K-now : Ends t x (report_after x (Ok tt)) l i
   K-now = subst (λ (v : Verdict). Ends t x (report_after x v) l i) (report_goes x some_under) K
 
   end_now : end_at now i ≡ machine.ended (type_for u) E s
@@ -515,7 +514,7 @@ report_follows t n l g room = sides (ℕ_discrete (under_in n.book) 0)
     sides (yes z) =
         let h = eq-eqb (under_in n.book) 0 z in
         let M = stands_for t n l in
-        let a : report_answer (bare n) ≡ Refused NoneUnderWay = rw h in
+        let a : report_answer (bare n) ≡ Err NoneUnderWay = rw h in
         let m : step M reports ≡ answers (20 ∷ []) [] M = rw h in
         record { answers = rw (a, m); stands = rw (m, report_refused (bare n) z) (still g room) }
     sides (no z) = under_follows t n l g room z

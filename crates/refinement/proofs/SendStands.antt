@@ -12,9 +12,7 @@ use native.Mathlib.Omega.{arith}
 use lib.ListN.{length, get_or, take, drop}
 use lib.Dec.{eqb}
 use borrow.Author.Tests.{le-ltb, ne_eqb, eq-eqb}
-use Rattle.units.specs.Refusals.{verdict, pick}
-use Rattle.units.specs.declared.refusals.Verdict.{Verdict}
-use Rattle.units.specs.declared.refusals.Verdict.TheVariants.{Passed}
+use Rattle.units.specs.Refusals.{verdict, pick, Verdict}
 use Rattle.units.specs.declared.refusals.Refusal.{Refusal}
 use Rattle.units.specs.declared.refusals.Refusal.TheVariants.{UrgentWaits}
 use Rattle.memory.specs.Layout as layout
@@ -58,6 +56,7 @@ use Rattle.refinement.proofs.Listing.{Put, put_both}
 use Rattle.refinement.proofs.Elsewhere.{numbers_same, no_places, urgent_most, put_read, Leaves, leaves, end_at_holds, turned_stands}
 use Rattle.refinement.proofs.Waiting.{waits_more, window_steady}
 use Rattle.refinement.proofs.Following.{follows, open_for, low_at, stated_at, unheld, item_for, size_is}
+use Rattle.std.specs.Prelude.{Ok}
 
 module _ (t : List ℕ) (n : Memory) (l : Lists) (g : Good t n.node n.book l) (room : store_of t ≤ length n.store)
     (i : ℕ) (p : List ℕ) where
@@ -79,7 +78,7 @@ module _ (t : List ℕ) (n : Memory) (l : Lists) (g : Good t n.node n.book l) (r
 
   -- ---- send, where it went through
 
-  module _ (li : i < count_in n.node) (h : send_answer (lent n []) i p ≡ Passed) where
+  module _ (li : i < count_in n.node) (h : send_answer (lent n []) i p ≡ Ok tt) where
     abbrev now : Memory
     now = kept (send_after (lent n []) i p (send_answer (lent n []) i p))
 
@@ -217,7 +216,7 @@ module _ (t : List ℕ) (n : Memory) (l : Lists) (g : Good t n.node n.book l) (r
 
   -- ---- Urgent, where it went through
 
-  module _ (li : i < count_in n.node) (h : urgent_answer (lent n []) i p ≡ Passed) where
+  module _ (li : i < count_in n.node) (h : urgent_answer (lent n []) i p ≡ Ok tt) where
     abbrev now_u : Memory
     now_u = kept (urgent_after (lent n []) i p (urgent_answer (lent n []) i p))
 

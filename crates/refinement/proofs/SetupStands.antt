@@ -5,7 +5,6 @@ use mathlib.Core.List.{List, [], map}
 use native.Mathlib.Omega.{arith}
 use lib.ListN.{length, set, length-set}
 use lib.Seq.{get_or-set_same}
-use Rattle.units.specs.declared.refusals.Verdict.TheVariants.{Passed}
 use Rattle.memory.specs.Layout.{under_at, book_halves}
 use Rattle.waiting.specs.Port.{under_in}
 use Rattle.window.proofs.Resetting.{new_held}
@@ -20,6 +19,7 @@ use Rattle.machine.specs.Machine.{Sort, acks, resets, urgents, resends, datas, l
 use Rattle.refinement.specs.Standing.{Reading, read_at, end_for, end_at, ack_item, waiting_for, stands_for, Stands, Begins, SetupAnswers}
 use Rattle.machine.proofs.Listed.{listed_ext}
 use Rattle.refinement.proofs.Elsewhere.{none_held}
+use Rattle.std.specs.Prelude.{Ok}
 
 closed_end : (L : Reading) (t st b : List ℕ) (i : ℕ) → end_for L st b i (closed_at t i) ≡ first (entry_of t i)
 unfolding end_for listed
@@ -27,7 +27,7 @@ closed_end L t st b i = rw (none_held st b i (closed_at t i) (new_held (entry_of
 
 module _ (t : List ℕ) (n : Memory) (s : SetUp t n) where
   abbrev done : Memory
-  done = kept (setup_after s.before t Passed)
+  done = kept (setup_after s.before t (Ok tt))
 
   ends : (i : ℕ) → i < count_of t → end_at done i ≡ first (entry_of t i)
   ends i h =

@@ -6,8 +6,6 @@ use mathlib.Core.Bool.{true}
 use mathlib.Core.List.{List}
 use native.Mathlib.Omega.{arith}
 use borrow.Author.Tests.{lt-ltb}
-use Rattle.units.specs.declared.refusals.Verdict.{Verdict}
-use Rattle.units.specs.declared.refusals.Verdict.TheVariants.{Passed}
 use Rattle.end_points.specs.Lent.{Lent}
 use Rattle.call_open.specs.Setup.{setup_answer, setup_after}
 use Rattle.trace.specs.Layout.{count_of, begin_of, head_from, bytes_from}
@@ -19,6 +17,8 @@ use Rattle.trace_step.specs.Replay.{state_after, told_at, is_refused, made_of}
 use Rattle.good.specs.Calls.{kept, SetUp, Reach, at_setup, by_call}
 use Rattle.replayed.specs.Replayed.{table_in, call_at, Single, Given, SingleCalls, ReplayIsCalls, RefusedEnds, ReplayReaches}
 use Rattle.replayed.proofs.Made.{record_bytes, made}
+use Rattle.std.specs.Prelude.{Ok}
+use Rattle.units.specs.Refusals.{Verdict}
 
 module _ (x : Lent) (f : List ℕ) (given : Given x f) where
   fills : Filled f
@@ -53,7 +53,7 @@ module _ (x : Lent) (f : List ℕ) (given : Given x f) where
   later_is k p l = step_made (state_after x f k) k p l
 
   -- what the first leaves where it is not refused
-  pub step_sets_up : setup_answer (stored_of x) (table_in f) ≡ Passed → SetUp (table_in f) (kept (step_of x f 0).lent)
+  pub step_sets_up : setup_answer (stored_of x) (table_in f) ≡ Ok tt → SetUp (table_in f) (kept (step_of x f 0).lent)
   step_sets_up begins =
       record {
         before = stored_of x;
@@ -64,7 +64,7 @@ module _ (x : Lent) (f : List ℕ) (given : Given x f) where
         is = ap (λ (o : Outcome). kept o.lent) first_is ∙ ap (λ (v : Verdict). kept (setup_after (stored_of x) (table_in f) v)) begins;
       }
 
-  module _ (begins : setup_answer (stored_of x) (table_in f) ≡ Passed) where
+  module _ (begins : setup_answer (stored_of x) (table_in f) ≡ Ok tt) where
     sets_up : SetUp (table_in f) (kept (state_after x f 1))
     unfolding state_after
     sets_up = step_sets_up begins

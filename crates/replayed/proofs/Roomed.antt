@@ -8,10 +8,8 @@ use native.Mathlib.Omega.{arith}
 use borrow.Author.Tests.{le-ltb}
 use lib.Dec.{eqb, ltb}
 use lib.ListN.{length, get_or}
-use Rattle.units.specs.Refusals.{pick}
+use Rattle.units.specs.Refusals.{pick, Verdict}
 use Rattle.units.specs.declared.refusals.Refusal.TheVariants as refusal
-use Rattle.units.specs.declared.refusals.Verdict.{Verdict}
-use Rattle.units.specs.declared.refusals.Verdict.TheVariants.{Passed, Refused}
 use Rattle.table.specs.Areas.{store_of}
 use Rattle.table.specs.Rules.{good_table}
 use Rattle.table.proofs.Good.{store_fits}
@@ -34,6 +32,7 @@ use Rattle.refinement.proofs.Refining.{refines, reach_stands}
 use Rattle.refinement.proofs.Sounding.{stands_sound}
 use Rattle.replayed.specs.Replayed.{table_in, call_named, call_at, buffer_after, numbers_told, Given, RefusedEnds, NeverSix}
 use Rattle.replayed.proofs.Replaying.{first_is, later_is, reaches, refused_ends}
+use Rattle.std.specs.Prelude.{Ok, Err}
 
 -- the block or the frame buffer that a call is lent, if any, is this
 abbrev Uses : List ℕ → Call → Type 0
@@ -114,14 +113,14 @@ unfolding setup_answer
 setup_roomed x t long = sides (good_table t) refl
   where
     sides : (g : Bool) → good_table t ≡ g
-        → get_or (answer_of (pick (not g) (Refused refusal.BadTable) (pick (ltb (length x.store) (store_of t)) (Refused refusal.TooShort) Passed))) 0 0 ≢ 6
+        → get_or (answer_of (pick (not g) (Err refusal.BadTable) (pick (ltb (length x.store) (store_of t)) (Err refusal.TooShort) (Ok tt)))) 0 0 ≢ 6
     sides false h z = omega arith
     sides true h z =
         let short : ltb (length x.store) (store_of t) ≡ false = le-ltb (length x.store) (store_of t) (omega (arith, store_fits t h)) in
         let y : ◌≡◌ {A = ℕ} 0 6 = rw short at z in
         omega arith
 
-module _ (x : Lent) (f : List ℕ) (given : Given x f) (begins : setup_answer (stored_of x) (table_in f) ≡ Passed) where
+module _ (x : Lent) (f : List ℕ) (given : Given x f) (begins : setup_answer (stored_of x) (table_in f) ≡ Ok tt) where
   -- the machine that the node stands for after record n + 1
   stands : (n : ℕ) → suc n ≤ count_of f → (m : Machine) × Stands (table_in f) (kept (state_after x f (suc n))) m
   unfolding ReachStands
@@ -168,5 +167,5 @@ never_six x f given store out zero l =
 never_six x f given store out (suc n) l = sides (setup_answer (stored_of x) (table_in f)) refl
   where
     sides : (v : Verdict) → setup_answer (stored_of x) (table_in f) ≡ v → get_or (told_of (told_at x f (suc n))) 0 0 ≢ 6
-    sides Passed h = later_roomed x f given h out n (rw (goes_on x f given h) at l)
-    sides (Refused w) h = let e = (refused_ends x f given w h).made in absurd (omega arith)
+    sides (Ok _) h = later_roomed x f given h out n (rw (goes_on x f given h) at l)
+    sides (Err w) h = let e = (refused_ends x f given w h).made in absurd (omega arith)

@@ -1,11 +1,10 @@
 -- A REPLAY IS SO MANY SINGLE CALLS: what is proved of a good trace file whose records are made one after the other.
 -- Assumes nothing.
-use Rattle.std.specs.Prelude.{ℕ, suc, ◌≤◌, ◌<◌, ◌≡◌, ◌≢◌, true, List, ◌∷◌, length, get_or, eqb}
+use Rattle.std.specs.Prelude.{ℕ, suc, ◌≤◌, ◌<◌, ◌≡◌, ◌≢◌, true, List, ◌∷◌, length, get_or, eqb, Ok, Err}
 use Rattle.units.specs.Limits.{most_store}
 use Rattle.units.specs.Refusals.{number_of, pick}
 use Rattle.units.specs.declared.refusals.Refusal.{Refusal}
 use Rattle.units.specs.declared.refusals.Refusal.TheVariants as refusal
-use Rattle.units.specs.declared.refusals.Verdict.TheVariants.{Passed, Refused}
 use Rattle.memory.specs.Layout.{node_words, book_halves}
 use Rattle.end_points.specs.Lent.{Lent}
 use Rattle.call_open.specs.Setup.{setup_answer}
@@ -99,7 +98,7 @@ pub record SingleCalls (x : Lent) (f : List ℕ) : Type 0 where
 -- the state after record n is what n single calls give, for every file and every n, where the table is not refused
 -- [L10]
 unfoldable pub ReplayIsCalls : Type 0
-ReplayIsCalls = (x : Lent) (f : List ℕ) → Given x f → setup_answer (stored_of x) (table_in f) ≡ Passed → SingleCalls x f
+ReplayIsCalls = (x : Lent) (f : List ℕ) → Given x f → setup_answer (stored_of x) (table_in f) ≡ Ok tt → SingleCalls x f
 
 -- where it is refused no other call is made, and all is as it was [L11, R44]
 pub record Ended (x : Lent) (f : List ℕ) : Type 0 where
@@ -108,13 +107,13 @@ pub record Ended (x : Lent) (f : List ℕ) : Type 0 where
 
 -- so of every file whose table is refused [L11, R44]
 unfoldable pub RefusedEnds : Type 0
-RefusedEnds = (x : Lent) (f : List ℕ) → Given x f → (w : Refusal) → setup_answer (stored_of x) (table_in f) ≡ Refused w
+RefusedEnds = (x : Lent) (f : List ℕ) → Given x f → (w : Refusal) → setup_answer (stored_of x) (table_in f) ≡ Err w
     → Ended x f
 
 -- so after each record the node is one that setup and calls can give, of which crates/good and crates/refinement speak
 -- [L10, O2]
 unfoldable pub ReplayReaches : Type 0
-ReplayReaches = (x : Lent) (f : List ℕ) → Given x f → setup_answer (stored_of x) (table_in f) ≡ Passed
+ReplayReaches = (x : Lent) (f : List ℕ) → Given x f → setup_answer (stored_of x) (table_in f) ≡ Ok tt
     → (n : ℕ) → 0 < n → n ≤ count_of f → Reach (table_in f) (kept (state_after x f n))
 
 -- with a store as long as any table takes, and a buffer as long as any block, no record answers 6 [L9, R6]

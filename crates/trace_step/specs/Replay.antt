@@ -1,8 +1,7 @@
 -- The records of a trace file, made one after the other on what is lent. Cited by the lines of a replay and by what is
 -- proved of one. Assumes nothing.
-use Rattle.std.specs.Prelude.{ℕ, zero, suc, Bool, true, false, List}
+use Rattle.std.specs.Prelude.{ℕ, zero, suc, Bool, true, false, List, Ok, Err}
 use Rattle.units.specs.Refusals.{pick}
-use Rattle.units.specs.declared.refusals.Verdict.TheVariants.{Passed, Refused}
 use Rattle.end_points.specs.Lent.{Lent}
 use Rattle.trace.specs.Layout.{count_of}
 use Rattle.trace_step.specs.Steps.{step_of}
@@ -20,8 +19,8 @@ told_at x f k = (step_of (state_after x f k) f k).told
 
 -- a table was refused [L11]
 abbrev pub is_refused : Told → Bool
-is_refused (told.Plain Passed) = false
-is_refused (told.Plain (Refused w)) = true
+is_refused (told.Plain (Ok _)) = false
+is_refused (told.Plain (Err w)) = true
 is_refused (told.Arrival a) = false
 is_refused (told.Tick bits) = false
 is_refused (told.HandOut h) = false

@@ -1,10 +1,9 @@
 -- A record's call on a node that is lent: what it answers, and what all that was lent holds afterwards, by the
 -- definitions that the call's own contract cites. Cited by `trace_step` and by whatever replays a trace. Assumes
 -- nothing.
-use Rattle.std.specs.Prelude.{ℕ, List, eqb, ltb}
+use Rattle.std.specs.Prelude.{ℕ, List, eqb, ltb, Err}
 use Rattle.units.specs.Refusals.{pick}
 use Rattle.units.specs.declared.refusals.Refusal.TheVariants as refusal
-use Rattle.units.specs.declared.refusals.Verdict.TheVariants.{Refused}
 use Rattle.end_points.specs.Lent.{Lent, bare, stored, whole}
 use Rattle.call_open.specs.Setup.{setup_answer, setup_after}
 use Rattle.call_open.specs.Opening.{open_answer, open_after, close_answer, close_after}
@@ -78,7 +77,7 @@ reported x = let r = report_answer (bare_of x) in outcome (told.Plain r) (beside
 
 -- what is no call: 21, and nothing alters [R21, R44]
 abbrev pub no_call : Lent → Outcome
-no_call x = outcome (told.Plain (Refused refusal.BadTrace)) x
+no_call x = outcome (told.Plain (Err refusal.BadTrace)) x
 
 -- ---- a record's
 

@@ -9,11 +9,11 @@ ghost use Rattle.std.specs.Prelude.{◌≡◌};
 ghost use Rattle.end_points.specs.Lent.{whole};
 ghost use Rattle.trace_step.specs.Steps.{call_of, step_of};
 
-use end_points::answers::{Arrived, HandedOut};
+use end_points::answers::Arrival;
 use node::{Book, Node};
 use trace::{kinds, layout};
 use units::limits;
-use units::refusals::{Refusal, Verdict};
+use units::refusals::Refusal;
 
 // As much of store and buffer as any table asks for: a block of as many payloads as a window can have, which fill the
 // store; no frame is longer. With these no call is refused with 6. [L9]
@@ -27,11 +27,11 @@ pub const BUFFER: usize = blocks::layout::EMPTY
 #[derive(Clone, Copy)]
 pub enum Told {
     // Setup, open, close, send, Urgent and a report; and what is no call.
-    Plain(Verdict),
-    Arrival(Arrived),
+    Plain(Result<(), Refusal>),
+    Arrival(Result<Arrival, Refusal>),
     // The entries that became Enabled.
     Tick(u16),
-    HandOut(HandedOut),
+    HandOut(Result<usize, Refusal>),
 }
 
 // The call of a kind, with an index and bytes. Refuses 21 where there is no such kind, and as the call does. [L9]
@@ -62,7 +62,7 @@ pub fn call(
         kinds::TICK => Told::Tick(node::tick(node, book)),
         kinds::HAND_OUT => Told::HandOut(node::hand_out(node, book, store, out)),
         kinds::REPORT => Told::Plain(node::report(node, book)),
-        _ => Told::Plain(Verdict::Refused(Refusal::BadTrace)),
+        _ => Told::Plain(Err(Refusal::BadTrace)),
     }
 }
 
@@ -83,7 +83,7 @@ pub fn step(
         ≡ (step_of x file.now k).lent }
 {
     if layout::count(file) as usize <= k {
-        return Told::Plain(Verdict::Refused(Refusal::BadTrace));
+        return Told::Plain(Err(Refusal::BadTrace));
     }
     let at = layout::begin(file, k) as usize;
     let h = layout::head(file, at);

@@ -11,21 +11,20 @@ use borrow.Author.Tests.{ne_eqb, eqb-false, ltb-true}
 use lib.Dec.{eqb, ltb}
 use Rattle.units.specs.declared.refusals.Refusal.{Refusal}
 use Rattle.units.specs.declared.refusals.Refusal.TheVariants as refusal
-use Rattle.units.specs.declared.refusals.Verdict.{Verdict}
-use Rattle.units.specs.declared.refusals.Verdict.TheVariants.{Passed, Refused}
-use Rattle.units.specs.Refusals.{number_of, pick, verdict}
+use Rattle.units.specs.Refusals.{number_of, pick, verdict, Verdict}
+use Rattle.std.specs.Prelude.{Ok, Err}
 
 -- no test fits
 abbrev pub Clear : List (Bool × Refusal) → Type 0
 Clear [] = Unit
 Clear (t ∷ ts) = (t.0 ≡ false) × Clear ts
 
-pick_passed : (b : Bool) (w : Refusal) (v : Verdict) → pick b (Refused w) v ≡ Passed → (b ≡ false) × (v ≡ Passed)
+pick_passed : (b : Bool) (w : Refusal) (v : Verdict) → pick b (Err w) v ≡ Ok tt → (b ≡ false) × (v ≡ Ok tt)
 pick_passed true w v h = let z : ◌≡◌ {A = ℕ} 0 1 = cc in absurd (omega arith)
 pick_passed false w v h = (refl, h)
 
 -- where the tests pass none fits
-pub clear : (ts : List (Bool × Refusal)) → verdict ts ≡ Passed → Clear ts
+pub clear : (ts : List (Bool × Refusal)) → verdict ts ≡ Ok tt → Clear ts
 clear [] h = tt
 clear (t ∷ ts) h =
     let p = pick_passed t.0 t.1 (verdict ts) h in
@@ -67,10 +66,10 @@ differ u w h e = eqb-false (number_of u) (number_of w) h (ap number_of e)
 
 -- a test before does not fit
 pub passed_over : {A B : Type 0} (t : Bool × Refusal) (ts : List (Bool × Refusal)) (w : Refusal) → t.1 ≢ w
-    → (t.0 ≡ false) ↔ A → (verdict ts ≡ Refused w) ↔ B → (verdict (t ∷ ts) ≡ Refused w) ↔ (A × B)
+    → (t.0 ≡ false) ↔ A → (verdict ts ≡ Err w) ↔ B → (verdict (t ∷ ts) ≡ Err w) ↔ (A × B)
 passed_over t ts w n p q = Iff.trans (sides t.0 (verdict ts)) (Iff.and p q)
   where
-    sides : (b : Bool) (v : Verdict) → (pick b (Refused t.1) v ≡ Refused w) ↔ ((b ≡ false) × (v ≡ Refused w))
+    sides : (b : Bool) (v : Verdict) → (pick b (Err t.1) v ≡ Err w) ↔ ((b ≡ false) × (v ≡ Err w))
     sides true v = (λ e. absurd (n cc), λ k. absurd (true≢false k.0))
     sides false v = (λ e. (refl, e), λ k. k.1)
 
@@ -79,7 +78,7 @@ abbrev pub lacks : ℕ → List (Bool × Refusal) → Bool
 lacks n [] = true
 lacks n (t ∷ ts) = not (eqb (number_of t.1) n) && lacks n ts
 
-pub not_given : (ts : List (Bool × Refusal)) (w : Refusal) → lacks (number_of w) ts ≡ true → verdict ts ≢ Refused w
+pub not_given : (ts : List (Bool × Refusal)) (w : Refusal) → lacks (number_of w) ts ≡ true → verdict ts ≢ Err w
 not_given [] w h e = let z : ◌≡◌ {A = ℕ} 0 1 = cc in absurd (omega arith)
 not_given (t ∷ ts) w h e =
     let k = both (eqb (number_of t.1) (number_of w)) (lacks (number_of w) ts) h in
@@ -107,9 +106,9 @@ below_lacks (t ∷ ts) n k h e =
 
 -- the test itself fits, where none that follows refuses with the same
 pub fits_here : {A : Type 0} (b : Bool) (w : Refusal) (ts : List (Bool × Refusal)) → lacks (number_of w) ts ≡ true
-    → (b ≡ true) ↔ A → (verdict ((b, w) ∷ ts) ≡ Refused w) ↔ A
+    → (b ≡ true) ↔ A → (verdict ((b, w) ∷ ts) ≡ Err w) ↔ A
 fits_here b w ts n p = Iff.trans (sides b (verdict ts) (not_given ts w n)) p
   where
-    sides : (b : Bool) (v : Verdict) → v ≢ Refused w → (pick b (Refused w) v ≡ Refused w) ↔ (b ≡ true)
+    sides : (b : Bool) (v : Verdict) → v ≢ Err w → (pick b (Err w) v ≡ Err w) ↔ (b ≡ true)
     sides true v n = (λ e. refl, λ e. refl)
     sides false v n = (λ e. absurd (n e), λ e. absurd (true≢false (sym e)))

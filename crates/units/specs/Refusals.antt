@@ -1,9 +1,7 @@
 -- The paper's numbers of the refusals, and an ordered list of tests. Cited by every call that refuses. Assumes nothing.
-use Rattle.std.specs.Prelude.{ℕ, Bool, true, false, List, [], ◌∷◌}
+use Rattle.std.specs.Prelude.{ℕ, Bool, true, false, List, [], ◌∷◌, Result, Ok, Err}
 use Rattle.units.specs.declared.refusals.Refusal.{Refusal}
 use Rattle.units.specs.declared.refusals.Refusal.TheVariants as refusal
-use Rattle.units.specs.declared.refusals.Verdict.{Verdict}
-use Rattle.units.specs.declared.refusals.Verdict.TheVariants.{Passed, Refused}
 
 -- the paper's number of each refusal
 -- [R1, R2, R3, R4, R5, R6, R7, R8, R9, R10, R11, R13, R14, R15, R16, R17, R18, R19, R20, R21, R22, O3]
@@ -35,7 +33,11 @@ abbrev pub pick : {A : Type 0} → Bool → A → A → A
 pick true a b = a
 pick false a b = b
 
+-- what a call or an ordered list of tests comes to
+abbrev pub Verdict : Type 0
+Verdict = Result (Unit {0}) Refusal
+
 -- each test beside what it refuses with, in the paper's order: the first that fits decides [R43]
 abbrev pub verdict : List (Bool × Refusal) → Verdict
-verdict [] = Passed
-verdict (t ∷ ts) = pick t.0 (Refused t.1) (verdict ts)
+verdict [] = Ok tt
+verdict (t ∷ ts) = pick t.0 (Err t.1) (verdict ts)

@@ -9,5 +9,5 @@ use Rattle.call_arrive.proofs.arrive.Goals as goal
 pub come-requires : goal.come-requires
 come-requires c =
     let a = c.args in
-    let s : sound_of a.frame.now ≡ true = sym c.is_sound.ensures ∙ c.if-is_sound.true in
+    let s : sound_of a.frame.now ≡ true = sym c.is_sound.ensures ∙ c.if-not-is_sound.false in
     rw c.payload.ensures (sound_short a.frame.now (λ k. omega (arith, c.shared_slice_known-1.given k)) s)

@@ -17,20 +17,20 @@ loop-j-preserved c =
     let a = c.args in
     let e = c.more.ensures in
     let v = c.in_default.is in
-    let q = rw (e, c.need-need.ensures) at (sym c.send_one-v.ensures.answer ∙ v) in (
+    let q = rw (e, c.need-need.ensures) at (sym c.send_one.ensures.answer ∙ v) in (
       c.offset-to.ensures,
       one_more a.node.now a.i (omega (arith, c.load-arg-1.given)) c.requires.0 c.loop-j.invariant.1 c.loop-j-test.true c.between-p.result.now (payload_is (goal.at.loop-j-preserved c).After-between-p)
-          (omega (arith, c.load-e.type_inv)) q c.send_one-v.auto.book c.send_one-v.auto.store (rw (v, e) at c.send_one-v.ensures.book) (rw (v, e) at c.send_one-v.ensures.store),
+          (omega (arith, c.load-e.type_inv)) q c.send_one.auto.book c.send_one.auto.store (rw (v, e) at c.send_one.ensures.book) (rw (v, e) at c.send_one.ensures.store),
     )
 
-pub returns-in-loop-j-clause-is : goal.returns-in-loop-j-clause-is
-returns-in-loop-j-clause-is c =
+pub returns-in-Err-clause-is : goal.returns-in-Err-clause-is
+returns-in-Err-clause-is c =
     let a = c.args in
     let e = c.more.ensures in
-    let v = c.in-Refused.is in
-    let q = rw (e, c.need-need.ensures) at (sym c.send_one-v.ensures.answer ∙ v) in
-    let g = c.loop-j.invariant.1 in one_refused a.node.now a.i (omega (arith, c.load-arg-1.given)) c.requires.0 g c.loop-j-test.true c.between-p.result.now (payload_is (goal.at.returns-in-loop-j-clause-is c).After-between-p) _ q
-    ∙ rw (rw v at c.send_one-v.ensures.book, rw v at c.send_one-v.ensures.store)
+    let v = c.in-Err.is in
+    let q = rw (e, c.need-need.ensures) at (sym c.send_one.ensures.answer ∙ v) in
+    let g = c.loop-j.invariant.1 in one_refused a.node.now a.i (omega (arith, c.load-arg-1.given)) c.requires.0 g c.loop-j-test.true c.between-p.result.now (payload_is (goal.at.returns-in-Err-clause-is c).After-between-p) _ q
+    ∙ rw (rw v at c.send_one.ensures.book, rw v at c.send_one.ensures.store)
 
 pub returns-clause-is : goal.returns-clause-is
 unfolding sent_in_order
