@@ -141,18 +141,20 @@ fn stores(rt: &impl Print) -> io::Result<()> {
 fn byte(rt: &impl Print, at: usize, b: u8) -> io::Result<()> {
     let mut table = paper();
     put8(&mut table, at, b);
-    say(rt, "byte ", at as u64)?;
-    say(rt, " is ", b as u64)?;
-    show(rt, "", &table)
+    altered(rt, "byte", at, b as u64, &table)
 }
 
 // The paper's table with a number of two bytes altered.
 fn number(rt: &impl Print, at: usize, v: u16) -> io::Result<()> {
     let mut table = paper();
     put16(&mut table, at, v);
-    say(rt, "number ", at as u64)?;
-    say(rt, " is ", v as u64)?;
-    show(rt, "", &table)
+    altered(rt, "number", at, v as u64, &table)
+}
+
+// The paper's table, altered: what of it, where that stands, and its value.
+fn altered(rt: &impl Print, what: &str, at: usize, value: u64, table: &[u8]) -> io::Result<()> {
+    print!(rt; "{what} {at} is {value}")?;
+    show(rt, "", table)
 }
 
 // A table of one receiver with window 1.
