@@ -141,7 +141,8 @@ fn put_sent(book: &mut [u16], x: u16, number: Seq)
     )
 }
 
-// The retransmission that is x in its queue.
+// The retransmission that is x in its queue. It is taken in by data's too, which is to cost no call more.
+#[inline(always)]
 #[tactic(auto, unfolding(crate::specs::Handing::data_frame, end_points::specs::Ends::end_of, crate::specs::Handing::data_sent))]
 pub fn put_again(
     node: &[u64],
@@ -183,9 +184,7 @@ fn put_handed(node: &mut [u64], i: usize, r: Run)
     )
 }
 
-// The data that is x in its queue: one number more is handed out. The same as `put_again` and more, but not by it:
-// with one caller each the compiler takes both in, and the end point is read once.
-#[tactic(auto, unfolding(crate::specs::Handing::data_frame, end_points::specs::Ends::end_of, crate::specs::Handing::data_sent))]
+// The data that is x in its queue: as a retransmission, and one number more is handed out.
 pub fn put_data(
     node: &mut [u64],
     book: &mut [u16],
@@ -202,17 +201,8 @@ pub fn put_data(
     ensures frame { frame.new ≡ once result frame.old
         (sets frame.old 0 (data_frame node.old book.old store.now x)) }
 {
+    let n = put_again(node, book, store, frame, x)?;
     let i = entry_of(x);
-    let g = less(x, layout::CELL_ID);
-    let slot = (g % layout::CELLS) as u8;
-    let entry = load_entry(node, i);
-    let run = run_of(node, i);
-    let number = number_in(run.window, slot);
-    let fields = fields_to(node, entry, FrameType::Data, number);
-    let length = cells::length(book, g);
-    let spot = spot_of(load_place(node, i), entry.largest, slot);
-    let n = put_frame(frame, fields, part(store, spot, length as usize))?;
-    put_sent(book, x, number);
-    put_handed(node, i, run);
+    put_handed(node, i, run_of(node, i));
     Ok(n)
 }
