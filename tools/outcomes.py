@@ -36,7 +36,7 @@ WRITERS = ("module _ (T T' : RattleType) (L : Laws T) (L' : Laws T') (W : Write.
            " (W' : Write.Ghosts T'.Denot) (D D' : Dict) where")
 BEHIND_SINK = (r"OneBehind(?: \{[^}]*\})?\s+\(([^\s.()]+)\.Post T L W D\)\s+\(\1\.Post T' L' W' D'\)"
                r"(?:\s+\(λ e\. [^λ→⊎]*\)){2}\s*")
-REFUSES = {"Verdict", "Planned", "Arrived", "HandedOut", "Written", "Told"}  # and for C a number
+REFUSES = re.compile(r"Result<.*, Refusal>|Told")  # and for C a number
 NO_REFUSAL = {"shelugvar_tick"}
 FUNCTION = re.compile(r'( *)pub (?:const |unsafe |extern "C" )*fn (\w+)(?:<[^>]*>)?\(')
 
@@ -141,7 +141,7 @@ def over_contract(crate: str, name: str, theorem: Theorem, kind: str) -> bool:
 
 def lacks(crate: str, one: Function, name: str, proofs: list[str]) -> list[str]:
     """What is missing of a function's theorems."""
-    refuses = one.answer in REFUSES or crate == BEHIND and name not in NO_REFUSAL
+    refuses = REFUSES.fullmatch(one.answer) or crate == BEHIND and name not in NO_REFUSAL
     wanted = [(f"{name}_one", r"One\w*")] + [(f"{name}_refused", "Spares")] * bool(one.altered and refuses)
     wrong = []
     for theorem, kind in wanted:

@@ -10,7 +10,7 @@ use Rattle.units.proofs.bytes.put32.Reads as units_put32
 use Rattle.units.proofs.bytes.least.Reads as units_least
 use Rattle.units.proofs.bytes.put_all.Reads as units_put_all
 use Rattle.units.proofs.Address.is.Reads as units_is
-use Rattle.units.proofs.refusals.number.Reads as units_number
+use Rattle.units.proofs.refusals.U8FromRefusal.from.Reads as units_number
 use Rattle.units.proofs.sizes.default_size.Reads as units_default_size
 use Rattle.units.proofs.sizes.is_size.Reads as units_is_size
 use Rattle.units.proofs.sizes.in_force.Reads as units_in_force
