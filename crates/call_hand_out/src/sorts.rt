@@ -21,6 +21,7 @@ use units::Seq;
 use units::refusals::Refusal;
 use waiting::acks::Ack;
 use waiting::{acks, port, queues};
+use window::Window;
 
 // a less b, and 0 where b is more.
 fn less(a: u16, b: u16) -> u16
@@ -141,9 +142,40 @@ fn put_sent(book: &mut [u16], x: u16, number: Seq)
     )
 }
 
-// The retransmission that is x in its queue. It is taken in by data's too, which is to cost no call more.
+// The number that is x in its queue, first time or again, of an end point with this window. It is taken in by both
+// callers, and what they read of the end point is read once.
 #[inline(always)]
 #[tactic(auto, unfolding(crate::specs::Handing::data_frame, end_points::specs::Ends::end_of, crate::specs::Handing::data_sent))]
+fn put_number(
+    node: &[u64],
+    book: &mut [u16],
+    store: &[u8],
+    frame: &mut [u8],
+    x: u16,
+    window: Window,
+) -> Result<usize, Refusal>
+    requires { window ≡ (end_of node.now (id_entry x)).run.window }
+    ensures answer { result ≡ fitted frame.old
+        (data_frame node.now book.old store.now x) }
+    ensures book { book.new ≡ once result book.old
+        (data_sent node.now book.old x) }
+    ensures frame { frame.new ≡ once result frame.old
+        (sets frame.old 0 (data_frame node.now book.old store.now x)) }
+{
+    let i = entry_of(x);
+    let g = less(x, layout::CELL_ID);
+    let slot = (g % layout::CELLS) as u8;
+    let entry = load_entry(node, i);
+    let number = number_in(window, slot);
+    let fields = fields_to(node, entry, FrameType::Data, number);
+    let length = cells::length(book, g);
+    let spot = spot_of(load_place(node, i), entry.largest, slot);
+    let n = put_frame(frame, fields, part(store, spot, length as usize))?;
+    put_sent(book, x, number);
+    Ok(n)
+}
+
+// The retransmission that is x in its queue.
 pub fn put_again(
     node: &[u64],
     book: &mut [u16],
@@ -158,17 +190,8 @@ pub fn put_again(
     ensures frame { frame.new ≡ once result frame.old
         (sets frame.old 0 (data_frame node.now book.old store.now x)) }
 {
-    let i = entry_of(x);
-    let g = less(x, layout::CELL_ID);
-    let slot = (g % layout::CELLS) as u8;
-    let entry = load_entry(node, i);
-    let number = number_in(run_of(node, i).window, slot);
-    let fields = fields_to(node, entry, FrameType::Data, number);
-    let length = cells::length(book, g);
-    let spot = spot_of(load_place(node, i), entry.largest, slot);
-    let n = put_frame(frame, fields, part(store, spot, length as usize))?;
-    put_sent(book, x, number);
-    Ok(n)
+    let run = run_of(node, entry_of(x));
+    put_number(node, book, store, frame, x, run.window)
 }
 
 // One number more is handed out: of the run's words one alters, and no other is written.
@@ -184,7 +207,7 @@ fn put_handed(node: &mut [u64], i: usize, r: Run)
     )
 }
 
-// The data that is x in its queue: as a retransmission, and one number more is handed out.
+// The data that is x in its queue: one number more is handed out.
 pub fn put_data(
     node: &mut [u64],
     book: &mut [u16],
@@ -201,8 +224,9 @@ pub fn put_data(
     ensures frame { frame.new ≡ once result frame.old
         (sets frame.old 0 (data_frame node.old book.old store.now x)) }
 {
-    let n = put_again(node, book, store, frame, x)?;
     let i = entry_of(x);
-    put_handed(node, i, run_of(node, i));
+    let run = run_of(node, i);
+    let n = put_number(node, book, store, frame, x, run.window)?;
+    put_handed(node, i, run);
     Ok(n)
 }
