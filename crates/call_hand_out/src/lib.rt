@@ -89,7 +89,7 @@ pub fn hand_out(
         Next::Ack(a) => sorts::put_ack(node, book, frame, a),
         Next::Reset(x) => sorts::put_reset(node, book, frame, x),
         Next::Urgent(x) => sorts::put_urgent(node, book, store, frame, x),
-        Next::Resend(x) => sorts::put_again(node, book, store, frame, x),
-        Next::Data(x) => sorts::put_data(node, book, store, frame, x),
+        Next::Resend(x) => sorts::put_number::<false>(node, book, store, frame, x),
+        Next::Data(x) => sorts::put_number::<true>(node, book, store, frame, x),
     }
 }
