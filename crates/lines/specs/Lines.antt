@@ -6,7 +6,6 @@ use Prim.Native.String as string
 use Prim.Native.String.{String}
 use Rattle.std.proofs.lemmas.List.Edits.{sets}
 use Rattle.units.specs.Refusals.{pick}
-
 use Rattle.lines.specs.declared.Page as lent
 use Rattle.lines.specs.declared.Stop.{Stop}
 use Rattle.lines.specs.declared.Stop.TheVariants as stop

@@ -6,7 +6,7 @@
 pub mod sink; // sink.rt: where text goes, and the error that ends it
 mod answers; // answers.rt: what the calls answered, in the paper's numbers
 
-ghost use Rattle.std.specs.Prelude.{◌≡◌, ◌≤◌, [], take, length};
+ghost use Rattle.std.specs.Prelude.{◌≡◌, ◌≤◌, ℕ, [], map, take, length};
 ghost use Rattle.lines.specs.Lines.{SameBuffer, page, seen, place_of, appended, ascii, decimal_of, valued, valued_all, word_of, last_line};
 ghost use Rattle.lines.specs.Sink.{Puts, Says, HasRoom, value_text, values_text, last_text};
 ghost use Rattle.units.specs.Refusals.{number_of};
@@ -26,10 +26,34 @@ pub struct Page<'a> {
     pub taken: usize,
 }
 
+// What is told as a number of 64 bits.
+pub trait AsNumber: Copy {
+    ghost number: { Self → ℕ };
+
+    fn as_number(self) -> u64
+        ensures { result ≡ number self };
+}
+
+impl AsNumber for u8 {
+    ghost number = { λ v. v };
+
+    fn as_number(self) -> u64 {
+        self as u64
+    }
+}
+
+impl AsNumber for u64 {
+    ghost number = { λ v. v };
+
+    fn as_number(self) -> u64 {
+        self
+    }
+}
+
 // Why a run of records ends before its input does.
 #[derive(Clone, Copy)]
 pub enum Stop {
-    Torn,    // a record is cut short
+    Torn, // a record is cut short
     Unknown, // a record is of no listed kind
 }
 
@@ -99,26 +123,14 @@ impl Page<'_> {
     }
 
     // The numbers of a slice, each a value.
-    pub fn numbers<W: Write>(&mut self, to: &mut Sink<W>, vs: &[u64])
+    pub fn values<W: Write, T: AsNumber>(&mut self, to: &mut Sink<W>, vs: &[T])
         ensures buffer { SameBuffer self.old self.new }
-        ensures after { seen self.new ≡ valued_all (seen self.old) vs.now }
+        ensures after { seen self.new ≡ valued_all (seen self.old) (map T.number vs.now) }
         ensures written { HasRoom (seen self.old) →
-            Says W.contents to.old (seen self.old) to.new (seen self.new) (values_text vs.now) }
+            Says W.contents to.old (seen self.old) to.new (seen self.new) (values_text (map T.number vs.now)) }
     {
         for v in vs {
-            self.value(to, *v);
-        }
-    }
-
-    // The bytes of a slice, each a value.
-    pub fn values<W: Write>(&mut self, to: &mut Sink<W>, bytes: &[u8])
-        ensures buffer { SameBuffer self.old self.new }
-        ensures after { seen self.new ≡ valued_all (seen self.old) bytes.now }
-        ensures written { HasRoom (seen self.old) →
-            Says W.contents to.old (seen self.old) to.new (seen self.new) (values_text bytes.now) }
-    {
-        for b in bytes {
-            self.value(to, *b as u64);
+            self.value(to, v.as_number());
         }
     }
 

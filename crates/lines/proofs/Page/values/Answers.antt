@@ -1,32 +1,42 @@
-use Rattle.std.proofs.Common.{arith, refl, ◌∙◌}
+use Rattle.std.proofs.Common.{◌≡◌, ◌<◌, length, map, get_or, arith, refl, sym, ap, ◌∙◌}
+use Rattle.std.proofs.lemmas.List.{length-map, get_or-map}
 use lib.Seq.{take_all}
 use Rattle.lines.specs.Lines.{valued_all}
 use Rattle.lines.proofs.Pages.{more, all}
 use Rattle.lines.proofs.Saying.{says_nothing, says_more}
 use Rattle.lines.proofs.Page.values.Goals as goal
 
-pub loop-b-init : goal.loop-b-init
+pub loop-v-init : goal.loop-v-init
 unfolding valued_all
-loop-b-init g c = record {
+loop-v-init g c = record {
   buffer = record { name = refl; long = refl };
   begun = record { within = omega arith; first = refl };
   said = λ r. says_nothing r.within;
 }
 
-pub loop-b-preserved : goal.loop-b-preserved
-loop-b-preserved g c =
+pub loop-v-preserved : goal.loop-v-preserved
+loop-v-preserved g c =
+    let f = g.T.AsNumber.number in
+    let vs = c.args.vs.now in
+    let k = c.loop-v.v-index in
+    let i = c.loop-v.invariant in
     let v = c.value.ensures in
-    let i = c.loop-b.invariant in
+    let here : c.as_number.result ≡ get_or (map f vs) k 0 = c.as_number.ensures ∙ ap f c.v-item.is ∙ sym (get_or-map f vs k c.v-item.result 0 c.loop-v-test.true) in
+    let within : k < length (map f vs) = omega (arith, length-map vs f, c.loop-v-test.true) in
     record {
       buffer = record { name = v.buffer.name ∙ i.buffer.name; long = v.buffer.long ∙ i.buffer.long };
-      begun = more i.begun (omega arith) v.after;
+      begun = more i.begun within (rw here at v.after);
       said = λ r.
           let x = i.said r in
-          says_more c.args.bytes.now c.loop-b.b-index (omega arith) x (v.written (record { within = x.within; room = omega (arith, r.room, i.buffer.long) }));
+          says_more (map f vs) k within x (rw here at (v.written (record { within = x.within; room = omega (arith, r.room, i.buffer.long) })));
     }
 
 pub returns-clause-after : goal.returns-clause-after
-returns-clause-after g c = all c.loop-b.invariant.begun (omega arith)
+returns-clause-after g c =
+    let long = length-map c.args.vs.now g.T.AsNumber.number in
+    all c.loop-v.invariant.begun (omega (arith, long))
 
 pub returns-clause-written : goal.returns-clause-written
-returns-clause-written g c r = rw (take_all c.loop-b.b-index c.args.bytes.now (omega arith)) at (c.loop-b.invariant.said r)
+returns-clause-written g c r =
+    let long = length-map c.args.vs.now g.T.AsNumber.number in
+    rw (take_all c.loop-v.v-index (map g.T.AsNumber.number c.args.vs.now) (omega (arith, long))) at (c.loop-v.invariant.said r)
