@@ -14,7 +14,7 @@ impl Page<'_> {
     // 0, and a number.
     #[tactic(auto, unfolding(crate::specs::Lines::valued_all))]
     pub fn done<W: Write>(&mut self, to: &mut Sink<W>, v: u64)
-        ensures buffer { SameBuffer self.old self.new }
+        ensures lent { SameBuffer self.old self.new }
         ensures after { seen self.new ≡ valued_all (seen self.old) (0 ∷ v ∷ []) }
         ensures written { HasRoom (seen self.old) →
             Says W.contents to.old (seen self.old) to.new (seen self.new) (values_text (0 ∷ v ∷ [])) }
@@ -26,7 +26,7 @@ impl Page<'_> {
     // Setup, open, close, send, Urgent.
     #[tactic(auto, unfolding(crate::specs::Lines::valued_all))]
     pub fn verdict<W: Write>(&mut self, to: &mut Sink<W>, v: Result<(), Refusal>)
-        ensures buffer { SameBuffer self.old self.new }
+        ensures lent { SameBuffer self.old self.new }
         ensures after { seen self.new ≡ valued_all (seen self.old) (answer_of v) }
         ensures written { HasRoom (seen self.old) →
             Says W.contents to.old (seen self.old) to.new (seen self.new) (values_text (answer_of v)) }
@@ -40,7 +40,7 @@ impl Page<'_> {
     // Counts: accepted and confirmed.
     #[tactic(auto, unfolding(crate::specs::Lines::valued_all))]
     pub fn counted<W: Write>(&mut self, to: &mut Sink<W>, c: Result<Counts, Refusal>)
-        ensures buffer { SameBuffer self.old self.new }
+        ensures lent { SameBuffer self.old self.new }
         ensures after { seen self.new ≡ valued_all (seen self.old) (counted_of c) }
         ensures written { HasRoom (seen self.old) →
             Says W.contents to.old (seen self.old) to.new (seen self.new) (values_text (counted_of c)) }
@@ -57,7 +57,7 @@ impl Page<'_> {
     // A plan: how many payloads were accepted, and what refused the next.
     #[tactic(auto, unfolding(crate::specs::Lines::valued_all))]
     pub fn planned<W: Write>(&mut self, to: &mut Sink<W>, p: Result<Plan, Refusal>)
-        ensures buffer { SameBuffer self.old self.new }
+        ensures lent { SameBuffer self.old self.new }
         ensures after { seen self.new ≡ valued_all (seen self.old) (planned_of p) }
         ensures written { HasRoom (seen self.old) →
             Says W.contents to.old (seen self.old) to.new (seen self.new) (values_text (planned_of p)) }
@@ -74,7 +74,7 @@ impl Page<'_> {
     // Handing out: the frame's length.
     #[tactic(auto, unfolding(crate::specs::Lines::valued_all))]
     pub fn handed<W: Write>(&mut self, to: &mut Sink<W>, h: Result<usize, Refusal>)
-        ensures buffer { SameBuffer self.old self.new }
+        ensures lent { SameBuffer self.old self.new }
         ensures after { seen self.new ≡ valued_all (seen self.old) (handed_of h) }
         ensures written { HasRoom (seen self.old) →
             Says W.contents to.old (seen self.old) to.new (seen self.new) (values_text (handed_of h)) }
@@ -88,7 +88,7 @@ impl Page<'_> {
     // What came with a frame that was taken in, where something did.
     #[tactic(auto, unfolding(crate::specs::Lines::valued_all))]
     fn came_with<W: Write>(&mut self, to: &mut Sink<W>, was: Was)
-        ensures buffer { SameBuffer self.old self.new }
+        ensures lent { SameBuffer self.old self.new }
         ensures after { seen self.new ≡ valued_all (seen self.old) (value_of was) }
         ensures written { HasRoom (seen self.old) →
             Says W.contents to.old (seen self.old) to.new (seen self.new) (values_text (value_of was)) }
@@ -106,7 +106,7 @@ impl Page<'_> {
     // An arrival: what the frame was, the entry that it was for, and what came with it.
     #[tactic(auto, unfolding(crate::specs::Lines::valued_all))]
     pub fn arrived<W: Write>(&mut self, to: &mut Sink<W>, a: Result<Arrival, Refusal>)
-        ensures buffer { SameBuffer self.old self.new }
+        ensures lent { SameBuffer self.old self.new }
         ensures after { seen self.new ≡ valued_all (seen self.old) (arrived_of a) }
         ensures written { HasRoom (seen self.old) →
             Says W.contents to.old (seen self.old) to.new (seen self.new) (values_text (arrived_of a)) }

@@ -87,7 +87,7 @@ impl Page<'_> {
     // Bytes more.
     #[tactic(auto, unfolding(crate::specs::Lines::appended), using(crate::proofs::Pages::place_le))]
     pub fn text<W: Write>(&mut self, to: &mut Sink<W>, bytes: &[u8])
-        ensures buffer { SameBuffer self.old self.new }
+        ensures lent { SameBuffer self.old self.new }
         ensures after { seen self.new ≡ appended (seen self.old) bytes.now }
         ensures written { self.old.taken ≤ length self.old.bytes.now → length bytes.now ≤ length self.old.bytes.now →
             Says W.contents to.old (seen self.old) to.new (seen self.new) bytes.now }
@@ -101,7 +101,7 @@ impl Page<'_> {
     // A number more, in decimal.
     #[tactic(auto, using(crate::proofs::Decimals::spelt))]
     pub fn number<W: Write>(&mut self, to: &mut Sink<W>, v: u64)
-        ensures buffer { SameBuffer self.old self.new }
+        ensures lent { SameBuffer self.old self.new }
         ensures after { seen self.new ≡ appended (seen self.old) (decimal_of v) }
         ensures written { HasRoom (seen self.old) →
             Says W.contents to.old (seen self.old) to.new (seen self.new) (decimal_of v) }
@@ -113,7 +113,7 @@ impl Page<'_> {
     // A number of a line, with the space before it: a value.
     #[tactic(auto, unfolding(crate::specs::Lines::valued))]
     pub fn value<W: Write>(&mut self, to: &mut Sink<W>, v: u64)
-        ensures buffer { SameBuffer self.old self.new }
+        ensures lent { SameBuffer self.old self.new }
         ensures after { seen self.new ≡ valued (seen self.old) v }
         ensures written { HasRoom (seen self.old) →
             Says W.contents to.old (seen self.old) to.new (seen self.new) (value_text v) }
@@ -124,7 +124,7 @@ impl Page<'_> {
 
     // The numbers of a slice, each a value.
     pub fn values<W: Write, T: AsNumber>(&mut self, to: &mut Sink<W>, vs: &[T])
-        ensures buffer { SameBuffer self.old self.new }
+        ensures lent { SameBuffer self.old self.new }
         ensures after { seen self.new ≡ valued_all (seen self.old) (map T.number vs.now) }
         ensures written { HasRoom (seen self.old) →
             Says W.contents to.old (seen self.old) to.new (seen self.new) (values_text (map T.number vs.now)) }
@@ -137,7 +137,7 @@ impl Page<'_> {
     // A refusal's number and, where it is for a fault of a frame, the number of the byte, each a value.
     #[tactic(auto, unfolding(crate::specs::Lines::valued_all))]
     pub fn refused<W: Write>(&mut self, to: &mut Sink<W>, why: Refusal)
-        ensures buffer { SameBuffer self.old self.new }
+        ensures lent { SameBuffer self.old self.new }
         ensures after { seen self.new ≡ valued_all (seen self.old) (refused_of why) }
         ensures written { HasRoom (seen self.old) →
             Says W.contents to.old (seen self.old) to.new (seen self.new) (values_text (refused_of why)) }
@@ -153,7 +153,7 @@ impl Page<'_> {
     // A last line: a word that says why the run ends, and a number.
     #[tactic(auto, unfolding(crate::specs::Lines::last_line))]
     fn last<W: Write>(&mut self, to: &mut Sink<W>, word: &[u8], v: u64)
-        ensures buffer { SameBuffer self.old self.new }
+        ensures lent { SameBuffer self.old self.new }
         ensures after { seen self.new ≡ last_line (seen self.old) word.now v }
         ensures written { HasRoom (seen self.old) → length word.now ≤ length self.old.bytes.now →
             Says W.contents to.old (seen self.old) to.new (seen self.new) (last_text word.now v) }
@@ -165,7 +165,7 @@ impl Page<'_> {
 
     // The last line of a run that stops, with the number of the record at which it does.
     pub fn stopped<W: Write>(&mut self, to: &mut Sink<W>, why: Stop, count: u64)
-        ensures buffer { SameBuffer self.old self.new }
+        ensures lent { SameBuffer self.old self.new }
         ensures after { seen self.new ≡ last_line (seen self.old) (word_of why) count }
         ensures written { HasRoom (seen self.old) →
             Says W.contents to.old (seen self.old) to.new (seen self.new) (last_text (word_of why) count) }
@@ -178,7 +178,7 @@ impl Page<'_> {
 
     // The only line where the whole input is refused.
     pub fn refused_all<W: Write>(&mut self, to: &mut Sink<W>, why: Refusal)
-        ensures buffer { SameBuffer self.old self.new }
+        ensures lent { SameBuffer self.old self.new }
         ensures after { seen self.new ≡ last_line (seen self.old) (ascii "refused") (number_of why) }
         ensures written { HasRoom (seen self.old) →
             Says W.contents to.old (seen self.old) to.new (seen self.new)

@@ -26,7 +26,7 @@ const FIRST: usize = 0;
 
 // What a call answered, each number a value.
 fn told<W: Write>(page: &mut Page<'_>, to: &mut Sink<W>, t: Told)
-    ensures buffer { SameBuffer page.old page.new }
+    ensures lent { SameBuffer page.old page.new }
     ensures after { seen page.new ≡ valued_all (seen page.old) (told_of t) }
     ensures written { HasRoom (seen page.old) →
         Says W.contents to.old (seen page.old) to.new (seen page.new) (values_text (told_of t)) }
@@ -42,7 +42,7 @@ fn told<W: Write>(page: &mut Page<'_>, to: &mut Sink<W>, t: Told)
 // A record's line but for its end: its number, its kind, what its call answered.
 #[tactic(auto, unfolding(crate::specs::Lines::begun_of))]
 pub fn begun<W: Write>(page: &mut Page<'_>, to: &mut Sink<W>, n: u64, kind: u8, t: Told)
-    ensures buffer { SameBuffer page.old page.new }
+    ensures lent { SameBuffer page.old page.new }
     ensures after { seen page.new ≡ begun_of (seen page.old) n kind (told_of t) }
     ensures written { HasRoom (seen page.old) →
         Says W.contents to.old (seen page.old) to.new (seen page.new) (begun_text n kind (told_of t)) }
@@ -56,7 +56,7 @@ pub fn begun<W: Write>(page: &mut Page<'_>, to: &mut Sink<W>, n: u64, kind: u8, 
 #[tactic(auto, unfolding(crate::specs::Lines::line_of))]
 fn line<W: Write>(page: &mut Page<'_>, to: &mut Sink<W>, file: &[u8], k: usize, t: Told)
     requires { k < 4294967296 }
-    ensures buffer { SameBuffer page.old page.new }
+    ensures lent { SameBuffer page.old page.new }
     ensures after { seen page.new ≡ line_of (seen page.old) k (kind_of file.now k) (told_of t) }
     ensures written { HasRoom (seen page.old) →
         Says W.contents to.old (seen page.old) to.new (seen page.new) (line_text k (kind_of file.now k) (told_of t)) }
@@ -91,7 +91,7 @@ pub fn replay<W: Write>(
     store: &mut [u8],
     buffer: &mut [u8],
 )
-    ensures buffer { SameBuffer page.old page.new }
+    ensures lent { SameBuffer page.old page.new }
     ensures text { let x = whole node.old book.old store.old buffer.old in
         seen page.new ≡ replay_page (seen page.old) x file.now }
     ensures after { let x = whole node.old book.old store.old buffer.old in

@@ -17,7 +17,7 @@ pub returns-then-byte-clause-written : goal.returns-then-byte-clause-written
 unfolding BytesAgree
 returns-then-byte-clause-written g c r =
     let x = c.value.ensures.written r in
-    let y = c.value-then-byte.ensures.written (record { within = x.within; room = omega (arith, r.room, c.value.ensures.buffer.long) }) in
+    let y = c.value-then-byte.ensures.written (record { within = x.within; room = omega (arith, r.room, c.value.ensures.lent.long) }) in
     let q = ne_eqb _ no_byte c.if-byte.true in
     rw (bytes_agree c.args.why, ← c.from-n.ensures, ← c.fault_byte-byte.ensures, q) (says_then x (says_one _ y))
 

@@ -9,7 +9,7 @@ use Rattle.lines.proofs.Page.values.Goals as goal
 pub loop-v-init : goal.loop-v-init
 unfolding valued_all
 loop-v-init g c = record {
-  buffer = record { name = refl; long = refl };
+  lent = record { name = refl; long = refl };
   begun = record { within = omega arith; first = refl };
   said = λ r. says_nothing r.within;
 }
@@ -24,11 +24,11 @@ loop-v-preserved g c =
     let here : c.as_number.result ≡ get_or (map f vs) k 0 = c.as_number.ensures ∙ ap f c.v-item.is ∙ sym (get_or-map f vs k c.v-item.result 0 c.loop-v-test.true) in
     let within : k < length (map f vs) = omega (arith, length-map vs f, c.loop-v-test.true) in
     record {
-      buffer = record { name = v.buffer.name ∙ i.buffer.name; long = v.buffer.long ∙ i.buffer.long };
+      lent = record { name = v.lent.name ∙ i.lent.name; long = v.lent.long ∙ i.lent.long };
       begun = more i.begun within (rw here at v.after);
       said = λ r.
           let x = i.said r in
-          says_more (map f vs) k within x (rw here at (v.written (record { within = x.within; room = omega (arith, r.room, i.buffer.long) })));
+          says_more (map f vs) k within x (rw here at (v.written (record { within = x.within; room = omega (arith, r.room, i.lent.long) })));
     }
 
 pub returns-clause-after : goal.returns-clause-after
