@@ -2,9 +2,11 @@
 -- nothing.
 use Prim.Native.Nat.{ℕ}
 use denote.RattleType.{RattleType}
-use denote.Param.Laws.{Laws}
+use denote.Param.Laws.{Laws, IsCopy}
 use mir.Syntax.{Dict}
 use Rattle.std.specs.declared.io.traits.Write as Write
+use Rattle.std.specs.declared.clone.Clone as Clone
+use Rattle.lines.specs.declared.AsNumber as AsNumber
 use mathlib.Core.Path.{◌≡◌, refl}
 use mathlib.Core.List.{List, []}
 use Rattle.firmware.proofs.shelugvar_frame_read.Reads as shelugvar_frame_read
@@ -118,9 +120,6 @@ module _ (T T' : RattleType) (L : Laws T) (L' : Laws T') (W : Write.Ghosts T.Den
   pub lines_value_one : OneBehind (lines_value.Post T L W D) (lines_value.Post T' L' W' D') (λ e. left_in e.0.now) (λ e. left_in e.0.now)
   lines_value_one u v page s t a r₁ r₂ e₁ e₂ p q = (refl, cc (p.0.name, q.0.name, p.1.0, q.1.0))
 
-  pub lines_values_one : OneBehind (lines_values.Post T L W D) (lines_values.Post T' L' W' D') (λ e. left_in e.0.now) (λ e. left_in e.0.now)
-  lines_values_one u v page s t a r₁ r₂ e₁ e₂ p q = (refl, cc (p.0.name, q.0.name, p.1.0, q.1.0))
-
   pub lines_refused_one : OneBehind (lines_refused.Post T L W D) (lines_refused.Post T' L' W' D') (λ e. left_in e.0.now) (λ e. left_in e.0.now)
   lines_refused_one u v page s t a r₁ r₂ e₁ e₂ p q = (refl, cc (p.0.name, q.0.name, p.1.0, q.1.0))
 
@@ -147,3 +146,8 @@ module _ (T T' : RattleType) (L : Laws T) (L' : Laws T') (W : Write.Ghosts T.Den
 
   pub lines_arrived_one : OneBehind (lines_arrived.Post T L W D) (lines_arrived.Post T' L' W' D') (λ e. left_in e.0.now) (λ e. left_in e.0.now)
   lines_arrived_one u v page s t a r₁ r₂ e₁ e₂ p q = (refl, cc (p.0.name, q.0.name, p.1.0, q.1.0))
+
+  -- of numbers of any type that is told as such
+  module _ (X : RattleType) (M : Laws X) (C : IsCopy X) (N : AsNumber.Ghosts X.Denot) (K : Clone.Ghosts X.Denot) (G H : Dict) where
+    pub lines_values_one : OneBehind (lines_values.Post T X L M C W D N G K H) (lines_values.Post T' X L' M C W' D' N G K H) (λ e. left_in e.0.now) (λ e. left_in e.0.now)
+    lines_values_one u v page s t a r₁ r₂ e₁ e₂ p q = (refl, cc (p.0.name, q.0.name, p.1.0, q.1.0))
