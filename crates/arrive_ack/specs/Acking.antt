@@ -1,6 +1,6 @@
 -- An acknowledgement taken in by a sender: what it was, and what node and book hold afterwards. Cited by arrival.
 -- Assumes nothing.
-use Rattle.std.specs.Prelude.{ℕ, ◌+◌, ◌-◌, ◌%◌, Bool, ◌&&◌, List, ◌==◌, nat_lt, slice_set}
+use Rattle.std.specs.Prelude.{ℕ, ◌+◌, ◌-◌, ◌%◌, Bool, ◌&&◌, List, ◌==◌, nat_lt, slice_set, Option, Some, None}
 use Rattle.units.specs.Refusals.{pick}
 use Rattle.memory.specs.Layout.{entry_at, start_word, low_marks_word, high_marks_word, taken_word, handed_word}
 use Rattle.memory.specs.Layout.{confirmed_word}
@@ -20,7 +20,6 @@ use Rattle.end_points.specs.declared.answers.Was.{Was}
 use Rattle.end_points.specs.declared.answers.Was.TheVariants as was
 use Rattle.slots.specs.Slots.{cell, timer_in}
 use Rattle.arrive_ack.specs.declared.Tally.{Tally}
-use Rattle.arrive_ack.specs.declared.Tally.TheVariants as tally
 
 -- at Open and Failing number s counts if it is in the window, handed out and not yet acknowledged [A2]
 unfoldable pub counts : Run → ℕ → Bool
@@ -46,9 +45,9 @@ moved r p =
 unfoldable pub acked_run : Run → ℕ → Run
 acked_run r s = moved r (passing r s)
 
--- what number s comes to at Open and Failing [A2, A5]
-unfoldable pub tallied : Run → ℕ → Tally
-tallied r s = pick (counts r s) (tally.Counts (acked_run r s) (passing r s).run) tally.Ignored
+-- what number s comes to at Open and Failing, where it counts; else it is ignored [A2, A5]
+unfoldable pub tallied : Run → ℕ → Option Tally
+tallied r s = pick (counts r s) (Some (record { next = acked_run r s; passed = (passing r s).run })) None
 
 -- Open by acknowledgement 0: start 1, counts 0 [E10]
 unfoldable pub opened_run : Run → Run

@@ -17,12 +17,11 @@ use units::{Seq, Unfolded};
 use waiting::queues;
 use window::{Passed, distance};
 
-// What a number acknowledged at Open or Failing comes to.
+// What a number that counts at Open or Failing comes to: the run afterwards, and how many numbers the start passed.
 #[derive(Clone, Copy)]
-enum Tally {
-    Ignored,
-    // It counts: the run afterwards, and how many numbers the start passed.
-    Counts(Run, u8),
+struct Tally {
+    next: Run,
+    passed: u8,
 }
 
 // a less b, and 0 where b is more.
@@ -51,23 +50,26 @@ fn moved_run(r: Run, p: Passed) -> Run
     }
 }
 
-// Whether s counts, and what the run is then.
+// What s comes to where it counts; else it is ignored.
 #[tactic(auto, unfolding(crate::specs::Acking::tallied, crate::specs::Acking::counts, crate::specs::Acking::acked_run))]
-fn tally_of(r: Run, s: Seq) -> Tally
+fn tally_of(r: Run, s: Seq) -> Option<Tally>
     ensures { result ≡ tallied r s.0 }
 {
     let window = r.window;
     if r.handed <= distance(window.start, s) {
-        return Tally::Ignored;
+        return None;
     }
     let accepted = window.accept(s);
     let found = accepted.found;
     if !is_new(found) {
-        return Tally::Ignored;
+        return None;
     }
     let marked = accepted.window;
     let passed = marked.pass();
-    Tally::Counts(moved_run(r, passed), passed.run)
+    Some(Tally {
+        next: moved_run(r, passed),
+        passed: passed.run,
+    })
 }
 
 // The run at its opening.
@@ -152,21 +154,19 @@ fn put_counted(node: &mut [u64], i: usize, r: Run)
 }
 
 // At Open.
-#[tactic(auto, unfolding(crate::specs::Acking::ack_answer, crate::specs::Acking::ack_node, crate::specs::Acking::ack_book))]
+#[tactic(auto, unfolding(crate::specs::Acking::tallied, crate::specs::Acking::ack_answer, crate::specs::Acking::ack_node, crate::specs::Acking::ack_book))]
 fn at_open(node: &mut [u64], book: &mut [u16], i: u8, e: EndPoint, s: Seq) -> Was
     ensures answer { result ≡ ack_answer e state.Open s.0 }
     ensures node { node.new ≡ ack_node node.old book.old i e state.Open s.0 }
     ensures book { book.new ≡ ack_book book.old i e state.Open s.0 }
 {
     let run = e.run;
-    match tally_of(run, s) {
-        Tally::Ignored => Was::Ignored,
-        Tally::Counts(next, passed) => {
-            stop(book, cell_of(i, e.run.window, s));
-            put_counted(node, i as usize, next);
-            Was::Acknowledged(passed)
-        }
-    }
+    let Some(tally) = tally_of(run, s) else {
+        return Was::Ignored;
+    };
+    stop(book, cell_of(i, e.run.window, s));
+    put_counted(node, i as usize, tally.next);
+    Was::Acknowledged(tally.passed)
 }
 
 // How many of n timers run once one that stood at t is stopped.
@@ -183,7 +183,7 @@ fn fewer_of(t: u16, n: u16) -> u16
 }
 
 // At Failing, with the number of timers that still run.
-#[tactic(auto, unfolding(crate::specs::Acking::ack_answer, crate::specs::Acking::ack_node, crate::specs::Acking::ack_book))]
+#[tactic(auto, unfolding(crate::specs::Acking::tallied, crate::specs::Acking::ack_answer, crate::specs::Acking::ack_node, crate::specs::Acking::ack_book))]
 fn at_failing(node: &mut [u64], book: &mut [u16], i: u8, e: EndPoint, n: u16, s: Seq) -> Was
     ensures answer { result ≡ ack_answer e (state.Failing n) s.0 }
     ensures node { node.new ≡ ack_node node.old book.old i e (state.Failing n)
@@ -191,17 +191,15 @@ fn at_failing(node: &mut [u64], book: &mut [u16], i: u8, e: EndPoint, n: u16, s:
     ensures book { book.new ≡ ack_book book.old i e (state.Failing n) s.0 }
 {
     let run = e.run;
-    match tally_of(run, s) {
-        Tally::Ignored => Was::Ignored,
-        Tally::Counts(next, passed) => {
-            let g = cell_of(i, e.run.window, s);
-            let running = fewer_of(cells::timer(book, g), n);
-            cells::put_timer(book, g, 0);
-            save(node, i as usize, State::Failing(running), next);
-            timing::rouse(node);
-            Was::Acknowledged(passed)
-        }
-    }
+    let Some(tally) = tally_of(run, s) else {
+        return Was::Ignored;
+    };
+    let g = cell_of(i, e.run.window, s);
+    let running = fewer_of(cells::timer(book, g), n);
+    cells::put_timer(book, g, 0);
+    save(node, i as usize, State::Failing(running), tally.next);
+    timing::rouse(node);
+    Was::Acknowledged(tally.passed)
 }
 
 // Acknowledgement s reaches entry i, a sender whose end point is e.

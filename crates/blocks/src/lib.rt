@@ -78,10 +78,7 @@ pub fn put_block(out: &mut [u8], store: &[u8], book: &[u16], o: Owner, k: u8) ->
         end += p.len();
     }
     put_offset(out, k, end);
-    if out.len() < end {
-        return out.len();
-    }
-    end
+    end.min(out.len())
 }
 
 // The block of no payload; answers how much of it the lent block took.
@@ -92,10 +89,7 @@ pub fn put_none(out: &mut [u8]) -> usize
 {
     put16(out, 0, 0);
     put_offset(out, 0, layout::EMPTY);
-    if out.len() < layout::EMPTY {
-        return out.len();
-    }
-    layout::EMPTY
+    layout::EMPTY.min(out.len())
 }
 
 // The block of one payload; answers how much of it the lent block took.
@@ -109,8 +103,5 @@ pub fn put_one(out: &mut [u8], payload: &[u8]) -> usize
     put_offset(out, 0, layout::ONLY);
     put_offset(out, 1, end);
     put_all(out, layout::ONLY, payload);
-    if out.len() < end {
-        return out.len();
-    }
-    end
+    end.min(out.len())
 }

@@ -21,24 +21,14 @@ use waiting::acks;
 fn is_delivered(t: FrameType) -> bool
     ensures { result ≡ carries t }
 {
-    match t {
-        FrameType::Data => true,
-        FrameType::Acknowledge => false,
-        FrameType::Reset => false,
-        FrameType::Urgent => true,
-    }
+    matches!(t, FrameType::Data | FrameType::Urgent)
 }
 
 // Whether a frame of a type is acknowledged.
 fn is_answered(t: FrameType) -> bool
     ensures { result ≡ answered t }
 {
-    match t {
-        FrameType::Data => true,
-        FrameType::Acknowledge => false,
-        FrameType::Reset => true,
-        FrameType::Urgent => false,
-    }
+    matches!(t, FrameType::Data | FrameType::Reset)
 }
 
 // The room that Data and Urgent need in the block.

@@ -4,7 +4,10 @@
 // memory; a call that is refused alters nothing, and bytes after the frame stay.
 #![tactic(auto)]
 
-ghost use Rattle.std.specs.Prelude.{◌≡◌};
+ghost use Rattle.std.specs.Prelude.{◌≡◌, nat_le, Some, None};
+ghost use Rattle.units.specs.Refusals.{pick};
+ghost use Rattle.memory.specs.Layout.{queues};
+ghost use Rattle.waiting.specs.Queues.{next_of};
 ghost use Rattle.end_points.specs.Lent.{whole};
 ghost use Rattle.call_hand_out.specs.Handing.{next_out, hand_out_answer, hand_out_after};
 
@@ -28,7 +31,18 @@ pub enum Next {
     Data(u16),
 }
 
-// What goes out next: the sorts in their order. A queue that is followed by a queue's own number is empty.
+// What has waited longest in queue q, by its number there. A queue that is followed by a queue's own number is empty.
+fn waiting_in(book: &[u16], q: u16) -> Option<u16>
+    ensures { result ≡ pick (nat_le queues (next_of book.now q)) (Some (next_of book.now q)) None }
+{
+    let first = queues::first(book, q);
+    if first < layout::QUEUES {
+        return None;
+    }
+    Some(first)
+}
+
+// What goes out next: the sorts in their order.
 #[tactic(auto, unfolding(crate::specs::Handing::next_out))]
 fn next_out(node: &[u64], book: &[u16]) -> Next
     ensures { result ≡ next_out node.now book.now }
@@ -36,20 +50,16 @@ fn next_out(node: &[u64], book: &[u16]) -> Next
     if 0 < acks::waiting(node) {
         return Next::Ack(acks::oldest(node));
     }
-    let reset = queues::first(book, layout::RESETS);
-    if layout::QUEUES <= reset {
+    if let Some(reset) = waiting_in(book, layout::RESETS) {
         return Next::Reset(reset);
     }
-    let urgent = queues::first(book, layout::URGENTS);
-    if layout::QUEUES <= urgent {
+    if let Some(urgent) = waiting_in(book, layout::URGENTS) {
         return Next::Urgent(urgent);
     }
-    let again = queues::first(book, layout::RESENDS);
-    if layout::QUEUES <= again {
+    if let Some(again) = waiting_in(book, layout::RESENDS) {
         return Next::Resend(again);
     }
-    let data = queues::first(book, layout::DATAS);
-    if layout::QUEUES <= data {
+    if let Some(data) = waiting_in(book, layout::DATAS) {
         return Next::Data(data);
     }
     Next::Nothing
@@ -79,7 +89,7 @@ pub fn hand_out(
         Next::Ack(a) => sorts::put_ack(node, book, frame, a),
         Next::Reset(x) => sorts::put_reset(node, book, frame, x),
         Next::Urgent(x) => sorts::put_urgent(node, book, store, frame, x),
-        Next::Resend(x) => sorts::put_again(node, book, store, frame, x),
-        Next::Data(x) => sorts::put_data(node, book, store, frame, x),
+        Next::Resend(x) => sorts::put_number::<false>(node, book, store, frame, x),
+        Next::Data(x) => sorts::put_number::<true>(node, book, store, frame, x),
     }
 }

@@ -1,6 +1,7 @@
 // Each sort of what waits, handed out: its frame into the buffer, and what that leaves of node and book.
 ghost use Rattle.std.specs.Prelude.{◌≡◌, ◌-◌, ◌<◌};
 ghost use Rattle.std.proofs.lemmas.List.Edits.{sets};
+ghost use Rattle.units.specs.Refusals.{pick};
 ghost use Rattle.waiting.specs.Queues.{unlinked};
 ghost use Rattle.waiting.specs.Acks.{popped};
 ghost use Rattle.end_points.specs.Ends.{end_of};
@@ -141,35 +142,6 @@ fn put_sent(book: &mut [u16], x: u16, number: Seq)
     )
 }
 
-// The retransmission that is x in its queue.
-#[tactic(auto, unfolding(crate::specs::Handing::data_frame, end_points::specs::Ends::end_of, crate::specs::Handing::data_sent))]
-pub fn put_again(
-    node: &[u64],
-    book: &mut [u16],
-    store: &[u8],
-    frame: &mut [u8],
-    x: u16,
-) -> Result<usize, Refusal>
-    ensures answer { result ≡ fitted frame.old
-        (data_frame node.now book.old store.now x) }
-    ensures book { book.new ≡ once result book.old
-        (data_sent node.now book.old x) }
-    ensures frame { frame.new ≡ once result frame.old
-        (sets frame.old 0 (data_frame node.now book.old store.now x)) }
-{
-    let i = entry_of(x);
-    let g = less(x, layout::CELL_ID);
-    let slot = (g % layout::CELLS) as u8;
-    let entry = load_entry(node, i);
-    let number = number_in(run_of(node, i).window, slot);
-    let fields = fields_to(node, entry, FrameType::Data, number);
-    let length = cells::length(book, g);
-    let spot = spot_of(load_place(node, i), entry.largest, slot);
-    let n = put_frame(frame, fields, part(store, spot, length as usize))?;
-    put_sent(book, x, number);
-    Ok(n)
-}
-
 // One number more is handed out: of the run's words one alters, and no other is written.
 fn put_handed(node: &mut [u64], i: usize, r: Run)
     requires { i < 4096 }
@@ -183,10 +155,9 @@ fn put_handed(node: &mut [u64], i: usize, r: Run)
     )
 }
 
-// The data that is x in its queue: one number more is handed out. The same as `put_again` and more, but not by it:
-// with one caller each the compiler takes both in, and the end point is read once.
+// The number that is x in its queue: with FIRST as data, so that one number more is handed out, else again.
 #[tactic(auto, unfolding(crate::specs::Handing::data_frame, end_points::specs::Ends::end_of, crate::specs::Handing::data_sent))]
-pub fn put_data(
+pub fn put_number<const FIRST: bool>(
     node: &mut [u64],
     book: &mut [u16],
     store: &[u8],
@@ -196,7 +167,7 @@ pub fn put_data(
     ensures answer { result ≡ fitted frame.old
         (data_frame node.old book.old store.now x) }
     ensures node { node.new ≡ once result node.old
-        (handed_node node.old (id_entry x) (end_of node.old (id_entry x)).run) }
+        (pick FIRST (handed_node node.old (id_entry x) (end_of node.old (id_entry x)).run) node.old) }
     ensures book { book.new ≡ once result book.old
         (data_sent node.old book.old x) }
     ensures frame { frame.new ≡ once result frame.old
@@ -213,6 +184,8 @@ pub fn put_data(
     let spot = spot_of(load_place(node, i), entry.largest, slot);
     let n = put_frame(frame, fields, part(store, spot, length as usize))?;
     put_sent(book, x, number);
-    put_handed(node, i, run);
+    if FIRST {
+        put_handed(node, i, run);
+    }
     Ok(n)
 }

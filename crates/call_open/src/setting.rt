@@ -56,9 +56,7 @@ pub fn setup(node: &mut [u64], book: &mut [u16], store: &[u8], table: &[u8]) -> 
 fn clear(ws: &mut [u64])
     ensures { ws.new ≡ replicate (length ws.old) 0 }
 {
-    for w in ws.iter_mut() {
-        *w = 0;
-    }
+    ws.fill(0)
 }
 
 // The head: how many entries, who we are, how much of a store the entries take; no acknowledgement waits, no tick

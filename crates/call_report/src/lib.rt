@@ -4,7 +4,7 @@
 // report that is refused alters nothing.
 #![tactic(auto)]
 
-ghost use Rattle.std.specs.Prelude.{◌≡◌, set};
+ghost use Rattle.std.specs.Prelude.{◌≡◌, set, Some, None};
 ghost use Rattle.units.specs.Refusals.{pick};
 ghost use Rattle.memory.specs.Layout.{timer_at};
 ghost use Rattle.timing.specs.Timing.{clock_in, later};
@@ -33,38 +33,24 @@ fn run_of(node: &[u64], i: u8) -> Run
     )
 }
 
-// Whether the timer of Data starts, and in which cell: 0 where it does not.
-#[derive(Clone, Copy)]
-struct Starting {
-    starts: bool,
-    cell: u16,
-}
-
-// The timer of Data starts at its end where its number is still handed out and its timer stands.
-fn data_start(book: &[u16], i: u8, r: Run, u: u16) -> Starting
-    ensures starts_value { result.starts ≡ data_starts book.now i r u }
-    ensures cell_value { result.cell ≡ pick result.starts (cell i r.window (out_number u)) 0 }
+// The cell whose timer of Data starts at its end: where its number is still handed out and its timer stands.
+fn data_start(book: &[u16], i: u8, r: Run, u: u16) -> Option<u16>
+    ensures { result ≡ pick (data_starts book.now i r u)
+        (Some (cell i r.window (out_number u))) None }
 {
-    let nothing = Starting {
-        starts: false,
-        cell: 0,
-    };
     if !port::is_data(u, i) {
-        return nothing;
+        return None;
     }
     let window = r.window;
     let s = port::number(u);
     if r.handed <= distance(window.start, s) {
-        return nothing;
+        return None;
     }
     let g = cell_of(i, window, s);
     if cells::timer(book, g) == 0 {
-        return nothing;
+        return None;
     }
-    Starting {
-        starts: true,
-        cell: g,
-    }
+    Some(g)
 }
 
 // The timer in cell g of entry i starts at T, which is answered.
@@ -106,11 +92,10 @@ fn at_open(node: &mut [u64], book: &mut [u16], i: u8, u: u16)
         (end_of node.old i) state.Open u }
 {
     let run = run_of(node, i);
-    let data = data_start(book, i, run, u);
-    if !data.starts {
+    let Some(g) = data_start(book, i, run, u) else {
         return;
-    }
-    let timeout = start_data(node, book, i, data.cell);
+    };
+    let timeout = start_data(node, book, i, g);
     timing::heed(node, timeout)
 }
 
@@ -123,12 +108,9 @@ fn at_failing(node: &mut [u64], book: &mut [u16], i: u8, n: u16, u: u16)
         (end_of node.old i) (state.Failing n) u }
 {
     let run = run_of(node, i);
-    let data = data_start(book, i, run, u);
-    if !data.starts {
-        timing::rouse(node);
-        return;
+    if let Some(g) = data_start(book, i, run, u) {
+        start_data(node, book, i, g);
     }
-    start_data(node, book, i, data.cell);
     timing::rouse(node)
 }
 

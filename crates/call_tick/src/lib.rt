@@ -131,12 +131,7 @@ fn tick_entries(node: &mut [u64], book: &mut [u16], n: u8, c: u16) -> u16
 fn is_over(s: State) -> bool
     ensures { result ≡ is_over s }
 {
-    match s {
-        State::Closed => false,
-        State::Enabled(_, _) => false,
-        State::Open => false,
-        State::Failing(n) => n == 0,
-    }
+    matches!(s, State::Failing(0))
 }
 
 // Entry i becomes Enabled with a Reset waiting, and its bit is set, where it is Failing with no timer running and no
@@ -177,11 +172,7 @@ fn recover_all(node: &mut [u64], book: &mut [u16], n: u8) -> u16
 fn entries(node: &[u64]) -> u8
     ensures { result ≡ entries_of (bare node.now []) }
 {
-    let n = heads::count(node);
-    if n < 16 {
-        return n;
-    }
-    16
+    heads::count(node).min(16)
 }
 
 // Tick c, where a timer can run out.

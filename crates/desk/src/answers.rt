@@ -1,5 +1,6 @@
 // The line of a record, with the bytes of the block or the frame that its call wrote.
 use crate::kinds;
+use crate::kinds::Kind;
 use end_points::answers::Was;
 use lines::answers::{counted, planned};
 use lines::sink::Sink;
@@ -70,13 +71,13 @@ fn plan_line<W: Write>(
     text(to, out, next, b"\n")
 }
 
-// A record's line.
-pub fn line<W: Write>(
+// A call that a trace records too.
+fn traced_line<W: Write>(
     to: &mut Sink<W>,
     out: &mut [u8],
     at: usize,
     count: u64,
-    kind: u8,
+    number: u8,
     index: u8,
     bytes: &[u8],
     node: &mut Node,
@@ -84,14 +85,33 @@ pub fn line<W: Write>(
     store: &mut [u8],
     buffer: &mut [u8],
 ) -> usize {
-    if kind == kinds::COUNTS {
-        return counts_line(to, out, at, count, node, index);
-    }
-    if kind == kinds::PLAN {
-        return plan_line(to, out, at, count, node, book, store, index, bytes);
-    }
-    let t = trace_step::call(node, book, store, buffer, kind, index, bytes);
-    let mut next = trace_lines::begun(to, out, at, count, kind, t);
+    let t = trace_step::call(node, book, store, buffer, number, index, bytes);
+    let mut next = trace_lines::begun(to, out, at, count, number, t);
     next = values(to, out, next, part(buffer, 0, written(t)));
     text(to, out, next, b"\n")
+}
+
+// A record's line.
+pub fn line<W: Write>(
+    to: &mut Sink<W>,
+    out: &mut [u8],
+    at: usize,
+    count: u64,
+    kind: Kind,
+    index: u8,
+    bytes: &[u8],
+    node: &mut Node,
+    book: &mut Book,
+    store: &mut [u8],
+    buffer: &mut [u8],
+) -> usize {
+    match kind {
+        Kind::Traced(number) => {
+            traced_line(
+                to, out, at, count, number, index, bytes, node, book, store, buffer,
+            )
+        }
+        Kind::Plan => plan_line(to, out, at, count, node, book, store, index, bytes),
+        Kind::Counts => counts_line(to, out, at, count, node, index),
+    }
 }

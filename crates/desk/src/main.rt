@@ -15,7 +15,7 @@ use intake::read_full;
 use lines::sink::Sink;
 use lines::{flush, text, torn, unknown};
 use node::{Book, Node};
-use records::{Found, record_at};
+use records::{Stop, record_at};
 use std::io;
 use std::io::Write;
 use trace::layout;
@@ -42,27 +42,26 @@ fn run<W: Write>(
     let mut count: u64 = 0;
     while i < input.len() {
         count += 1;
-        match record_at(input, i) {
-            Found::Torn => return torn(to, out, at, count),
-            Found::Unknown => return unknown(to, out, at, count),
-            Found::Record(kind, index, end) => {
-                let start = i + layout::HEAD;
-                at = answers::line(
-                    to,
-                    out,
-                    at,
-                    count,
-                    kind,
-                    index,
-                    &input[start..end],
-                    node,
-                    book,
-                    store,
-                    buffer,
-                );
-                i = end;
-            }
-        }
+        let record = match record_at(input, i) {
+            Ok(record) => record,
+            Err(Stop::Torn) => return torn(to, out, at, count),
+            Err(Stop::Unknown) => return unknown(to, out, at, count),
+        };
+        let bytes = &input[i + layout::HEAD..record.end];
+        at = answers::line(
+            to,
+            out,
+            at,
+            count,
+            record.kind,
+            record.index,
+            bytes,
+            node,
+            book,
+            store,
+            buffer,
+        );
+        i = record.end;
     }
     at
 }

@@ -2,35 +2,44 @@
 ghost use Rattle.std.specs.Prelude.{length};
 ghost use Rattle.desk.specs.Records.{Lies};
 
-use crate::kinds;
+use crate::kinds::Kind;
 use trace::layout;
 
-// A record's kind, its index byte, and the end of its bytes, which begin right behind its head.
+// A record: its kind, its index byte, and the end of its bytes, which begin right behind its head.
 #[derive(Clone, Copy)]
-pub enum Found {
-    Record(u8, u8, usize),
+pub struct Record {
+    pub kind: Kind,
+    pub index: u8,
+    pub end: usize,
+}
+
+// Why no record lies at an index: it is cut short, or whole but of no kind that there is.
+#[derive(Clone, Copy)]
+pub enum Stop {
     Torn,
     Unknown,
 }
 
 // The record at an index.
-pub fn record_at(input: &[u8], i: usize) -> Found
+pub fn record_at(input: &[u8], i: usize) -> Result<Record, Stop>
     ensures { Lies i (length input.now) result }
 {
     if input.len() <= i {
-        return Found::Torn;
+        return Err(Stop::Torn);
     }
     let left = input.len() - i;
     if left < layout::HEAD {
-        return Found::Torn;
+        return Err(Stop::Torn);
     }
     let head = layout::head(input, i);
     let n = head.length as usize;
     if left - layout::HEAD < n {
-        return Found::Torn;
+        return Err(Stop::Torn);
     }
-    if kinds::is_kind(head.kind) {
-        return Found::Record(head.kind, head.index, i + layout::HEAD + n);
-    }
-    Found::Unknown
+    let kind = Kind::try_from(head.kind)?;
+    Ok(Record {
+        kind,
+        index: head.index,
+        end: i + layout::HEAD + n,
+    })
 }

@@ -1,10 +1,9 @@
 -- Where a record lies. Cited by `frames::records::record_at`. Assumes nothing.
-use Rattle.std.specs.Prelude.{ℕ, ◌≤◌, ◌<◌}
-use Rattle.frames.specs.declared.records.Found.{Found}
-use Rattle.frames.specs.declared.records.Found.TheVariants.{Record, Torn, Unknown}
+use Rattle.std.specs.Prelude.{ℕ, ◌≤◌, ◌<◌, Result, Ok, Err}
+use Rattle.frames.specs.declared.records.Record.{Record}
+use Rattle.frames.specs.declared.records.Stop.{Stop}
 
 -- a record found at i in an input of n bytes lies behind i and within the input
-abbrev pub Lies : ℕ → ℕ → Found → Type 0
-Lies i n (Record kind start end) = (i < end) × ((start ≤ end) × (end ≤ n))
-Lies i n Torn = Unit
-Lies i n Unknown = Unit
+abbrev pub Lies : ℕ → ℕ → Result Record Stop → Type 0
+Lies i n (Ok r) = (i < r.end) × ((r.start ≤ r.end) × (r.end ≤ n))
+Lies i n (Err w) = Unit

@@ -1,6 +1,7 @@
 // What each kind of record prints after its number and kind.
+use crate::kinds::Kind;
+use crate::records;
 use crate::records::get32;
-use crate::{kinds, records};
 use frame::reading::{payload, read};
 use frame::writing::write;
 use frame::{Fields, Header, type_number};
@@ -31,7 +32,7 @@ fn taken<W: Write>(to: &mut Sink<W>, out: &mut [u8], at: usize, h: Header, frame
     values(to, out, next, payload(frame))
 }
 
-// Kind 1: the reader.
+// The reader.
 fn reading<W: Write>(to: &mut Sink<W>, out: &mut [u8], at: usize, bytes: &[u8]) -> usize {
     match read(bytes) {
         Ok(h) => taken(to, out, at, h, bytes),
@@ -97,7 +98,7 @@ fn writing_into<W: Write>(
     values(to, out, next, buffer)
 }
 
-// Kind 2: the writer, with as much of the buffer as the record asks for.
+// The writer, with as much of the buffer as the record asks for.
 fn writing<W: Write>(
     to: &mut Sink<W>,
     out: &mut [u8],
@@ -112,7 +113,7 @@ fn writing<W: Write>(
     writing_into(to, out, at, bytes, buffer)
 }
 
-// Kind 3: the check byte.
+// The check byte.
 fn checking<W: Write>(to: &mut Sink<W>, out: &mut [u8], at: usize, bytes: &[u8]) -> usize {
     let next = value(to, out, at, 0);
     value(to, out, next, check8::check(bytes) as u64)
@@ -123,13 +124,13 @@ pub fn answer<W: Write>(
     to: &mut Sink<W>,
     out: &mut [u8],
     at: usize,
-    kind: u8,
+    kind: Kind,
     bytes: &[u8],
     buffer: &mut [u8],
 ) -> usize {
     match kind {
-        kinds::READ => reading(to, out, at, bytes),
-        kinds::WRITE => writing(to, out, at, bytes, buffer),
-        _ => checking(to, out, at, bytes),
+        Kind::Read => reading(to, out, at, bytes),
+        Kind::Write => writing(to, out, at, bytes, buffer),
+        Kind::Check => checking(to, out, at, bytes),
     }
 }

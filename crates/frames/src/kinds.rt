@@ -1,7 +1,24 @@
 // The kinds of record: what is done with its bytes.
+use crate::records::Stop;
 
-pub const READ: u8 = 1;
+// A kind with its number.
+#[derive(Clone, Copy)]
+pub enum Kind {
+    Read = 1,
+    Write = 2,
+    Check = 3,
+}
 
-pub const WRITE: u8 = 2;
+// The kind that a number stands for.
+impl TryFrom<u8> for Kind {
+    type Error = Stop;
 
-pub const CHECK: u8 = 3;
+    fn try_from(number: u8) -> Result<Kind, Stop> {
+        match number {
+            1 => Ok(Kind::Read),
+            2 => Ok(Kind::Write),
+            3 => Ok(Kind::Check),
+            _ => Err(Stop::Unknown),
+        }
+    }
+}

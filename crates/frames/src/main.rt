@@ -8,14 +8,15 @@
 // short for its fields, ends the run with `torn N`, a whole one of another kind with `unknown N`.
 #![tactic(auto)]
 
-mod kinds; // kinds.rt: the kinds' numbers
+mod kinds; // kinds.rt: which kinds there are
 mod records; // records.rt: where the records lie
 mod answers; // answers.rt: what each kind prints
 
 use intake::read_full;
+use kinds::Kind;
 use lines::sink::Sink;
 use lines::{flush, number, text, torn, unknown, value};
-use records::{Found, record_at};
+use records::{Stop, record_at};
 use std::io;
 use std::io::Write;
 
@@ -34,7 +35,7 @@ fn line<W: Write>(
     out: &mut [u8],
     at: usize,
     count: u64,
-    kind: u8,
+    kind: Kind,
     bytes: &[u8],
     buffer: &mut [u8],
 ) -> usize {
@@ -51,14 +52,14 @@ fn run<W: Write>(to: &mut Sink<W>, input: &[u8], out: &mut [u8], buffer: &mut [u
     let mut count: u64 = 0;
     while i < input.len() {
         count += 1;
-        match record_at(input, i) {
-            Found::Torn => return torn(to, out, at, count),
-            Found::Unknown => return unknown(to, out, at, count),
-            Found::Record(kind, start, end) => {
-                at = line(to, out, at, count, kind, &input[start..end], buffer);
-                i = end;
-            }
-        }
+        let record = match record_at(input, i) {
+            Ok(record) => record,
+            Err(Stop::Torn) => return torn(to, out, at, count),
+            Err(Stop::Unknown) => return unknown(to, out, at, count),
+        };
+        let bytes = &input[record.start..record.end];
+        at = line(to, out, at, count, record.kind, bytes, buffer);
+        i = record.end;
     }
     at
 }

@@ -2,7 +2,7 @@
 ghost use Rattle.std.specs.Prelude.{length};
 ghost use Rattle.frames.specs.Records.{Lies};
 
-use crate::kinds;
+use crate::kinds::Kind;
 use units::bytes::{byte_at, get16};
 
 // How many bytes stand before a record's own.
@@ -13,10 +13,17 @@ pub const ROOM: usize = 7;
 
 pub const PAYLOAD: usize = 11;
 
-// A record's kind, which is a listed one, and its bytes from start to before end.
+// A record: its kind, and its bytes from start to before end.
 #[derive(Clone, Copy)]
-pub enum Found {
-    Record(u8, usize, usize),
+pub struct Record {
+    pub kind: Kind,
+    pub start: usize,
+    pub end: usize,
+}
+
+// Why no record lies at an index: it is cut short, or whole but of no listed kind.
+#[derive(Clone, Copy)]
+pub enum Stop {
     Torn,
     Unknown,
 }
@@ -32,27 +39,28 @@ pub fn get32(s: &[u8], i: usize) -> usize {
 }
 
 // The record at an index. One to write holds at least the fields.
-pub fn record_at(input: &[u8], i: usize) -> Found
+pub fn record_at(input: &[u8], i: usize) -> Result<Record, Stop>
     ensures { Lies i (length input.now) result }
 {
     if input.len() <= i {
-        return Found::Torn;
+        return Err(Stop::Torn);
     }
-    let kind = byte_at(input, i);
     let left = input.len() - i;
     if left < HEAD {
-        return Found::Torn;
+        return Err(Stop::Torn);
     }
     let n = get32(input, i + 1);
     if left - HEAD < n {
-        return Found::Torn;
+        return Err(Stop::Torn);
     }
-    if kind == kinds::WRITE && n < PAYLOAD {
-        return Found::Torn;
-    }
-    if kind < kinds::READ || kinds::CHECK < kind {
-        return Found::Unknown;
+    let kind = Kind::try_from(byte_at(input, i))?;
+    if matches!(kind, Kind::Write) && n < PAYLOAD {
+        return Err(Stop::Torn);
     }
     let start = i + HEAD;
-    Found::Record(kind, start, start + n)
+    Ok(Record {
+        kind,
+        start,
+        end: start + n,
+    })
 }

@@ -1,6 +1,11 @@
 -- The kinds of record: what a host or a driver asks of a node, and what its call takes. Cited by the rules of a trace
 -- file and by the call that a record makes. Assumes nothing.
-use Rattle.std.specs.Prelude.{ℕ, Bool, ◌&&◌, ◌||◌, eqb, leb}
+use Rattle.std.specs.Prelude.{ℕ, Bool, ◌&&◌, ◌||◌, eqb, leb, Result, Ok, Err}
+use Rattle.units.specs.Refusals.{pick}
+use Rattle.units.specs.declared.refusals.Refusal.{Refusal}
+use Rattle.units.specs.declared.refusals.Refusal.TheVariants.{BadTrace}
+use Rattle.trace.specs.declared.kinds.Kind.{Kind}
+use Rattle.trace.specs.declared.kinds.Kind.TheVariants as kind
 
 -- ---- the numbers
 
@@ -32,6 +37,20 @@ abbrev pub report_kind : ℕ
 report_kind = 9
 
 -- ---- what they are
+
+-- the kind that a number stands for; no other number stands for one [L6, R21]
+abbrev pub kind_of : ℕ → Result Kind Refusal
+kind_of k =
+    pick (eqb k table_kind) (Ok kind.Table)
+    (pick (eqb k open_kind) (Ok kind.Open)
+    (pick (eqb k close_kind) (Ok kind.Close)
+    (pick (eqb k send_kind) (Ok kind.Send)
+    (pick (eqb k urgent_kind) (Ok kind.Urgent)
+    (pick (eqb k arrival_kind) (Ok kind.Arrival)
+    (pick (eqb k tick_kind) (Ok kind.Tick)
+    (pick (eqb k hand_out_kind) (Ok kind.HandOut)
+    (pick (eqb k report_kind) (Ok kind.Report)
+    (Err BadTrace)))))))))
 
 -- there is such a kind [L6]
 abbrev pub is_kind : ℕ → Bool

@@ -2,42 +2,70 @@
 ghost use Rattle.std.specs.Prelude.{◌≡◌};
 ghost use Rattle.trace.specs.Kinds.{is_kind, takes_index, takes_bytes};
 
-pub const TABLE: u8 = 1;
+use units::refusals::Refusal;
 
-pub const OPEN: u8 = 2;
+#[derive(Clone, Copy)]
+pub enum Kind {
+    Table,
+    Open,
+    Close,
+    Send,
+    Urgent,
+    Arrival,
+    Tick,
+    HandOut,
+    // The end of the frame under way.
+    Report,
+}
 
-pub const CLOSE: u8 = 3;
+// The kind that a number stands for. [L6]
+impl TryFrom<u8> for Kind {
+    ghost use Rattle.std.specs.Prelude.{◌≡◌};
+    ghost use Rattle.trace.specs.Kinds.{kind_of};
 
-pub const SEND: u8 = 4;
+    type Error = Refusal;
 
-pub const URGENT: u8 = 5;
+    ghost try_from_gives = { λ number kind. kind ≡ kind_of number };
 
-pub const ARRIVAL: u8 = 6;
-
-pub const TICK: u8 = 7;
-
-pub const HAND_OUT: u8 = 8;
-
-// The end of the frame under way.
-pub const REPORT: u8 = 9;
+    fn try_from(number: u8) -> Result<Kind, Refusal> {
+        match number {
+            1 => Ok(Kind::Table),
+            2 => Ok(Kind::Open),
+            3 => Ok(Kind::Close),
+            4 => Ok(Kind::Send),
+            5 => Ok(Kind::Urgent),
+            6 => Ok(Kind::Arrival),
+            7 => Ok(Kind::Tick),
+            8 => Ok(Kind::HandOut),
+            9 => Ok(Kind::Report),
+            _ => Err(Refusal::BadTrace),
+        }
+    }
+}
 
 // Whether there is such a kind.
 pub fn is_kind(kind: u8) -> bool
     ensures { result ≡ is_kind kind }
 {
-    TABLE <= kind && kind <= REPORT
+    Kind::try_from(kind).is_ok()
 }
 
-// Whether its call takes an index: open, close, send, urgent.
+// Whether its call takes an index.
 pub fn takes_index(kind: u8) -> bool
     ensures { result ≡ takes_index kind }
 {
-    OPEN <= kind && kind <= URGENT
+    matches!(
+        Kind::try_from(kind),
+        Ok(Kind::Open | Kind::Close | Kind::Send | Kind::Urgent)
+    )
 }
 
 // Whether its call takes bytes: a table, a payload or a frame.
 pub fn takes_bytes(kind: u8) -> bool
     ensures { result ≡ takes_bytes kind }
 {
-    kind == TABLE || SEND <= kind && kind <= ARRIVAL
+    matches!(
+        Kind::try_from(kind),
+        Ok(Kind::Table | Kind::Send | Kind::Urgent | Kind::Arrival)
+    )
 }

@@ -1,10 +1,12 @@
 // Which trace files are not refused with 21.
-ghost use Rattle.std.specs.Prelude.{◌≡◌, ◌≤◌};
+ghost use Rattle.std.specs.Prelude.{◌≡◌, ◌≤◌, eqb};
 ghost use Rattle.table.specs.Rules.{every_below};
+ghost use Rattle.trace.specs.Kinds.{table_kind};
 ghost use Rattle.trace.specs.Layout.{count_of};
 ghost use Rattle.trace.specs.Rules.{header_good, taken_or_zero, form_good, placed as Rules·placed, record_good};
 ghost use Rattle.trace.specs.Rules.{unused_good, good_trace};
 
+use crate::kinds::Kind;
 use crate::layout::{begin, count, head};
 use crate::{Head, kinds, layout};
 
@@ -73,14 +75,21 @@ fn taken_or_zero(takes: bool, n: u16) -> bool
     takes || n == 0
 }
 
+// Whether a record's kind is a table.
+fn is_table(kind: u8) -> bool
+    ensures { result ≡ eqb kind table_kind }
+{
+    matches!(Kind::try_from(kind), Ok(Kind::Table))
+}
+
 // Whether the first record is a table, and another none.
 fn placed(k: usize, kind: u8) -> bool
     ensures { result ≡ Rules·placed k kind }
 {
     if k == 0 {
-        return kind == kinds::TABLE;
+        return is_table(kind);
     }
-    kind != kinds::TABLE
+    !is_table(kind)
 }
 
 // Whether the offsets behind the file's end are 0.

@@ -11,7 +11,8 @@ ghost use Rattle.trace_step.specs.Steps.{call_of, step_of};
 
 use end_points::answers::Arrival;
 use node::{Book, Node};
-use trace::{kinds, layout};
+use trace::kinds::Kind;
+use trace::layout;
 use units::limits;
 use units::refusals::Refusal;
 
@@ -52,17 +53,17 @@ pub fn call(
         ≡ (call_of x kind index bytes.now).lent }
 {
     let i = index as usize;
-    match kind {
-        kinds::TABLE => Told::Plain(node::setup(node, book, store, bytes)),
-        kinds::OPEN => Told::Plain(node::open(node, book, i)),
-        kinds::CLOSE => Told::Plain(node::close(node, book, i)),
-        kinds::SEND => Told::Plain(node::send(node, book, store, i, bytes)),
-        kinds::URGENT => Told::Plain(node::urgent(node, book, store, i, bytes)),
-        kinds::ARRIVAL => Told::Arrival(node::arrival(node, book, store, out, bytes)),
-        kinds::TICK => Told::Tick(node::tick(node, book)),
-        kinds::HAND_OUT => Told::HandOut(node::hand_out(node, book, store, out)),
-        kinds::REPORT => Told::Plain(node::report(node, book)),
-        _ => Told::Plain(Err(Refusal::BadTrace)),
+    match Kind::try_from(kind) {
+        Ok(Kind::Table) => Told::Plain(node::setup(node, book, store, bytes)),
+        Ok(Kind::Open) => Told::Plain(node::open(node, book, i)),
+        Ok(Kind::Close) => Told::Plain(node::close(node, book, i)),
+        Ok(Kind::Send) => Told::Plain(node::send(node, book, store, i, bytes)),
+        Ok(Kind::Urgent) => Told::Plain(node::urgent(node, book, store, i, bytes)),
+        Ok(Kind::Arrival) => Told::Arrival(node::arrival(node, book, store, out, bytes)),
+        Ok(Kind::Tick) => Told::Tick(node::tick(node, book)),
+        Ok(Kind::HandOut) => Told::HandOut(node::hand_out(node, book, store, out)),
+        Ok(Kind::Report) => Told::Plain(node::report(node, book)),
+        Err(why) => Told::Plain(Err(why)),
     }
 }
 
