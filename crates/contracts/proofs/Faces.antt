@@ -2,10 +2,12 @@
 -- nothing.
 use Prim.Native.Nat.{ℕ}
 use denote.RattleType.{RattleType}
-use denote.Param.Laws.{Laws}
+use denote.Param.Laws.{Laws, IsCopy}
 use mir.Syntax.{Dict}
 use Rattle.std.specs.declared.io.traits.Write as Write
-use mathlib.Core.Path.{◌≡◌}
+use Rattle.std.specs.declared.clone.Clone as Clone
+use Rattle.lines.specs.declared.AsNumber as AsNumber
+use mathlib.Core.Path.{◌≡◌, refl}
 use mathlib.Core.List.{List, []}
 use Rattle.firmware.proofs.shelugvar_frame_read.Reads as shelugvar_frame_read
 use Rattle.firmware.proofs.shelugvar_fault_byte.Reads as shelugvar_fault_byte
@@ -25,24 +27,22 @@ use Rattle.firmware.proofs.nodes.shelugvar_tick.Reads as shelugvar_tick
 use Rattle.firmware.proofs.nodes.shelugvar_entry_state.Reads as shelugvar_entry_state
 use Rattle.firmware.proofs.nodes.shelugvar_store_need.Reads as shelugvar_store_need
 use Rattle.firmware.proofs.nodes.shelugvar_version.Reads as shelugvar_version
-use Rattle.lines.proofs.text.Reads as lines_text
-use Rattle.lines.proofs.number.Reads as lines_number
-use Rattle.lines.proofs.value.Reads as lines_value
-use Rattle.lines.proofs.numbers.Reads as lines_numbers
-use Rattle.lines.proofs.values.Reads as lines_values
-use Rattle.lines.proofs.refused.Reads as lines_refused
-use Rattle.lines.proofs.torn.Reads as lines_torn
-use Rattle.lines.proofs.unknown.Reads as lines_unknown
-use Rattle.lines.proofs.refused_all.Reads as lines_refused_all
-use Rattle.lines.proofs.answers.done.Reads as lines_done
-use Rattle.lines.proofs.answers.verdict.Reads as lines_verdict
-use Rattle.lines.proofs.answers.counted.Reads as lines_counted
-use Rattle.lines.proofs.answers.planned.Reads as lines_planned
-use Rattle.lines.proofs.answers.handed.Reads as lines_handed
-use Rattle.lines.proofs.answers.arrived.Reads as lines_arrived
+use Rattle.lines.proofs.Page.text.Reads as lines_text
+use Rattle.lines.proofs.Page.number.Reads as lines_number
+use Rattle.lines.proofs.Page.value.Reads as lines_value
+use Rattle.lines.proofs.Page.values.Reads as lines_values
+use Rattle.lines.proofs.Page.refused.Reads as lines_refused
+use Rattle.lines.proofs.Page.stopped.Reads as lines_stopped
+use Rattle.lines.proofs.Page.refused_all.Reads as lines_refused_all
+use Rattle.lines.proofs.Page.done.Reads as lines_done
+use Rattle.lines.proofs.Page.verdict.Reads as lines_verdict
+use Rattle.lines.proofs.Page.counted.Reads as lines_counted
+use Rattle.lines.proofs.Page.planned.Reads as lines_planned
+use Rattle.lines.proofs.Page.handed.Reads as lines_handed
+use Rattle.lines.proofs.Page.arrived.Reads as lines_arrived
 use Rattle.end_points.specs.Lent.{Lent, bare, stored, whole}
 use Rattle.contracts.proofs.Stores.{but_store}
-use Rattle.contracts.specs.Outcome.{One, OneAnswer, OneBehind}
+use Rattle.contracts.specs.Outcome.{One, OneAnswer, OneBehind, left_in}
 
 -- ---- firmware
 
@@ -111,47 +111,43 @@ shelugvar_version_one u v a r₁ r₂ e₁ e₂ p q = cc
 
 module _ (T T' : RattleType) (L : Laws T) (L' : Laws T') (W : Write.Ghosts T.Denot) (W' : Write.Ghosts T'.Denot)
     (D D' : Dict) where
-  pub lines_text_one : OneBehind (lines_text.Post T L W D) (lines_text.Post T' L' W' D') (λ e. e.1.0.now) (λ e. e.1.0.now)
-  lines_text_one u v s t a r₁ r₂ e₁ e₂ p q = (cc (p.0, q.0), cc (p.1.0, q.1.0))
+  pub lines_text_one : OneBehind (lines_text.Post T L W D) (lines_text.Post T' L' W' D') (λ e. left_in e.0.now) (λ e. left_in e.0.now)
+  lines_text_one u v page s t a r₁ r₂ e₁ e₂ p q = (refl, cc (p.0.name, q.0.name, p.1.0, q.1.0))
 
-  pub lines_number_one : OneBehind (lines_number.Post T L W D) (lines_number.Post T' L' W' D') (λ e. e.1.0.now) (λ e. e.1.0.now)
-  lines_number_one u v s t a r₁ r₂ e₁ e₂ p q = (cc (p.0, q.0), cc (p.1.0, q.1.0))
+  pub lines_number_one : OneBehind (lines_number.Post T L W D) (lines_number.Post T' L' W' D') (λ e. left_in e.0.now) (λ e. left_in e.0.now)
+  lines_number_one u v page s t a r₁ r₂ e₁ e₂ p q = (refl, cc (p.0.name, q.0.name, p.1.0, q.1.0))
 
-  pub lines_value_one : OneBehind (lines_value.Post T L W D) (lines_value.Post T' L' W' D') (λ e. e.1.0.now) (λ e. e.1.0.now)
-  lines_value_one u v s t a r₁ r₂ e₁ e₂ p q = (cc (p.0, q.0), cc (p.1.0, q.1.0))
+  pub lines_value_one : OneBehind (lines_value.Post T L W D) (lines_value.Post T' L' W' D') (λ e. left_in e.0.now) (λ e. left_in e.0.now)
+  lines_value_one u v page s t a r₁ r₂ e₁ e₂ p q = (refl, cc (p.0.name, q.0.name, p.1.0, q.1.0))
 
-  pub lines_numbers_one : OneBehind (lines_numbers.Post T L W D) (lines_numbers.Post T' L' W' D') (λ e. e.1.0.now) (λ e. e.1.0.now)
-  lines_numbers_one u v s t a r₁ r₂ e₁ e₂ p q = (cc (p.0, q.0), cc (p.1.0, q.1.0))
+  pub lines_refused_one : OneBehind (lines_refused.Post T L W D) (lines_refused.Post T' L' W' D') (λ e. left_in e.0.now) (λ e. left_in e.0.now)
+  lines_refused_one u v page s t a r₁ r₂ e₁ e₂ p q = (refl, cc (p.0.name, q.0.name, p.1.0, q.1.0))
 
-  pub lines_values_one : OneBehind (lines_values.Post T L W D) (lines_values.Post T' L' W' D') (λ e. e.1.0.now) (λ e. e.1.0.now)
-  lines_values_one u v s t a r₁ r₂ e₁ e₂ p q = (cc (p.0, q.0), cc (p.1.0, q.1.0))
+  pub lines_stopped_one : OneBehind (lines_stopped.Post T L W D) (lines_stopped.Post T' L' W' D') (λ e. left_in e.0.now) (λ e. left_in e.0.now)
+  lines_stopped_one u v page s t a r₁ r₂ e₁ e₂ p q = (refl, cc (p.0.name, q.0.name, p.1.0, q.1.0))
 
-  pub lines_refused_one : OneBehind (lines_refused.Post T L W D) (lines_refused.Post T' L' W' D') (λ e. e.1.0.now) (λ e. e.1.0.now)
-  lines_refused_one u v s t a r₁ r₂ e₁ e₂ p q = (cc (p.0, q.0), cc (p.1.0, q.1.0))
+  pub lines_refused_all_one : OneBehind (lines_refused_all.Post T L W D) (lines_refused_all.Post T' L' W' D') (λ e. left_in e.0.now) (λ e. left_in e.0.now)
+  lines_refused_all_one u v page s t a r₁ r₂ e₁ e₂ p q = (refl, cc (p.0.name, q.0.name, p.1.0, q.1.0))
 
-  pub lines_torn_one : OneBehind (lines_torn.Post T L W D) (lines_torn.Post T' L' W' D') (λ e. e.1.0.now) (λ e. e.1.0.now)
-  lines_torn_one u v s t a r₁ r₂ e₁ e₂ p q = (cc (p.0, q.0), cc (p.1.0, q.1.0))
+  pub lines_done_one : OneBehind (lines_done.Post T L W D) (lines_done.Post T' L' W' D') (λ e. left_in e.0.now) (λ e. left_in e.0.now)
+  lines_done_one u v page s t a r₁ r₂ e₁ e₂ p q = (refl, cc (p.0.name, q.0.name, p.1.0, q.1.0))
 
-  pub lines_unknown_one : OneBehind (lines_unknown.Post T L W D) (lines_unknown.Post T' L' W' D') (λ e. e.1.0.now) (λ e. e.1.0.now)
-  lines_unknown_one u v s t a r₁ r₂ e₁ e₂ p q = (cc (p.0, q.0), cc (p.1.0, q.1.0))
+  pub lines_verdict_one : OneBehind (lines_verdict.Post T L W D) (lines_verdict.Post T' L' W' D') (λ e. left_in e.0.now) (λ e. left_in e.0.now)
+  lines_verdict_one u v page s t a r₁ r₂ e₁ e₂ p q = (refl, cc (p.0.name, q.0.name, p.1.0, q.1.0))
 
-  pub lines_refused_all_one : OneBehind (lines_refused_all.Post T L W D) (lines_refused_all.Post T' L' W' D') (λ e. e.1.0.now) (λ e. e.1.0.now)
-  lines_refused_all_one u v s t a r₁ r₂ e₁ e₂ p q = (cc (p.0, q.0), cc (p.1.0, q.1.0))
+  pub lines_counted_one : OneBehind (lines_counted.Post T L W D) (lines_counted.Post T' L' W' D') (λ e. left_in e.0.now) (λ e. left_in e.0.now)
+  lines_counted_one u v page s t a r₁ r₂ e₁ e₂ p q = (refl, cc (p.0.name, q.0.name, p.1.0, q.1.0))
 
-  pub lines_done_one : OneBehind (lines_done.Post T L W D) (lines_done.Post T' L' W' D') (λ e. e.1.0.now) (λ e. e.1.0.now)
-  lines_done_one u v s t a r₁ r₂ e₁ e₂ p q = (cc (p.0, q.0), cc (p.1.0, q.1.0))
+  pub lines_planned_one : OneBehind (lines_planned.Post T L W D) (lines_planned.Post T' L' W' D') (λ e. left_in e.0.now) (λ e. left_in e.0.now)
+  lines_planned_one u v page s t a r₁ r₂ e₁ e₂ p q = (refl, cc (p.0.name, q.0.name, p.1.0, q.1.0))
 
-  pub lines_verdict_one : OneBehind (lines_verdict.Post T L W D) (lines_verdict.Post T' L' W' D') (λ e. e.1.0.now) (λ e. e.1.0.now)
-  lines_verdict_one u v s t a r₁ r₂ e₁ e₂ p q = (cc (p.0, q.0), cc (p.1.0, q.1.0))
+  pub lines_handed_one : OneBehind (lines_handed.Post T L W D) (lines_handed.Post T' L' W' D') (λ e. left_in e.0.now) (λ e. left_in e.0.now)
+  lines_handed_one u v page s t a r₁ r₂ e₁ e₂ p q = (refl, cc (p.0.name, q.0.name, p.1.0, q.1.0))
 
-  pub lines_counted_one : OneBehind (lines_counted.Post T L W D) (lines_counted.Post T' L' W' D') (λ e. e.1.0.now) (λ e. e.1.0.now)
-  lines_counted_one u v s t a r₁ r₂ e₁ e₂ p q = (cc (p.0, q.0), cc (p.1.0, q.1.0))
+  pub lines_arrived_one : OneBehind (lines_arrived.Post T L W D) (lines_arrived.Post T' L' W' D') (λ e. left_in e.0.now) (λ e. left_in e.0.now)
+  lines_arrived_one u v page s t a r₁ r₂ e₁ e₂ p q = (refl, cc (p.0.name, q.0.name, p.1.0, q.1.0))
 
-  pub lines_planned_one : OneBehind (lines_planned.Post T L W D) (lines_planned.Post T' L' W' D') (λ e. e.1.0.now) (λ e. e.1.0.now)
-  lines_planned_one u v s t a r₁ r₂ e₁ e₂ p q = (cc (p.0, q.0), cc (p.1.0, q.1.0))
-
-  pub lines_handed_one : OneBehind (lines_handed.Post T L W D) (lines_handed.Post T' L' W' D') (λ e. e.1.0.now) (λ e. e.1.0.now)
-  lines_handed_one u v s t a r₁ r₂ e₁ e₂ p q = (cc (p.0, q.0), cc (p.1.0, q.1.0))
-
-  pub lines_arrived_one : OneBehind (lines_arrived.Post T L W D) (lines_arrived.Post T' L' W' D') (λ e. e.1.0.now) (λ e. e.1.0.now)
-  lines_arrived_one u v s t a r₁ r₂ e₁ e₂ p q = (cc (p.0, q.0), cc (p.1.0, q.1.0))
+  -- of numbers of any type that is told as such
+  module _ (X : RattleType) (M : Laws X) (C : IsCopy X) (N : AsNumber.Ghosts X.Denot) (K : Clone.Ghosts X.Denot) (G H : Dict) where
+    pub lines_values_one : OneBehind (lines_values.Post T X L M C W D N G K H) (lines_values.Post T' X L' M C W' D' N G K H) (λ e. left_in e.0.now) (λ e. left_in e.0.now)
+    lines_values_one u v page s t a r₁ r₂ e₁ e₂ p q = (refl, cc (p.0.name, q.0.name, p.1.0, q.1.0))

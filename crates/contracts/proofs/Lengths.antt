@@ -1,7 +1,7 @@
 -- No answer leads outside what was lent, whatever the memory holds: the length of a block or a frame that is answered is
 -- at most the length lent, and the entry that an arrival answers is one that a table can have. By the contract's own text. Assumes nothing.
 use Prim.Native.Nat.{ℕ, zero, suc, ◌+◌, ◌≤◌, ◌<◌}
-use mathlib.Core.Path.{◌≡◌, refl, sym, ◌∙◌}
+use mathlib.Core.Path.{◌≡◌, refl, sym, ap, ◌∙◌}
 use mathlib.Core.Bool.{Bool, true, false, true≢false, not, ◌&&◌}
 use mathlib.Core.List.{List, [], ◌∷◌}
 use native.Mathlib.Decide.{dec_lt}
@@ -240,6 +240,10 @@ module _ (x : Lent) (long : length x.node ≡ node_words) where
           let closed : is_closed (end_of x.node (entry_of x h)).state ≡ true = rw is past_closed in
           absurd (true≢false (sym closed ∙ open'))
 
+  abbrev entry_told : Result Arrival Refusal → ℕ
+  entry_told (Ok a) = a.entry
+  entry_told (Err w) = 0
+
   read_low : (r : Result Header Refusal) (p : List ℕ) (i : ℕ) (w : Was) → read_answer x r p ≡ Ok (record { entry = i; was = w }) → i < most_entries
   unfolding read_answer entry_answer
   read_low (Err v) p i w e = let z : ◌≡◌ {A = ℕ} 0 1 = cc in absurd (omega arith)
@@ -248,7 +252,7 @@ module _ (x : Lent) (long : length x.node ≡ node_words) where
       sides : (v : Verdict) → entry_verdict x (entry_of x h) h ≡ v
           → answer_as v (Ok (record { entry = entry_of x h; was = taken_in_answer x (entry_of x h) (end_of x.node (entry_of x h)) h.kind h.seq.0 p }))
           ≡ Ok (record { entry = i; was = w }) → i < most_entries
-      sides (Ok _) q e = let z : entry_of x h ≡ i = cc in rw (← z) (found_low h q)
+      sides (Ok _) q e = let z : entry_of x h ≡ i = ap entry_told e in rw (← z) (found_low h q)
       sides (Err v) q e = let z : ◌≡◌ {A = ℕ} 0 1 = cc in absurd (omega arith)
 
   arrival_low : (f : List ℕ) (i : ℕ) (w : Was) → arrival_answer x f ≡ Ok (record { entry = i; was = w }) → i < most_entries

@@ -9,7 +9,9 @@ use mathlib.Core.Path.{◌≡◌, refl, sym, ap, subst, ◌∙◌}
 use mathlib.Core.Bool.{Bool, true, false}
 use mathlib.Core.List.{List}
 use lib.Dec.{eqb, ltb}
+use Rattle.std.specs.Borrow.{GName}
 use Rattle.units.specs.Refusals.{pick}
+use Rattle.lines.specs.Lines.{Page}
 use Rattle.end_points.specs.Lent.{Lent, whole}
 use Rattle.call_open.specs.Setup.{setup_answer, setup_after}
 use Rattle.call_open.specs.Opening.{open_after, close_after}
@@ -39,7 +41,7 @@ use Rattle.trace_step.proofs.step.Reads as trace_step_step
 use Rattle.trace_lines.proofs.begun.Reads as trace_lines_begun
 use Rattle.trace_lines.proofs.replay.Reads as trace_lines_replay
 use Rattle.contracts.specs.Gives.{Makes, Steps, Replays}
-use Rattle.contracts.specs.Outcome.{One, OneAnswer, OneBehind, Spares, ToldRefused}
+use Rattle.contracts.specs.Outcome.{One, OneAnswer, OneBehind, left_in, Spares, ToldRefused}
 use Rattle.contracts.proofs.Refused.{arrival_spared}
 use Rattle.std.specs.Prelude.{Ok}
 
@@ -82,14 +84,14 @@ trace_step_step_one u v a r₁ r₂ e₁ e₂ p q = (cc (p.0, q.0), cc (p.1, q.1
 module _ (T T' : RattleType) (L : Laws T) (L' : Laws T') (W : Write.Ghosts T.Denot) (W' : Write.Ghosts T'.Denot)
     (D D' : Dict) where
   pub trace_lines_begun_one :
-      OneBehind (trace_lines_begun.Post T L W D) (trace_lines_begun.Post T' L' W' D') (λ e. e.1.0.now) (λ e. e.1.0.now)
-  trace_lines_begun_one u v s t a r₁ r₂ e₁ e₂ p q = (cc (p.0, q.0), cc (p.1.0, q.1.0))
+      OneBehind (trace_lines_begun.Post T L W D) (trace_lines_begun.Post T' L' W' D') (λ e. left_in e.0.now) (λ e. left_in e.0.now)
+  trace_lines_begun_one u v page s t a r₁ r₂ e₁ e₂ p q = (refl, cc (p.0.name, q.0.name, p.1.0, q.1.0))
 
-  pub trace_lines_replay_one : OneBehind {M = List ℕ × Lent}
+  pub trace_lines_replay_one : OneBehind {M = (Page × GName) × Lent}
       (trace_lines_replay.Post T L W D) (trace_lines_replay.Post T' L' W' D')
-      (λ e. (e.1.0.now, whole e.1.1.1.1.0.now e.1.1.1.1.1.0.now e.1.1.1.1.1.1.0.now e.1.1.1.1.1.1.1.0.now))
-      (λ e. (e.1.0.now, whole e.1.1.1.1.0.now e.1.1.1.1.1.0.now e.1.1.1.1.1.1.0.now e.1.1.1.1.1.1.1.0.now))
-  trace_lines_replay_one u v s t a r₁ r₂ e₁ e₂ p q = (cc (p.0, q.0), cc (p.1.0, q.1.0, p.1.1.0, q.1.1.0))
+      (λ e. (left_in e.0.now, whole e.1.1.1.0.now e.1.1.1.1.0.now e.1.1.1.1.1.0.now e.1.1.1.1.1.1.0.now))
+      (λ e. (left_in e.0.now, whole e.1.1.1.0.now e.1.1.1.1.0.now e.1.1.1.1.1.0.now e.1.1.1.1.1.1.0.now))
+  trace_lines_replay_one u v page s t a r₁ r₂ e₁ e₂ p q = (refl, cc (p.0.name, q.0.name, p.1.0, q.1.0, p.1.1.0, q.1.1.0))
 
 -- ---- a record's call that is refused alters nothing
 
@@ -173,7 +175,7 @@ step_makes u a r e p given l =
 -- a replay leaves what its records leave
 pub replay_leaves : (T : RattleType) (L : Laws T) (W : Write.Ghosts T.Denot) (D : Dict)
     → Replays (trace_lines_replay.Post T L W D)
-    (λ a. whole a.1.1.1.1.0.now a.1.1.1.1.1.0.now a.1.1.1.1.1.1.0.now a.1.1.1.1.1.1.1.0.now)
-    (λ a. a.1.1.1.0.now)
+    (λ a. whole a.1.1.1.0.now a.1.1.1.1.0.now a.1.1.1.1.1.0.now a.1.1.1.1.1.1.0.now)
+    (λ a. a.1.1.0.now)
 unfolding replay_lent
 replay_leaves T L W D u a r e p good = rw good at p.1.1.0

@@ -2,10 +2,13 @@
 -- entry, the answer, and the arguments at exit. Cited by the laws of proofs/, for every public function. Assumes
 -- nothing.
 use Rattle.std.specs.Prelude.{ℕ, ◌≤◌, ◌<◌, ◌≡◌, List, length, get_or, leb, Result, Ok, Err}
+use Rattle.std.specs.Borrow.{GName}
 use Rattle.units.specs.Limits.{most_entries}
 use Rattle.units.specs.Refusals.{pick}
 use Rattle.units.specs.declared.refusals.Refusal.{Refusal}
 use Rattle.memory.specs.Layout.{node_words}
+use Rattle.lines.specs.Lines.{Page, seen}
+use Rattle.lines.specs.declared.Page as lent
 use Rattle.end_points.specs.declared.answers.Was.{Was}
 use Rattle.end_points.specs.declared.answers.Was.TheVariants as was
 use Rattle.trace_step.specs.declared.Told.{Told}
@@ -30,12 +33,17 @@ abbrev pub OneAfter : {L A R E M : Type 0} → (L → A → R → E → Type 0) 
 OneAfter {L} {A} {R} {E} Post lent =
     (u v : L) (a : A) (r₁ r₂ : R) (e₁ e₂ : E) → Post u a r₁ e₁ → Post v a r₂ e₂ → lent e₁ ≡ lent e₂
 
--- of a function that is lent a sink before all else: whatever the two sinks are, and whatever writers they have [O1]
-abbrev pub OneBehind : {L L' S S' A R E E' M : Type 0}
-    → (L → S × A → R → E → Type 0) → (L' → S' × A → R → E' → Type 0) → (E → M) → (E' → M) → Type 0
-OneBehind {L} {L'} {S} {S'} {A} {R} {E} {E'} Post Post' lent lent' =
-    (u : L) (v : L') (s : S) (t : S') (a : A) (r₁ r₂ : R) (e₁ : E) (e₂ : E')
-    → Post u (s, a) r₁ e₁ → Post' v (t, a) r₂ e₂ → (r₁ ≡ r₂) × (lent e₁ ≡ lent' e₂)
+-- what a page holds, and which buffer that is
+abbrev pub left_in : lent.Page → Page × GName
+left_in p = (seen p, p.bytes.ghost_name)
+
+-- of a function that is lent a page and a sink before all else: whatever the two sinks are, and whatever writers they
+-- have [O1]
+abbrev pub OneBehind : {L L' P S S' A R E E' M : Type 0}
+    → (L → P × (S × A) → R → E → Type 0) → (L' → P × (S' × A) → R → E' → Type 0) → (E → M) → (E' → M) → Type 0
+OneBehind {L} {L'} {P} {S} {S'} {A} {R} {E} {E'} Post Post' lent lent' =
+    (u : L) (v : L') (p : P) (s : S) (t : S') (a : A) (r₁ r₂ : R) (e₁ : E) (e₂ : E')
+    → Post u (p, (s, a)) r₁ e₁ → Post' v (p, (t, a)) r₂ e₂ → (r₁ ≡ r₂) × (lent e₁ ≡ lent' e₂)
 
 -- ---- refused calls
 

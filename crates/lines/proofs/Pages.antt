@@ -1,4 +1,4 @@
--- Laws of pages: where text goes, a page by its parts, and numbers appended one after the other. Assumes nothing.
+-- Laws of pages: where text goes, and numbers appended one after the other. Assumes nothing.
 use mathlib.Core.Path.{◌≡◌, refl, ap, ◌∙◌}
 use mathlib.Core.Bool.{Bool, true, false}
 use mathlib.Core.List.{List, [], ◌∷◌, foldl-append}
@@ -10,7 +10,7 @@ use lib.Dec.{leb}
 use lib.ListN.{length, get_or, take}
 use lib.Seq.{take-suc, take_all}
 use Rattle.units.specs.Refusals.{pick}
-use Rattle.lines.specs.Lines.{Page, page, place_of, valued, valued_all}
+use Rattle.lines.specs.Lines.{Page, place_of, valued, valued_all}
 
 -- text goes within the buffer
 pub place_le : (size at n : ℕ) → place_of size at n ≤ size
@@ -20,23 +20,17 @@ place_le size at n = go (leb (at + n) size) refl
     go true e = omega (arith, leb-true (at + n) size e)
     go false e = omega arith
 
--- a page is its two parts
-pub whole : {p : Page} {bytes : List ℕ} {taken : ℕ} → taken ≡ p.taken → bytes ≡ p.bytes → page bytes taken ≡ p
-whole e f = rw (e, f)
-
 -- what a loop over numbers keeps: `q` is `p` with the first i of them appended
 pub record Begun (p : Page) (vs : List ℕ) (q : Page) (i : ℕ) : Type 0 where
   pub within : i ≤ length vs
-  pub sized : length q.bytes ≡ length p.bytes
   pub first : q ≡ valued_all p (take i vs)
 
 module _ {p q : Page} {vs : List ℕ} {i : ℕ} (b : Begun p vs q i) where
   -- one number more
-  pub more : {r : Page} → i < length vs → length r.bytes ≡ length q.bytes → r ≡ valued q (get_or vs i 0) → Begun p vs r (i + 1)
+  pub more : {r : Page} → i < length vs → r ≡ valued q (get_or vs i 0) → Begun p vs r (i + 1)
   unfolding valued_all
-  more h l e = record {
+  more h e = record {
     within = omega arith;
-    sized = l ∙ b.sized;
     first = rw (add-one, take-suc vs i 0 h, foldl-append valued p (take i vs) (get_or vs i 0 ∷ [])) (e ∙ ap (λ (x : Page). valued x (get_or vs i 0)) b.first);
   }
 

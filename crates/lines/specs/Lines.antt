@@ -1,11 +1,14 @@
 -- Text in a lent buffer: what is appended, and what the buffer holds afterwards. Cited by `lines`. Assumes nothing.
 use mathlib.Core.List.{List, [], ◌∷◌, ◌++◌, foldl}
-use Rattle.std.specs.Prelude.{ℕ, zero, suc, ◌+◌, ◌/◌, ◌%◌, leb, ltb, length}
+use Rattle.std.specs.Prelude.{ℕ, zero, suc, ◌+◌, ◌/◌, ◌%◌, ◌≡◌, leb, ltb, length}
 use Prim.Native.Char.{code}
 use Prim.Native.String as string
 use Prim.Native.String.{String}
 use Rattle.std.proofs.lemmas.List.Edits.{sets}
 use Rattle.units.specs.Refusals.{pick}
+use Rattle.lines.specs.declared.Page as lent
+use Rattle.lines.specs.declared.Stop.{Stop}
+use Rattle.lines.specs.declared.Stop.TheVariants as stop
 
 -- ---- the buffer
 
@@ -16,6 +19,15 @@ pub record Page : Type 0 where
 
 abbrev pub page : List ℕ → ℕ → Page
 page bytes taken = record { bytes = bytes; taken = taken }
+
+-- what a page of the code is now
+abbrev pub seen : lent.Page → Page
+seen p = page p.bytes.now p.taken
+
+-- the buffer that a page of the code was lent stays in it, as long as it was
+pub record SameBuffer (old new : lent.Page) : Type 0 where
+  pub name : new.bytes.ghost_name ≡ old.bytes.ghost_name
+  pub long : length new.bytes.now ≡ length old.bytes.now
 
 -- where n bytes more go, in a buffer of `size` bytes of which `at` are taken: behind those, or at the start where they
 -- do not fit
@@ -51,6 +63,11 @@ valued p v = appended (appended p (ascii " ")) (decimal_of v)
 -- numbers more, one after the other: a fold, its last step outermost
 unfoldable pub valued_all : Page → List ℕ → Page
 valued_all p vs = foldl valued p vs
+
+-- why a run of records ends, in a word
+abbrev pub word_of : Stop → List ℕ
+word_of stop.Torn = ascii "torn"
+word_of stop.Unknown = ascii "unknown"
 
 -- a last line: a word and a number
 unfoldable pub last_line : Page → List ℕ → ℕ → Page

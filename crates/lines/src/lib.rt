@@ -1,14 +1,13 @@
-// Lines of text, put together in a lent buffer, `out`, and written to a sink, `to`, when it is full.
-// `at` is how many of the buffer's bytes are taken; each function answers how many are afterwards.
-// Proved: what stands in the buffer afterwards and what is answered, by the definitions of specs/Lines.antt, for every
-// input and whether or not a write fails.
+// Lines of text, put together in a page and written to a sink, `to`, when that is full.
+// Proved: what the page holds afterwards, by the definitions of specs/Lines.antt, for every input and whether or not a
+// write fails.
 #![tactic(auto)]
 
 pub mod sink; // sink.rt: where text goes, and the error that ends it
-pub mod answers; // answers.rt: what the calls answered, in the paper's numbers
+mod answers; // answers.rt: what the calls answered, in the paper's numbers
 
-ghost use Rattle.std.specs.Prelude.{◌≡◌, ◌≤◌, [], take, length};
-ghost use Rattle.lines.specs.Lines.{page, place_of, appended, ascii, decimal_of, valued, valued_all, last_line};
+ghost use Rattle.std.specs.Prelude.{◌≡◌, ◌≤◌, ℕ, [], map, take, length};
+ghost use Rattle.lines.specs.Lines.{SameBuffer, page, seen, place_of, appended, ascii, decimal_of, valued, valued_all, word_of, last_line};
 ghost use Rattle.lines.specs.Sink.{Puts, Says, HasRoom, value_text, values_text, last_text};
 ghost use Rattle.units.specs.Refusals.{number_of};
 ghost use Rattle.frame.specs.Faults.{refused_of};
@@ -20,153 +19,171 @@ use std::io::Write;
 use units::bytes::put_all;
 use units::refusals::Refusal;
 
-// Writes out what is taken.
-pub fn flush<W: Write>(to: &mut Sink<W>, out: &[u8], at: usize)
-    ensures { at ≤ length out.now → Puts W.contents to.old to.new (take at out.now) }
-{
-    if at <= out.len() {
-        to.put(&out[0..at]);
+// Text that is put together: a buffer that was lent, and how many of its bytes are taken.
+#[derive(Drop)]
+pub struct Page<'a> {
+    pub bytes: &'a mut [u8],
+    pub taken: usize,
+}
+
+// What is told as a number of 64 bits.
+pub trait AsNumber: Copy {
+    ghost number: { Self → ℕ };
+
+    fn as_number(self) -> u64
+        ensures { result ≡ number self };
+}
+
+impl AsNumber for u8 {
+    ghost number = { λ v. v };
+
+    fn as_number(self) -> u64 {
+        self as u64
     }
 }
 
-// Where n bytes more go. Where there is no room behind what is taken, that is written out first.
-fn place<W: Write>(to: &mut Sink<W>, out: &[u8], at: usize, n: usize) -> usize
-    ensures answer { result ≡ place_of (length out.now) at n }
-    ensures written { at ≤ length out.now → Says W.contents to.old (page out.now at) to.new (page out.now result) [] }
-{
-    if out.len() < at {
-        return 0;
+impl AsNumber for u64 {
+    ghost number = { λ v. v };
+
+    fn as_number(self) -> u64 {
+        self
     }
-    if out.len() - at < n {
-        flush(to, out, at);
-        return 0;
+}
+
+// Why a run of records ends before its input does.
+#[derive(Clone, Copy)]
+pub enum Stop {
+    Torn, // a record is cut short
+    Unknown, // a record is of no listed kind
+}
+
+impl Page<'_> {
+    // Writes out what is taken.
+    pub fn flush<W: Write>(&self, to: &mut Sink<W>)
+        ensures { self.now.taken ≤ length self.now.bytes.now →
+            Puts W.contents to.old to.new (take self.now.taken self.now.bytes.now) }
+    {
+        if self.taken <= self.bytes.len() {
+            to.put(&self.bytes[0..self.taken]);
+        }
     }
-    at
-}
 
-// Bytes more.
-#[tactic(auto, unfolding(crate::specs::Lines::appended), using(crate::proofs::Pages::place_le))]
-pub fn text<W: Write>(to: &mut Sink<W>, out: &mut [u8], at: usize, bytes: &[u8]) -> usize
-    ensures answer { result ≡ (appended (page out.old at) bytes.now).taken }
-    ensures after { out.new ≡ (appended (page out.old at) bytes.now).bytes }
-    ensures written { at ≤ length out.old → length bytes.now ≤ length out.old →
-        Says W.contents to.old (page out.old at) to.new (page out.new result) bytes.now }
-{
-    let n = bytes.len();
-    let from = place(to, out, at, n);
-    put_all(out, from, bytes);
-    from + n
-}
-
-// A number more, in decimal.
-#[tactic(auto, using(crate::proofs::Decimals::spelt))]
-pub fn number<W: Write>(to: &mut Sink<W>, out: &mut [u8], at: usize, v: u64) -> usize
-    ensures answer { result ≡ (appended (page out.old at) (decimal_of v)).taken }
-    ensures after { out.new ≡ (appended (page out.old at) (decimal_of v)).bytes }
-    ensures written { HasRoom (page out.old at) →
-        Says W.contents to.old (page out.old at) to.new (page out.new result) (decimal_of v) }
-{
-    let mut digits = Buffer::new();
-    text(to, out, at, digits.format(v).as_bytes())
-}
-
-// A number of a line, with the space before it: a value.
-#[tactic(auto, unfolding(crate::specs::Lines::valued), using(crate::proofs::Pages::whole))]
-pub fn value<W: Write>(to: &mut Sink<W>, out: &mut [u8], at: usize, v: u64) -> usize
-    ensures answer { result ≡ (valued (page out.old at) v).taken }
-    ensures after { out.new ≡ (valued (page out.old at) v).bytes }
-    ensures written { HasRoom (page out.old at) →
-        Says W.contents to.old (page out.old at) to.new (page out.new result) (value_text v) }
-{
-    let next = text(to, out, at, b" ");
-    number(to, out, next, v)
-}
-
-// The numbers of a slice, each a value.
-pub fn numbers<W: Write>(to: &mut Sink<W>, out: &mut [u8], at: usize, vs: &[u64]) -> usize
-    ensures answer { result ≡ (valued_all (page out.old at) vs.now).taken }
-    ensures after { out.new ≡ (valued_all (page out.old at) vs.now).bytes }
-    ensures written { HasRoom (page out.old at) →
-        Says W.contents to.old (page out.old at) to.new (page out.new result) (values_text vs.now) }
-{
-    let mut next = at;
-    for v in vs {
-        next = value(to, out, next, *v);
+    // Where n bytes more go. Where there is no room behind what is taken, that is written out first.
+    fn place<W: Write>(&self, to: &mut Sink<W>, n: usize) -> usize
+        ensures answer { result ≡ place_of (length self.now.bytes.now) self.now.taken n }
+        ensures written { self.now.taken ≤ length self.now.bytes.now →
+            Says W.contents to.old (seen self.now) to.new (page self.now.bytes.now result) [] }
+    {
+        if self.bytes.len() < self.taken {
+            return 0;
+        }
+        if self.bytes.len() - self.taken < n {
+            self.flush(to);
+            return 0;
+        }
+        self.taken
     }
-    next
-}
 
-// The bytes of a slice, each a value.
-pub fn values<W: Write>(to: &mut Sink<W>, out: &mut [u8], at: usize, bytes: &[u8]) -> usize
-    ensures answer { result ≡ (valued_all (page out.old at) bytes.now).taken }
-    ensures after { out.new ≡ (valued_all (page out.old at) bytes.now).bytes }
-    ensures written { HasRoom (page out.old at) →
-        Says W.contents to.old (page out.old at) to.new (page out.new result) (values_text bytes.now) }
-{
-    let mut next = at;
-    for b in bytes {
-        next = value(to, out, next, *b as u64);
+    // Bytes more.
+    #[tactic(auto, unfolding(crate::specs::Lines::appended), using(crate::proofs::Pages::place_le))]
+    pub fn text<W: Write>(&mut self, to: &mut Sink<W>, bytes: &[u8])
+        ensures lent { SameBuffer self.old self.new }
+        ensures after { seen self.new ≡ appended (seen self.old) bytes.now }
+        ensures written { self.old.taken ≤ length self.old.bytes.now → length bytes.now ≤ length self.old.bytes.now →
+            Says W.contents to.old (seen self.old) to.new (seen self.new) bytes.now }
+    {
+        let n = bytes.len();
+        let from = self.place(to, n);
+        put_all(self.bytes, from, bytes);
+        self.taken = from + n;
     }
-    next
-}
 
-// A refusal's number and, where it is for a fault of a frame, the number of the byte, each a value.
-#[tactic(auto, unfolding(crate::specs::Lines::valued_all), using(crate::proofs::Pages::whole))]
-pub fn refused<W: Write>(to: &mut Sink<W>, out: &mut [u8], at: usize, why: Refusal) -> usize
-    ensures answer { result ≡ (valued_all (page out.old at) (refused_of why)).taken }
-    ensures after { out.new ≡ (valued_all (page out.old at) (refused_of why)).bytes }
-    ensures written { HasRoom (page out.old at) →
-        Says W.contents to.old (page out.old at) to.new (page out.new result) (values_text (refused_of why)) }
-{
-    let n = u8::from(why);
-    let next = value(to, out, at, n as u64);
-    let byte = faults::fault_byte(n);
-    if byte == faults::NO_BYTE {
-        return next;
+    // A number more, in decimal.
+    #[tactic(auto, using(crate::proofs::Decimals::spelt))]
+    pub fn number<W: Write>(&mut self, to: &mut Sink<W>, v: u64)
+        ensures lent { SameBuffer self.old self.new }
+        ensures after { seen self.new ≡ appended (seen self.old) (decimal_of v) }
+        ensures written { HasRoom (seen self.old) →
+            Says W.contents to.old (seen self.old) to.new (seen self.new) (decimal_of v) }
+    {
+        let mut digits = Buffer::new();
+        self.text(to, digits.format(v).as_bytes());
     }
-    value(to, out, next, byte as u64)
-}
 
-// A last line: a word that says why the run ends, and the number of the record at which it does.
-#[tactic(auto, unfolding(crate::specs::Lines::last_line), using(crate::proofs::Pages::whole))]
-fn last<W: Write>(to: &mut Sink<W>, out: &mut [u8], at: usize, word: &[u8], count: u64) -> usize
-    ensures answer { result ≡ (last_line (page out.old at) word.now count).taken }
-    ensures after { out.new ≡ (last_line (page out.old at) word.now count).bytes }
-    ensures written { HasRoom (page out.old at) → length word.now ≤ length out.old →
-        Says W.contents to.old (page out.old at) to.new (page out.new result) (last_text word.now count) }
-{
-    let mut next = text(to, out, at, word);
-    next = value(to, out, next, count);
-    text(to, out, next, b"\n")
-}
+    // A number of a line, with the space before it: a value.
+    #[tactic(auto, unfolding(crate::specs::Lines::valued))]
+    pub fn value<W: Write>(&mut self, to: &mut Sink<W>, v: u64)
+        ensures lent { SameBuffer self.old self.new }
+        ensures after { seen self.new ≡ valued (seen self.old) v }
+        ensures written { HasRoom (seen self.old) →
+            Says W.contents to.old (seen self.old) to.new (seen self.new) (value_text v) }
+    {
+        self.text(to, b" ");
+        self.number(to, v);
+    }
 
-// The last line where a record is cut short.
-pub fn torn<W: Write>(to: &mut Sink<W>, out: &mut [u8], at: usize, count: u64) -> usize
-    ensures answer { result ≡ (last_line (page out.old at) (ascii "torn") count).taken }
-    ensures after { out.new ≡ (last_line (page out.old at) (ascii "torn") count).bytes }
-    ensures written { HasRoom (page out.old at) →
-        Says W.contents to.old (page out.old at) to.new (page out.new result) (last_text (ascii "torn") count) }
-{
-    last(to, out, at, b"torn", count)
-}
+    // The numbers of a slice, each a value.
+    pub fn values<W: Write, T: AsNumber>(&mut self, to: &mut Sink<W>, vs: &[T])
+        ensures lent { SameBuffer self.old self.new }
+        ensures after { seen self.new ≡ valued_all (seen self.old) (map T.number vs.now) }
+        ensures written { HasRoom (seen self.old) →
+            Says W.contents to.old (seen self.old) to.new (seen self.new) (values_text (map T.number vs.now)) }
+    {
+        for v in vs {
+            self.value(to, v.as_number());
+        }
+    }
 
-// The only line where the whole input is refused.
-pub fn refused_all<W: Write>(to: &mut Sink<W>, out: &mut [u8], at: usize, why: Refusal) -> usize
-    ensures answer { result ≡ (last_line (page out.old at) (ascii "refused") (number_of why)).taken }
-    ensures after { out.new ≡ (last_line (page out.old at) (ascii "refused") (number_of why)).bytes }
-    ensures written { HasRoom (page out.old at) →
-        Says W.contents to.old (page out.old at) to.new (page out.new result)
-        (last_text (ascii "refused") (number_of why)) }
-{
-    last(to, out, at, b"refused", u8::from(why) as u64)
-}
+    // A refusal's number and, where it is for a fault of a frame, the number of the byte, each a value.
+    #[tactic(auto, unfolding(crate::specs::Lines::valued_all))]
+    pub fn refused<W: Write>(&mut self, to: &mut Sink<W>, why: Refusal)
+        ensures lent { SameBuffer self.old self.new }
+        ensures after { seen self.new ≡ valued_all (seen self.old) (refused_of why) }
+        ensures written { HasRoom (seen self.old) →
+            Says W.contents to.old (seen self.old) to.new (seen self.new) (values_text (refused_of why)) }
+    {
+        let n = u8::from(why);
+        self.value(to, n as u64);
+        let byte = faults::fault_byte(n);
+        if byte != faults::NO_BYTE {
+            self.value(to, byte as u64);
+        }
+    }
 
-// The last line where a record is of no listed kind.
-pub fn unknown<W: Write>(to: &mut Sink<W>, out: &mut [u8], at: usize, count: u64) -> usize
-    ensures answer { result ≡ (last_line (page out.old at) (ascii "unknown") count).taken }
-    ensures after { out.new ≡ (last_line (page out.old at) (ascii "unknown") count).bytes }
-    ensures written { HasRoom (page out.old at) →
-        Says W.contents to.old (page out.old at) to.new (page out.new result) (last_text (ascii "unknown") count) }
-{
-    last(to, out, at, b"unknown", count)
+    // A last line: a word that says why the run ends, and a number.
+    #[tactic(auto, unfolding(crate::specs::Lines::last_line))]
+    fn last<W: Write>(&mut self, to: &mut Sink<W>, word: &[u8], v: u64)
+        ensures lent { SameBuffer self.old self.new }
+        ensures after { seen self.new ≡ last_line (seen self.old) word.now v }
+        ensures written { HasRoom (seen self.old) → length word.now ≤ length self.old.bytes.now →
+            Says W.contents to.old (seen self.old) to.new (seen self.new) (last_text word.now v) }
+    {
+        self.text(to, word);
+        self.value(to, v);
+        self.text(to, b"\n");
+    }
+
+    // The last line of a run that stops, with the number of the record at which it does.
+    pub fn stopped<W: Write>(&mut self, to: &mut Sink<W>, why: Stop, count: u64)
+        ensures lent { SameBuffer self.old self.new }
+        ensures after { seen self.new ≡ last_line (seen self.old) (word_of why) count }
+        ensures written { HasRoom (seen self.old) →
+            Says W.contents to.old (seen self.old) to.new (seen self.new) (last_text (word_of why) count) }
+    {
+        match why {
+            Stop::Torn => self.last(to, b"torn", count),
+            Stop::Unknown => self.last(to, b"unknown", count),
+        }
+    }
+
+    // The only line where the whole input is refused.
+    pub fn refused_all<W: Write>(&mut self, to: &mut Sink<W>, why: Refusal)
+        ensures lent { SameBuffer self.old self.new }
+        ensures after { seen self.new ≡ last_line (seen self.old) (ascii "refused") (number_of why) }
+        ensures written { HasRoom (seen self.old) →
+            Says W.contents to.old (seen self.old) to.new (seen self.new)
+            (last_text (ascii "refused") (number_of why)) }
+    {
+        self.last(to, b"refused", u8::from(why) as u64);
+    }
 }

@@ -7,7 +7,6 @@ use Rattle.std.proofs.Common.{length, ◌≡◌, ℕ, ◌+◌, List, refl, sym, 
 use native.Mathlib.Numerals.{add-one}
 use Rattle.end_points.specs.Lent.{Lent}
 use Rattle.lines.specs.Lines.{Page}
-use Rattle.lines.proofs.Pages as pages
 use Rattle.trace.specs.Layout.{count_of}
 use Rattle.trace.specs.Laws.{GoodIsFilled}
 use Rattle.trace.proofs.Good.{good_is_filled}
@@ -41,18 +40,14 @@ module _ {f : List ℕ} {p q : Page} {x y : Lent} {n k : ℕ} (r : Replayed f p 
   state_more = rw add-one (left ∙ ap (λ (z : Lent). (step_of z f k).lent) r.state)
 
   -- what is said, with the line of record k
-  said_more : {W : Type 0} {contents : W → Option (List ℕ)} {u v w : Sink W} → HasRoom p → length q'.bytes ≡ length q.bytes
+  said_more : {W : Type 0} {contents : W → Option (List ℕ)} {u v w : Sink W} → HasRoom p → length q.bytes ≡ length p.bytes
       → Says contents u p v q (lines_text x f k)
       → (HasRoom q → Says contents v q w q' (line_text k (kind_of f k) (told_of t)))
       → Says contents u p w q' (lines_text x f (k + 1))
   unfolding lines_text
   said_more room long so_far more =
-      let here = more (record { within = so_far.within; room = omega (arith, room.room, r.text_long) }) in
+      let here = more (record { within = so_far.within; room = omega (arith, room.room, long) }) in
       rw (add-one, ← told_more) (says_then so_far here)
-
-pub returns-then-not-is_good-clause-answer : goal.returns-then-not-is_good-clause-answer
-unfolding replay_page
-returns-then-not-is_good-clause-answer g c = rw (sym c.is_good.ensures ∙ c.if-not-is_good.true) c.refused_all.ensures.answer
 
 pub returns-then-not-is_good-clause-text : goal.returns-then-not-is_good-clause-text
 unfolding replay_page
@@ -66,6 +61,7 @@ pub loop-k-init : goal.loop-k-init
 unfolding lines_after state_after lines_text
 loop-k-init g c =
     record {
+      lent = record { name = refl; long = refl };
       replayed =
           record {
             good = sym c.is_good.ensures ∙ c.if-not-is_good.false;
@@ -74,43 +70,30 @@ loop-k-init g c =
             lines = refl;
             state = refl;
             goes_on = λ l. absurd (omega arith);
-            text_long = refl;
             store_long = refl;
             out_long = refl;
           };
       said = λ room. says_nothing room.within;
     }
 
-pub returns-then-is_refused-clause-answer : goal.returns-then-is_refused-clause-answer
-unfolding replay_page made_of
-returns-then-is_refused-clause-answer g c =
-    let r = c.loop-k.invariant.replayed in
-    let s = c.step-t.ensures in
-    let line = pages.whole c.line-next.ensures.answer c.line-next.ensures.after in
-    let first = c.if-k-eq-FIRST.true in
-    let t = sym (first_told r s.answer s.after line first) ∙ sym c.is_refused.ensures ∙ c.if-is_refused.true in
-    let good = r.good in
-    let lines = rw first at (lines_more r s.answer s.after line) in
-    rw (good, t) (ap (λ (p : Page). p.taken) lines)
-
 pub returns-then-is_refused-clause-text : goal.returns-then-is_refused-clause-text
 unfolding replay_page made_of
 returns-then-is_refused-clause-text g c =
     let r = c.loop-k.invariant.replayed in
     let s = c.step-t.ensures in
-    let line = pages.whole c.line-next.ensures.answer c.line-next.ensures.after in
+    let line = c.line.ensures.after in
     let first = c.if-k-eq-FIRST.true in
     let t = sym (first_told r s.answer s.after line first) ∙ sym c.is_refused.ensures ∙ c.if-is_refused.true in
     let good = r.good in
     let lines = rw first at (lines_more r s.answer s.after line) in
-    rw (good, t) (ap (λ (p : Page). p.bytes) lines)
+    rw (good, t) lines
 
 pub returns-then-is_refused-clause-after : goal.returns-then-is_refused-clause-after
 unfolding replay_lent made_of
 returns-then-is_refused-clause-after g c =
     let r = c.loop-k.invariant.replayed in
     let s = c.step-t.ensures in
-    let line = pages.whole c.line-next.ensures.answer c.line-next.ensures.after in
+    let line = c.line.ensures.after in
     let first = c.if-k-eq-FIRST.true in
     let t = sym (first_told r s.answer s.after line first) ∙ sym c.is_refused.ensures ∙ c.if-is_refused.true in
     let good = r.good in
@@ -119,10 +102,12 @@ returns-then-is_refused-clause-after g c =
 
 pub loop-k-preserved : goal.loop-k-preserved
 loop-k-preserved g c =
+    let lent = c.loop-k.invariant.lent in
     let r = c.loop-k.invariant.replayed in
     let s = c.step-t.ensures in
-    let line = pages.whole c.line-next.ensures.answer c.line-next.ensures.after in
+    let line = c.line.ensures.after in
     record {
+      lent = record { name = c.line.ensures.lent.name ∙ lent.name; long = c.line.ensures.lent.long ∙ lent.long };
       replayed =
           record {
             good = r.good;
@@ -135,24 +120,11 @@ loop-k-preserved g c =
                   | else-k-eq-FIRST-via-then-k-eq-FIRST+else-is_refused w ↦ sym (first_told r s.answer s.after line w.if-k-eq-FIRST.true) ∙ sym w.is_refused.ensures ∙ w.if-is_refused.false
                   | else-k-eq-FIRST-via-else-k-eq-FIRST w ↦ r.goes_on (omega (arith, w.if-k-eq-FIRST.false))
                 ];
-            text_long = c.line-next.auto.out ∙ r.text_long;
             store_long = c.step-t.auto.store ∙ r.store_long;
             out_long = c.step-t.auto.out ∙ r.out_long;
           };
-      said = λ room. said_more r s.answer s.after line room c.line-next.auto.out (c.loop-k.invariant.said room) c.line-next.ensures.written;
+      said = λ room. said_more r s.answer s.after line room c.loop-k.invariant.lent.long (c.loop-k.invariant.said room) c.line.ensures.written;
     }
-
-pub returns-clause-answer : goal.returns-clause-answer
-unfolding replay_page made_of GoodIsFilled
-returns-clause-answer g c =
-    let l = c.loop-k in
-    let f = c.args.file.now in
-    let some = (good_is_filled f l.invariant.replayed.good).some in
-    let last : l.k ≡ count_of f = omega (arith, l.invariant.replayed.all) in
-    let goes_on = l.invariant.replayed.goes_on (omega (arith, l.invariant.replayed.all)) in
-    let lines = rw last at l.invariant.replayed.lines in
-    let good = l.invariant.replayed.good in
-    rw (good, goes_on) (ap (λ (p : Page). p.taken) lines)
 
 pub returns-clause-text : goal.returns-clause-text
 unfolding replay_page made_of GoodIsFilled
@@ -164,7 +136,7 @@ returns-clause-text g c =
     let goes_on = l.invariant.replayed.goes_on (omega (arith, l.invariant.replayed.all)) in
     let lines = rw last at l.invariant.replayed.lines in
     let good = l.invariant.replayed.good in
-    rw (good, goes_on) (ap (λ (p : Page). p.bytes) lines)
+    rw (good, goes_on) lines
 
 pub returns-clause-after : goal.returns-clause-after
 unfolding replay_lent made_of GoodIsFilled
@@ -186,11 +158,11 @@ unfolding replay_text made_of
 returns-then-is_refused-clause-written g c room =
     let r = c.loop-k.invariant.replayed in
     let s = c.step-t.ensures in
-    let line = pages.whole c.line-next.ensures.answer c.line-next.ensures.after in
+    let line = c.line.ensures.after in
     let first = c.if-k-eq-FIRST.true in
     let t = sym (first_told r s.answer s.after line first) ∙ sym c.is_refused.ensures ∙ c.if-is_refused.true in
     let good = r.good in
-    let said = said_more r s.answer s.after line room c.line-next.auto.out (c.loop-k.invariant.said room) c.line-next.ensures.written in
+    let said = said_more r s.answer s.after line room c.loop-k.invariant.lent.long (c.loop-k.invariant.said room) c.line.ensures.written in
     rw (good, t) (rw first at said)
 
 pub returns-clause-written : goal.returns-clause-written
