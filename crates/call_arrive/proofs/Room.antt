@@ -1,9 +1,8 @@
--- How large the room for a block can be, for whatever the memory holds, and the payload of a sound frame. Assumes nothing.
-use Prim.Native.Nat.{ℕ, ◌+◌, ◌*◌, ◌<◌}
+-- How long the payload of a sound frame can be. Assumes nothing.
+use Prim.Native.Nat.{ℕ, ◌+◌, ◌<◌}
 use mathlib.Core.Path.{◌≡◌, refl}
 use mathlib.Core.Bool.{Bool, true, false, ◌&&◌}
 use mathlib.Core.List.{List}
-use native.Mathlib.Nat.{mul-le-mul}
 use native.Mathlib.Omega.{arith}
 use lib.Dec.{eqb, leb}
 use lib.ListN.{length, get_or}
@@ -13,9 +12,6 @@ use Rattle.check8.specs.Polynomial.{check_of}
 use Rattle.frame.specs.Layout.{payload_of}
 use Rattle.frame.specs.Reading.{sound_of}
 use Rattle.frame.proofs.Parts.{length_payload}
-
-pub room_lt : (a b : ℕ) → a < 256 → b < 65540 → a * b < 16777216
-room_lt a b h k = omega (arith, mul-le-mul {n₁ = a} {m₁ = b} {n₂ = 255} {m₂ = 65539} (omega arith) (omega arith))
 
 and_true : (a b : Bool) → (a && b) ≡ true → (a ≡ true) × (b ≡ true)
 and_true true b e = (refl, e)

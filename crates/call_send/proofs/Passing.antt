@@ -11,7 +11,7 @@ use Rattle.end_points.specs.States.{is_open}
 use Rattle.end_points.specs.declared.State.{State}
 use Rattle.end_points.specs.declared.State.TheVariants as state
 use Rattle.end_points.specs.declared.EndPoint.{EndPoint}
-use Rattle.call_send.specs.Sending.{send_tests, urgent_tests}
+use Rattle.call_send.specs.Sending.{send_tests}
 use Rattle.std.specs.Prelude.{Ok}
 
 -- a state that passes for Open is Open
@@ -40,8 +40,3 @@ may_send e n room need v judged told =
 pub record MayUrge (e : EndPoint) (n : ℕ) : Type 0 where
   pub opened : e.state ≡ state.Open
   pub long : n ≤ e.entry.largest
-
-pub may_urge : (e : EndPoint) (n room need : ℕ) (v : Verdict) → v ≡ verdict (urgent_tests e n room need) → v ≡ Ok tt → MayUrge e n
-may_urge e n room need v judged told =
-    let k = (clear (urgent_tests e n room need) (sym judged ∙ told)).1 in
-    record { opened = is_open_holds e.state (not-false _ k.0); long = ltb-false _ _ k.1.1.0 }

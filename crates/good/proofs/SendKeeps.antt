@@ -314,9 +314,6 @@ module _ (t : List ℕ) (x : Lent) (l : Lists) (i : ℕ) (p : List ℕ) (g : Goo
       sent_fits e.run (run_fits x.node i) d.counted
       (let s = size_le e.run.window.size window.sized in let r = d.room in omega arith)
 
-  same_size : (sent_run e.run).window.size ≡ e.run.window.size
-  same_size = ap (λ (w : Window). w.size) (sent_size e.run)
-
   now : Entered (sent x i e p).book (added l datas (id_at i e.run.window e.run.taken)) i (turned_to e e.state (sent_run e.run))
   now =
       entered_as (sent x i e p).book (added l datas (id_at i e.run.window e.run.taken)) i (turned_to e e.state (sent_run e.run))

@@ -7,4 +7,3 @@ pub mod Holding
 pub mod Accepting
 pub mod Passing
 pub mod Resetting
-pub mod Counts
