@@ -1,15 +1,14 @@
--- What a tick makes of one entry leaves the head, the waiting acknowledgements, the table's words and every other end point as they
--- were; so a tick leaves the head. Assumes nothing.
+-- What a tick makes of one entry leaves all words before that entry's state as they were; so a tick leaves the head and the
+-- waiting acknowledgements. Assumes nothing.
 use mathlib.Core.Bool.{Bool, true, false, not, ◌&&◌}
 use mathlib.Core.List.{List, ◌++◌}
 use mathlib.Core.Path.{◌≡◌, refl, ap, ◌∙◌}
-use Prim.Native.Nat.{ℕ, zero, suc, ◌+◌, ◌≤◌, ◌<◌}
+use Prim.Native.Nat.{ℕ, zero, suc, ◌+◌, ◌<◌}
 use native.Mathlib.Omega.{arith}
-use lib.ListN.{length, get_or}
-use lib.Seq.{length-sets}
+use lib.ListN.{get_or}
 use lib.Dec.{eqb}
 use Rattle.units.specs.Refusals.{pick}
-use Rattle.units.proofs.Runs.{get_d_sets_before, get_d_sets_after}
+use Rattle.units.proofs.Runs.{get_d_sets_before}
 use Rattle.memory.specs.Layout.{entry_at}
 use Rattle.end_points.specs.Ends.{end_of, state_words, run_words, saved}
 use Rattle.end_points.specs.Lent.{Lent}
@@ -21,76 +20,62 @@ use Rattle.waiting.specs.Port.{under_in, is_own, is_reset}
 use Rattle.call_tick.specs.Ticking.{ticked, Scanned, tick_state, tick_entry, tick_entries, Recovered, again, recover, recover_all, entries, scanned, scan_both}
 use Rattle.end_points.specs.States.{is_over}
 
--- ---- two nodes that agree outside the state and the run of entry i
+-- ---- two nodes that agree before the state of entry i
 
-pub record Only (i : ℕ) (a b : List ℕ) : Type 0 where
+pub record SameTo (i : ℕ) (a b : List ℕ) : Type 0 where
   pub before : (k : ℕ) → k < entry_at i + 8 → get_or b k 0 ≡ get_or a k 0
-  pub after : (k : ℕ) → entry_at i + 19 ≤ k → get_or b k 0 ≡ get_or a k 0
-  pub long : length b ≡ length a
 
-only_same : (i : ℕ) (a : List ℕ) → Only i a a
-only_same i a = record { before = λ k h. refl; after = λ k h. refl; long = refl }
+same_self : (i : ℕ) (a : List ℕ) → SameTo i a a
+same_self i a = record { before = λ k h. refl }
 
-words_long : (s : State) (r : Run) → length (state_words s ++ run_words r) ≡ 11
-words_long Closed r = refl
-words_long (Enabled t sent) r = refl
-words_long Open r = refl
-words_long (Failing n) r = refl
-
-pub only_saved : (a : List ℕ) (i : ℕ) (s : State) (r : Run) → Only i a (saved a i s r)
+pub same_saved : (a : List ℕ) (i : ℕ) (s : State) (r : Run) → SameTo i a (saved a i s r)
 unfolding saved
-only_saved a i s r =
-    let vs = state_words s ++ run_words r in
-    let n = words_long s r in
-    record {
-      before = λ k h. get_d_sets_before vs a (entry_at i + 8) k 0 h;
-      after = λ k h. get_d_sets_after vs a (entry_at i + 8) k 0 (omega arith);
-      long = length-sets a (entry_at i + 8) vs;
-    }
+same_saved a i s r =
+    record { before = λ k h. get_d_sets_before (state_words s ++ run_words r) a (entry_at i + 8) k 0 h }
 
 -- ---- an entry's turn
 
-pick_only : {i : ℕ} {a : List ℕ} (t : Bool) {b c : List ℕ} → Only i a b → Only i a c → Only i a (pick t b c)
-pick_only true p q = p
-pick_only false p q = q
+pick_same : {i : ℕ} {a : List ℕ} (t : Bool) {b c : List ℕ} → SameTo i a b → SameTo i a c → SameTo i a (pick t b c)
+pick_same true p q = p
+pick_same false p q = q
 
-pick_scanned : {i : ℕ} {a : List ℕ} (t : Bool) (x y : Scanned) → Only i a x.lent.node → Only i a y.lent.node → Only i a (pick t x y).lent.node
+pick_scanned : {i : ℕ} {a : List ℕ} (t : Bool) (x y : Scanned) → SameTo i a x.lent.node → SameTo i a y.lent.node → SameTo i a (pick t x y).lent.node
 pick_scanned true x y p q = p
 pick_scanned false x y p q = q
 
-state_only : (c : ℕ) (y : Scanned) (i : ℕ) (e : EndPoint) (s : State) → Only i y.lent.node (tick_state c y i e s).lent.node
+state_same : (c : ℕ) (y : Scanned) (i : ℕ) (e : EndPoint) (s : State) → SameTo i y.lent.node (tick_state c y i e s).lent.node
 unfolding tick_state
-state_only c y i e Closed = only_same i y.lent.node
-state_only c y i e (Enabled d sent) =
-    pick_scanned (eqb d 0) _ _ (only_same i y.lent.node)
-    (pick_scanned (is_reset (under_in y.lent.book) i) _ _ (only_same i y.lent.node)
-    (pick_scanned (eqb d c) _ _ (only_saved y.lent.node i _ _) (only_same i y.lent.node)))
-state_only c y i e Open = pick_only (ticked c i e false y.lent.book y.least).failing (only_saved y.lent.node i _ _) (only_same i y.lent.node)
-state_only c y i e (Failing n) = only_saved y.lent.node i _ _
+state_same c y i e Closed = same_self i y.lent.node
+state_same c y i e (Enabled d sent) =
+    pick_scanned (eqb d 0) _ _ (same_self i y.lent.node)
+    (pick_scanned (is_reset (under_in y.lent.book) i) _ _ (same_self i y.lent.node)
+    (pick_scanned (eqb d c) _ _ (same_saved y.lent.node i _ _) (same_self i y.lent.node)))
+state_same c y i e Open = pick_same (ticked c i e false y.lent.book y.least).failing (same_saved y.lent.node i _ _) (same_self i y.lent.node)
+state_same c y i e (Failing n) = same_saved y.lent.node i _ _
 
-pub tick_only : (c i : ℕ) (y : Scanned) → Only i y.lent.node (tick_entry c i y).lent.node
+pub tick_same : (c i : ℕ) (y : Scanned) → SameTo i y.lent.node (tick_entry c i y).lent.node
 unfolding tick_entry
-tick_only c i y = state_only c y i (end_of y.lent.node i) (end_of y.lent.node i).state
+tick_same c i y = state_same c y i (end_of y.lent.node i) (end_of y.lent.node i).state
 
-pick_recovered : {i : ℕ} {a : List ℕ} (t : Bool) (x y : Recovered) → Only i a x.lent.node → Only i a y.lent.node → Only i a (pick t x y).lent.node
+pick_recovered : {i : ℕ} {a : List ℕ} (t : Bool) (x y : Recovered) → SameTo i a x.lent.node → SameTo i a y.lent.node → SameTo i a (pick t x y).lent.node
 pick_recovered true x y p q = p
 pick_recovered false x y p q = q
 
-pub recover_only : (i : ℕ) (r : Recovered) → Only i r.lent.node (recover i r).lent.node
+pub recover_same : (i : ℕ) (r : Recovered) → SameTo i r.lent.node (recover i r).lent.node
 unfolding recover
-recover_only i r =
-    pick_recovered (is_over (end_of r.lent.node i).state && not (is_own r.lent.book i)) (again i r) r (only_saved r.lent.node i _ _) (only_same i r.lent.node)
+recover_same i r =
+    pick_recovered (is_over (end_of r.lent.node i).state && not (is_own r.lent.book i)) (again i r) r (same_saved r.lent.node i _ _) (same_self i r.lent.node)
 
--- ---- turns in table order, each of which alters its own entry alone
+-- ---- turns in table order
 
 abbrev pub turns : {S : Type 0} → (ℕ → S → S) → ℕ → S → S
 turns step zero s = s
 turns step (suc n) s = step n (turns step n s)
 
-module _ (S : Type 0) (node : S → List ℕ) (step : ℕ → S → S) (only : (i : ℕ) (s : S) → Only i (node s) (node (step i s))) where
+module _ (S : Type 0) (node : S → List ℕ) (step : ℕ → S → S) (same : (i : ℕ) (s : S) → SameTo i (node s) (node (step i s))) where
   pub turns_head : (n : ℕ) (s : S) (k : ℕ) → k < 64 → get_or (node (turns step n s)) k 0 ≡ get_or (node s) k 0
   turns_head zero s k h = refl
-  turns_head (suc n) s k h = (only n (turns step n s)).before k (omega arith) ∙ turns_head n s k h
+  turns_head (suc n) s k h = (same n (turns step n s)).before k (omega arith) ∙ turns_head n s k h
 
 -- ---- the two passes of a tick
 
@@ -125,6 +110,6 @@ after_turns c x = ap lent_node (recover_turns (entries x) (timed c x))
 pub scan_head : (c : ℕ) (x : Lent) (k : ℕ) → k < 64 → get_or (scan_both c x).lent.node k 0 ≡ get_or x.node k 0
 scan_head c x k h =
     ap (λ (l : List ℕ). get_or l k 0) (after_turns c x)
-    ∙ turns_head Recovered lent_node recover recover_only (entries x) (timed c x) k h
+    ∙ turns_head Recovered lent_node recover recover_same (entries x) (timed c x) k h
     ∙ ap (λ (y : Scanned). get_or y.lent.node k 0) (tick_turns c (entries x) (begun x))
-    ∙ turns_head Scanned node_of (tick_entry c) (tick_only c) (entries x) (begun x) k h
+    ∙ turns_head Scanned node_of (tick_entry c) (tick_same c) (entries x) (begun x) k h

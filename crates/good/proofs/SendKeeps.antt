@@ -17,7 +17,6 @@ use Rattle.units.proofs.Judging.{clear}
 use Rattle.memory.specs.Layout.{all_cells, cells_at, ids_end, under_at, datas, urgent_id, length_at, timer_at, retries_at}
 use Rattle.waiting.specs.Queues.{appended}
 use Rattle.waiting.specs.Port.{under_in}
-use Rattle.end_points.proofs.Kept.{RunFits}
 use Rattle.window.specs.Windows.{Good as GoodWindow}
 use Rattle.window.specs.declared.Window.{Window}
 use Rattle.window.proofs.Sizes.{size_le}
@@ -272,19 +271,6 @@ pub record SendPassed (x : Lent) (i : ℕ) (p : List ℕ) (e : EndPoint) (after 
       → length_in after.book (cell i e.run.window (past e.run.window k)) ≡ length_in x.book (cell i e.run.window (past e.run.window k))
   pub stored : after.store ≡ sets x.store (spot e.place e.entry.largest (slot_for e.run.window (next_number e.run))) p
 
--- the run still fits its words
-sent_fits : (r : Run) → RunFits r → r.accepted.0 ≢ 4294967295 → r.taken < 128 → RunFits (sent_run r)
-unfolding sent_run
-sent_fits r f c t =
-    record {
-      start = f.start;
-      taken = omega arith;
-      handed = f.handed;
-      accepted = (let h = f.accepted in omega arith);
-      confirmed = f.confirmed;
-      urgent = f.urgent;
-    }
-
 sent_size : (r : Run) → (sent_run r).window ≡ r.window
 unfolding sent_run
 sent_size r = refl
@@ -308,11 +294,6 @@ module _ (t : List ℕ) (x : Lent) (l : Lists) (i : ℕ) (p : List ℕ) (g : Goo
 
   none : (q : ℕ) → q < 4 → Memᴰ (id_at i e.run.window e.run.taken) (l q) → ⊥
   none = next_waits t x.node x.book l g i d.known was d.room
-
-  fits : RunFits (sent_run e.run)
-  fits =
-      sent_fits e.run (run_fits x.node i) d.counted
-      (let s = size_le e.run.window.size window.sized in let r = d.room in omega arith)
 
   now : Entered (sent x i e p).book (added l datas (id_at i e.run.window e.run.taken)) i (turned_to e e.state (sent_run e.run))
   now =
