@@ -35,6 +35,7 @@ pub record Taken (f : List ℕ) : Type 0 where
   pub size : get16_of f 4 + 9 ≡ length f
   pub check : check_of f ≡ 0
   pub known : type_at f < 4
+  pub plain : user_at f ≡ 0
   pub fits : suits (type_of (type_at f)) (get16_of f 4) ≡ true
   pub numbered : seq_reads (type_of (type_at f)) (get_or f 7 0) ≡ true
 
@@ -55,6 +56,7 @@ taken f h e =
         size = eqb-true (get16_of f 4 + 9) (length f) b.1;
         check = eqb-true (check_of f) 0 a.1;
         known = leb-false 4 (type_at f) c.1.0;
+        plain = eqb-true (user_at f) 0 (not-false _ c.1.1.0);
         fits = not-false _ c.1.1.1.0;
         numbered = not-false _ c.1.1.1.1.0;
       },

@@ -23,12 +23,12 @@ use Rattle.frame.specs.declared.FrameType.TheVariants as type
 use Rattle.frame.proofs.ReadLaws.{taken as framed}
 use Rattle.end_points.specs.Ends.{load_entry, end_of}
 use Rattle.end_points.specs.Heads.{count_in, need_in}
-use Rattle.end_points.specs.States.{is_sends, is_open}
+use Rattle.end_points.specs.States.{is_sends, is_closed, is_open}
 use Rattle.end_points.specs.Lent.{Lent}
 use Rattle.end_points.specs.declared.State.TheVariants.{Open}
 use Rattle.arrive_lookup.specs.Lookup.{Indexed, entry_for}
 use Rattle.arrive_lookup.proofs.Found.{Fitting, found_fits}
-use Rattle.call_arrive.specs.Arriving.{entry_tests, entry_of, entry_verdict, taken_in_answer, taken_in_after, answer_as, after_as, entry_answer, entry_after, read_answer, read_after, frame_tests, arrival_answer, arrival_after}
+use Rattle.call_arrive.specs.Arriving.{block_room, entry_tests, entry_of, entry_verdict, taken_in_answer, taken_in_after, answer_as, after_as, entry_answer, entry_after, read_answer, read_after, frame_tests, arrival_answer, arrival_after}
 use Rattle.table.proofs.Every.{both}
 use Rattle.good.proofs.Known.{is_open_holds}
 use Rattle.std.specs.Prelude.{Result, Ok, Err}
@@ -41,11 +41,13 @@ pub record Taken (x : Lent) (f : List ℕ) : Type 0 where
   pub read : read_of f ≡ Ok header
   pub known : entry < count_in x.node
   pub fit : Fitting (load_entry x.node entry) (for_sender header.kind) header.source.0 header.channel.0
+  pub up : is_closed (end_of x.node entry).state ≡ false
   pub opened : carries header.kind ≡ true → (end_of x.node entry).state ≡ Open
   pub short : carries header.kind ≡ true → length (payload_of f) ≤ (end_of x.node entry).entry.largest
   pub some : carries header.kind ≡ true → 1 ≤ length (payload_of f)
   pub room : answered header.kind ≡ true → waiting_of x.node < 32
   pub need : need_in x.node ≤ length x.store
+  pub block : carries header.kind ≡ true → block_room (end_of x.node entry) ≤ length x.out
   pub byte : ((k : ℕ) → get_or f k 0 < 256) → header.seq.0 < 256
   pub answer : arrival_answer x f ≡ Ok (record { entry = entry; was = taken_in_answer x entry (end_of x.node entry) header.kind header.seq.0 (payload_of f) })
   pub after : arrival_after x f ≡ taken_in_after x entry (end_of x.node entry) header.kind header.seq.0 (payload_of f)
@@ -118,11 +120,13 @@ module _ (x : Lent) (index : Indexed x.node) (f : List ℕ) (h : Header) (r : re
         read = r;
         known = known;
         fit = found_fits x.node index (for_sender h.kind) h.source.0 h.channel.0 known;
+        up = c.1.0;
         opened = λ d. is_open_holds (end_of x.node i).state (not-false (is_open (end_of x.node i).state) (and_false (carries h.kind) _ c.1.1.0 d));
         short = λ d. rw p.0 (ltb-false _ _ (and_false (carries h.kind) _ c.1.1.1.0 d));
         some = p.1;
         room = λ d. leb-false 32 (waiting_of x.node) (and_false (answered h.kind) _ c.1.1.1.1.0 d);
         need = ltb-false (length x.store) (need_in x.node) c.1.1.1.1.1.0;
+        block = λ d. ltb-false _ _ (and_false (carries h.kind) _ c.1.1.1.1.1.1.0 d);
         byte = header_byte f h r;
         answer = answer ∙ ap (λ (v : Verdict). answer_as v (Ok (record { entry = entry_of x h; was = taken_in_answer x (entry_of x h) (end_of x.node (entry_of x h)) h.kind h.seq.0 (payload_of f) }))) e;
         after = after ∙ ap (λ (v : Verdict). after_as v x (taken_in_after x (entry_of x h) (end_of x.node (entry_of x h)) h.kind h.seq.0 (payload_of f))) e;

@@ -223,6 +223,8 @@ module _ (t : List ℕ) (x : Lent) (l : Lists) (G : Good t x.node x.book l) (non
                   within = reset_within;
                 };
                 sends = reset_state.0;
+                sent = reset_state.1.0;
+                enabled = reset_state.1.1;
                 ends = reset_end;
                 acks = reset_acks.1;
               });

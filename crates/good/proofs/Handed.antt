@@ -3,7 +3,7 @@
 use Prim.Native.Nat.{ℕ, ◌≤◌, ◌<◌}
 use mathlib.Core.Path.{◌≡◌}
 use mathlib.Core.Logic.{◌≢◌}
-use mathlib.Core.Bool.{true, false}
+use mathlib.Core.Bool.{Bool, true, false}
 use mathlib.Core.List.{List, ◌∷◌}
 use lib.ListN.{length}
 use Rattle.units.specs.declared.refusals.Refusal.{Refusal}
@@ -61,6 +61,8 @@ pub record ResetOut (x x' : Lent) (l l' : Lists) (n : ℕ) : Type 0 where
   pub is : n ≡ reset_id at
   pub alone : Alone at x x' l l'
   pub sends : is_sends (end_of x.node at).entry.kind ≡ true
+  pub sent : Bool
+  pub enabled : (end_of x.node at).state ≡ Enabled 0 sent
   pub ends : end_of x'.node at ≡ turned_to (end_of x.node at) (Enabled standing true) (end_of x.node at).run
   pub acks : acks_in x'.node ≡ acks_in x.node
 

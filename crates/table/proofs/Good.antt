@@ -62,6 +62,8 @@ groups t g =
 pub record GoodHead (t : List ℕ) : Type 0 where
   pub count : count_of t ≤ 16
   pub long : length t ≡ start_of (count_of t)
+  pub own_low : 32 ≤ (own_of t).0
+  pub own_high : (own_of t).0 ≤ 254
   pub protocol : 1 ≤ protocol_of t
 
 head_parts : (t : List ℕ) → head_good t ≡ true → GoodHead t
@@ -75,6 +77,8 @@ head_parts t h =
     record {
       count = leb-true (count_of t) 16 long.0;
       long = eqb-true (length t) (start_of (count_of t)) long.1;
+      own_low = (address_range (own_of t) own.1).0;
+      own_high = (address_range (own_of t) own.1).1;
       protocol = leb-true 1 (protocol_of t) protocol.1;
     }
 
@@ -84,10 +88,12 @@ good_head t g = head_parts t (groups t g).0
 -- The entries
 
 pub record GoodEntry (e : Entry) : Type 0 where
+  pub remote_low : 32 ≤ e.remote.0
   pub remote_high : e.remote.0 ≤ 254
   pub window : is_size e.window ≡ true
   pub window_low : 1 ≤ e.window
   pub window_high : e.window ≤ 128
+  pub largest_low : 1 ≤ e.largest
   pub largest_high : e.largest ≤ 32768
   pub sender : e.kind ≡ Sends → 1 ≤ e.timeout
   pub receiver : e.kind ≡ Receives → (e.timeout ≡ 0) × (e.retries ≡ 0)
@@ -109,10 +115,12 @@ entry_parts e h w =
     let high = both _ (leb e.largest 32768) times.0 in
     let low = both (is_address e.remote) (leb 1 e.largest) high.0 in
     record {
+      remote_low = (address_range e.remote low.0).0;
       remote_high = (address_range e.remote low.0).1;
       window = w;
       window_low = (size_range e.window w).0;
       window_high = (size_range e.window w).1;
+      largest_low = leb-true 1 e.largest low.1;
       largest_high = leb-true e.largest 32768 high.1;
       sender = timed_sender e.kind e.timeout e.retries times.1;
       receiver = timed_receiver e.kind e.timeout e.retries times.1;
