@@ -34,7 +34,7 @@ use Rattle.memory.specs.Layout.{Ranged}
 use Rattle.good.specs.Good.{Lists, Lines, mine, id_at, ids, Share, Resends, Filled, Sending, OpenSender, Entered, Timely, Good}
 use Rattle.good.proofs.Members.{mine_all, mine_append, mine_own}
 use Rattle.good.proofs.Lined.{added, append_cells, append_under}
-use Rattle.good.proofs.Known.{is_open_holds, stated_as, entered_as}
+use Rattle.good.proofs.Known.{stated_as, entered_as}
 use Rattle.good.proofs.Framing.{same_under, Within, within_then, within_append, within_set, entry_low, cell_low, length_owner, retries_owner, timely_as, timely_fewer}
 use Rattle.good.proofs.Offsets.{id_high, id_owner, data_ranged, cell_inj, id_inj, ids_more, ids_in}
 use Rattle.good.proofs.Turns.{run_fits, turned_to, sender_put, Kept, kept_either}
@@ -42,6 +42,7 @@ use Rattle.good.proofs.Asked.{Asked}
 use Rattle.good.proofs.RunSets.{sent_puts, sent_end}
 use Rattle.good.proofs.Senders.{resends_kept, standing_kept}
 use Rattle.std.specs.Prelude.{Ok}
+use Rattle.end_points.proofs.Telling.{is_open_holds}
 
 -- ---- what waits
 

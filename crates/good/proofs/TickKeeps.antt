@@ -44,6 +44,7 @@ use Rattle.good.proofs.Turns.{run_fits, turned_to, end_saved, anew_fits, anew_si
 use Rattle.good.proofs.Senders.{reset_within, reset_cells, reset_under, reset_silent, enabled_sender}
 use Rattle.good.proofs.TickEntry.{Ticks, closed, enabled, opened, failed, failing, EntryTicked, tick_entry_keeps, Bound, Bounds}
 use Rattle.good.proofs.Timely.{falls_on, passes_over, found_on}
+use Rattle.end_points.proofs.Telling.{is_over_holds}
 
 -- ---- a bound stays while the entry's timers do, and where it is lowered
 
@@ -155,12 +156,6 @@ bit_none a n h = omega (arith, div-eq_of_lt h)
 
 -- ---- recovery
 
-over_failing : (s : State) → is_over s ≡ true → s ≡ Failing 0
-over_failing Closed h = absurd (false≢true h)
-over_failing (Enabled n sent) h = absurd (false≢true h)
-over_failing Open h = absurd (false≢true h)
-over_failing (Failing n) h = ap Failing (eqb-true n 0 h)
-
 -- only a sender fails, and then nothing of it waits
 failing_sends : (b : List ℕ) (l : Lists) (i : ℕ) (e : EndPoint) (k : Bool) (n : ℕ) → Stated b l i e k (Failing n) → (k ≡ true) × Silent l i []
 failing_sends b l i e true n h = (refl, h.silent)
@@ -243,7 +238,7 @@ module _ (t : List ℕ) (r : Recovered) (l : Lists) (g : Good t r.lent.node r.le
 
       sides : (o w : Bool) → is_over e.state ≡ o → is_own r.lent.book i ≡ w → Recovery t r (pick (o && not w) (again i r) r) l i
       sides true true o w = goes_on (rw (o, w))
-      sides true false o w = over w (over_failing e.state o)
+      sides true false o w = over w (is_over_holds e.state o)
       sides false w o own = goes_on (rw o)
 
 -- after the recovery of the first n entries

@@ -33,13 +33,14 @@ use Rattle.memory.specs.Layout.{Ranged}
 use Rattle.good.specs.Good.{Lists, Lines, mine, Resends, Sending, OpenSender, Entered, Timely, Good}
 use Rattle.good.proofs.Members.{mine_all, mine_append, mine_own}
 use Rattle.good.proofs.Lined.{added, append_cells, append_under}
-use Rattle.good.proofs.Known.{is_open_holds, stated_as, entered_as}
+use Rattle.good.proofs.Known.{stated_as, entered_as}
 use Rattle.good.proofs.Framing.{same_under, Within, within_append, apart_saved, timely_as, entry_low}
 use Rattle.good.proofs.Offsets.{urgent_owner, urgent_ranged}
 use Rattle.good.proofs.Asked.{Asked}
 use Rattle.good.proofs.Turns.{run_fits, state_fits, turned_to, end_saved, sender_turn, Kept, kept_either}
 use Rattle.good.proofs.Senders.{resends_kept, standing_kept}
 use Rattle.std.specs.Prelude.{Ok}
+use Rattle.end_points.proofs.Telling.{is_open_holds}
 
 -- ---- what waits
 
