@@ -7,3 +7,4 @@ pub mod Holding
 pub mod Accepting
 pub mod Passing
 pub mod Resetting
+pub mod Counts
