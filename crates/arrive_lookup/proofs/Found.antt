@@ -1,5 +1,4 @@
--- On an index that says what the table does the entry found is the first that fits: what is found fits, and an entry that fits alone is
--- found. Assumes nothing.
+-- On an index that says what the table does the entry found is the first that fits; and what is found fits. Assumes nothing.
 use Prim.Native.Nat.{ℕ, ◌<◌}
 use mathlib.Core.Bool.{Bool, true, false, ◌&&◌, true≢false}
 use mathlib.Core.List.{List}

@@ -1,5 +1,4 @@
--- What is known where a send goes through: no test fits, so the end is Open, the payload is short enough and the counts go on.
--- Assumes nothing.
+-- What is known where a send goes through: no test fits, so the end is Open and the counts go on. Assumes nothing.
 use mathlib.Core.Path.{◌≡◌, sym, ◌∙◌}
 use Prim.Native.Nat.{ℕ, ◌<◌}
 use borrow.Author.Tests.{not-false, eqb-false, leb-false}

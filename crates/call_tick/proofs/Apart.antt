@@ -1,5 +1,5 @@
--- What a tick makes of one entry leaves all words before that entry's state as they were; so a tick leaves the head and the
--- waiting acknowledgements. Assumes nothing.
+-- What a tick makes of one entry leaves all words before that entry's state as they were; so a tick leaves the head
+-- and the waiting acknowledgements. Assumes nothing.
 use mathlib.Core.Bool.{Bool, true, false, not, ◌&&◌}
 use mathlib.Core.List.{List, ◌++◌}
 use mathlib.Core.Path.{◌≡◌, refl, ap, ◌∙◌}

@@ -134,13 +134,13 @@ tested x i p h =
     let k = c.1 in
     record {
       asked = record {
-          known = leb-false _ _ c.0;
-          sends = not-false _ k.0;
-          opened = is_open_holds _ (not-false _ k.1.0);
-          some = (let z = eqb-false (length p) 0 k.1.1.0 in omega arith);
-          most = ltb-false _ _ k.1.1.1.0;
-          need = ltb-false _ _ k.1.1.1.1.1.0;
-        };
+        known = leb-false _ _ c.0;
+        sends = not-false _ k.0;
+        opened = is_open_holds _ (not-false _ k.1.0);
+        some = (let z = eqb-false (length p) 0 k.1.1.0 in omega arith);
+        most = ltb-false _ _ k.1.1.1.0;
+        need = ltb-false _ _ k.1.1.1.1.1.0;
+      };
       waits = eqb-true _ _ (not-false _ k.1.1.1.1.0);
     }
 
