@@ -1,9 +1,8 @@
--- How large the room for a block can be, for whatever the memory holds, and the payload of a sound frame. Assumes nothing.
-use Prim.Native.Nat.{ℕ, ◌+◌, ◌*◌, ◌<◌}
-use mathlib.Core.Path.{◌≡◌, refl}
-use mathlib.Core.Bool.{Bool, true, false, ◌&&◌}
+-- How long the payload of a sound frame can be. Assumes nothing.
+use Prim.Native.Nat.{ℕ, ◌+◌, ◌<◌}
+use mathlib.Core.Path.{◌≡◌}
+use mathlib.Core.Bool.{true, ◌&&◌}
 use mathlib.Core.List.{List}
-use native.Mathlib.Nat.{mul-le-mul}
 use native.Mathlib.Omega.{arith}
 use lib.Dec.{eqb, leb}
 use lib.ListN.{length, get_or}
@@ -13,18 +12,12 @@ use Rattle.check8.specs.Polynomial.{check_of}
 use Rattle.frame.specs.Layout.{payload_of}
 use Rattle.frame.specs.Reading.{sound_of}
 use Rattle.frame.proofs.Parts.{length_payload}
-
-pub room_lt : (a b : ℕ) → a < 256 → b < 65540 → a * b < 16777216
-room_lt a b h k = omega (arith, mul-le-mul {n₁ = a} {m₁ = b} {n₂ = 255} {m₂ = 65539} (omega arith) (omega arith))
-
-and_true : (a b : Bool) → (a && b) ≡ true → (a ≡ true) × (b ≡ true)
-and_true true b e = (refl, e)
-and_true false b e = let z : ◌≡◌ {A = ℕ} 0 1 = cc in absurd (omega arith)
+use Rattle.table.proofs.Every.{both}
 
 -- the length field has 16 bits
 pub sound_short : (f : List ℕ) → ((k : ℕ) → get_or f k 0 < 256) → sound_of f ≡ true → length (payload_of f) < 65536
 unfolding sound_of get16_of
 sound_short f small e =
-    let a = and_true (leb 9 (length f) && eqb (get16_of f 4 + 9) (length f)) (eqb (check_of f) 0) e in
-    let b = and_true (leb 9 (length f)) (eqb (get16_of f 4 + 9) (length f)) a.0 in
+    let a = both (leb 9 (length f) && eqb (get16_of f 4 + 9) (length f)) (eqb (check_of f) 0) e in
+    let b = both (leb 9 (length f)) (eqb (get16_of f 4 + 9) (length f)) a.0 in
     omega (arith, eqb-true (get16_of f 4 + 9) (length f) b.1, length_payload f, small 4, small 5)

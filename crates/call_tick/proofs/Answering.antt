@@ -1,8 +1,8 @@
--- The bits that a tick answers: a bit fits 16 of them, and those of the first n entries come to less than 2 ^ n. Assumes nothing.
+-- The bits that a tick answers: those of the first n entries come to less than 2 ^ n. Assumes nothing.
 use mathlib.Core.Bool.{Bool, true, false, not, ◌&&◌}
 use mathlib.Core.Path.{◌≡◌}
-use Prim.Native.Nat.{ℕ, ◌+◌, ◌*◌, ◌%◌, ◌^◌, ◌≤◌, ◌<◌}
-use native.Mathlib.Nat.{one-mul, mod-eq_of_lt, pow-le-pow_right, two-pow-succ}
+use Prim.Native.Nat.{ℕ, ◌+◌, ◌^◌, ◌<◌}
+use native.Mathlib.Nat.{two-pow-succ}
 use native.Mathlib.Numerals.{add-one}
 use native.Mathlib.Omega.{arith}
 use Rattle.units.specs.Refusals.{pick}
@@ -10,13 +10,6 @@ use Rattle.end_points.specs.Ends.{end_of}
 use Rattle.waiting.specs.Port.{is_own}
 use Rattle.call_tick.specs.Ticking.{Recovered, again, recover}
 use Rattle.end_points.specs.States.{is_over}
-
-pub bit_le : (i : ℕ) → i < 16 → 2 ^ i ≤ 32768
-bit_le i h = pow-le-pow_right {n = 2} (omega arith) {i = i} {j = 15} (omega arith)
-
--- what a shift gives
-pub shifted : (i : ℕ) → i < 16 → 1 * 2 ^ i % 65536 ≡ 2 ^ i
-shifted i h = let l = bit_le i h in rw (one-mul (2 ^ i)) (mod-eq_of_lt (omega arith))
 
 pick_bits : (b : Bool) (x y : Recovered) (m : ℕ) → x.bits < m → y.bits < m → (pick b x y).bits < m
 pick_bits true x y m p q = p

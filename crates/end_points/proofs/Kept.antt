@@ -36,10 +36,6 @@ unfolding end_of
 end_ext ws vs i h =
     rw (entry_ext ws vs i h, h 7 (omega arith), h 8 (omega arith), h 9 (omega arith), h 10 (omega arith), run_ext ws vs i ((load_entry vs i).window % 256) h)
 
--- so whatever leaves the words from 64 on leaves every end point
-pub rest_end : (ws vs : List ℕ) → ((k : ℕ) → 64 ≤ k → get_or ws k 0 ≡ get_or vs k 0) → (i : ℕ) → end_of ws i ≡ end_of vs i
-rest_end ws vs h i = end_ext ws vs i (λ k l. h (entry_at i + k) (omega arith))
-
 -- ---- the words that a save stores
 
 state_three : (s : State) → length (state_words s) ≡ 3

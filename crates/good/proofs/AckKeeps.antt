@@ -344,7 +344,3 @@ module _ (t : List ℕ) (x : Lent) (l : Lists) (i s : ℕ) (g : Good t x.node x.
   pub ack_ends : Acked x.node x.book (ack_after x i (end_of x.node i) (end_of x.node i).state s).node
       (ack_after x i (end_of x.node i) (end_of x.node i).state s).book i s
   ack_ends = whole.ends
-
-  -- the payloads' lengths are as they were
-  pub ack_lengths : (c : ℕ) → c < all_cells → length_in (ack_after x i (end_of x.node i) (end_of x.node i).state s).book c ≡ length_in x.book c
-  ack_lengths = whole.lengths

@@ -30,8 +30,8 @@ use Rattle.arrive_lookup.specs.Lookup.{Indexed, entry_for}
 use Rattle.arrive_lookup.proofs.Found.{Fitting, found_fits}
 use Rattle.call_arrive.specs.Arriving.{block_room, entry_tests, entry_of, entry_verdict, taken_in_answer, taken_in_after, answer_as, after_as, entry_answer, entry_after, read_answer, read_after, frame_tests, arrival_answer, arrival_after}
 use Rattle.table.proofs.Every.{both}
-use Rattle.good.proofs.Known.{is_open_holds}
 use Rattle.std.specs.Prelude.{Result, Ok, Err}
+use Rattle.end_points.proofs.Telling.{is_open_holds}
 
 -- ---- what the tests make sure of
 

@@ -443,9 +443,6 @@ module _ (i : ℕ) (ws ws' : List ℕ) (a : Apart i ws ws') where
   pub apart_count : count_in ws' ≡ count_in ws
   apart_count = same_count ws ws' a.head a.table a.rows
 
-  pub apart_entry : (j : ℕ) → load_entry ws' j ≡ load_entry ws j
-  apart_entry j = same_entry ws ws' a.head a.table a.rows j
-
   -- timers that stay stay timely
   pub apart_timely : (b : List ℕ) (j : ℕ) (e : EndPoint) (s : State) → Timely (clock_in ws) (quiet_in ws) b j e s → Timely (clock_in ws') (quiet_in ws') b j e s
   apart_timely b j e s h =

@@ -13,7 +13,7 @@ use Rattle.window.specs.declared.Found.{Found}
 use Rattle.window.specs.declared.Found.TheVariants.{New, Held, Outside}
 use Rattle.table.specs.declared.Kind.{Kind}
 use Rattle.table.specs.declared.Kind.TheVariants.{Sends, Receives}
-use Rattle.end_points.specs.States.{is_sends, is_closed, is_open}
+use Rattle.end_points.specs.States.{is_sends}
 use Rattle.end_points.specs.Runs.{is_new}
 use Rattle.end_points.specs.declared.State.{State}
 use Rattle.end_points.specs.declared.State.TheVariants.{Closed, Enabled, Open, Failing}
@@ -23,18 +23,6 @@ use Rattle.good.specs.Good.{Lists, mine, Silent, Stated, Entered}
 use Rattle.good.proofs.Members.{mine_all}
 
 -- ---- by a test
-
-pub is_open_holds : (s : State) → is_open s ≡ true → s ≡ Open
-is_open_holds Closed h = absurd (false≢true h)
-is_open_holds (Enabled t sent) h = absurd (false≢true h)
-is_open_holds Open h = refl
-is_open_holds (Failing n) h = absurd (false≢true h)
-
-pub is_closed_holds : (s : State) → is_closed s ≡ true → s ≡ Closed
-is_closed_holds Closed h = refl
-is_closed_holds (Enabled t sent) h = absurd (false≢true h)
-is_closed_holds Open h = absurd (false≢true h)
-is_closed_holds (Failing n) h = absurd (false≢true h)
 
 pub is_sends_holds : (k : Kind) → is_sends k ≡ true → k ≡ Sends
 is_sends_holds Sends h = refl

@@ -14,6 +14,7 @@ pub mod Idling
 pub mod OpenKeeps
 pub mod CloseKeeps
 pub mod RunSets
+pub mod Asked
 pub mod SendKeeps
 pub mod UrgentKeeps
 pub mod AckRuns

@@ -23,11 +23,12 @@ use Rattle.end_points.specs.declared.EndPoint.{EndPoint}
 use Rattle.call_open.specs.Opening.{open_answer, open_after}
 use Rattle.good.specs.Good.{Lists, Silent, Anew, Entered, Good}
 use Rattle.good.proofs.Lined.{added}
-use Rattle.good.proofs.Known.{is_closed_holds, stated_as, entered_as}
+use Rattle.good.proofs.Known.{stated_as, entered_as}
 use Rattle.good.proofs.Framing.{Within, within_same, apart_saved, entry_low}
 use Rattle.good.proofs.Turns.{run_fits, turned_to, end_saved, anew_fits, anew_size, anew_fresh, anew_window, free_turn, not_owed, Kept, kept_either}
 use Rattle.good.proofs.Senders.{reset_within, reset_under, reset_silent, enabled_sender}
 use Rattle.std.specs.Prelude.{Ok}
+use Rattle.end_points.proofs.Telling.{is_closed_holds}
 
 -- ---- the entry: Enabled, and its Reset waits where it sends
 

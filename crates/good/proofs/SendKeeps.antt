@@ -17,13 +17,11 @@ use Rattle.units.proofs.Judging.{clear}
 use Rattle.memory.specs.Layout.{all_cells, cells_at, ids_end, under_at, datas, urgent_id, length_at, timer_at, retries_at}
 use Rattle.waiting.specs.Queues.{appended}
 use Rattle.waiting.specs.Port.{under_in}
-use Rattle.end_points.proofs.Kept.{RunFits}
 use Rattle.window.specs.Windows.{Good as GoodWindow}
 use Rattle.window.specs.declared.Window.{Window}
 use Rattle.window.proofs.Sizes.{size_le}
 use Rattle.end_points.specs.Ends.{end_of}
 use Rattle.end_points.specs.Heads.{count_in, need_in}
-use Rattle.end_points.specs.States.{is_sends}
 use Rattle.end_points.specs.Lent.{Lent}
 use Rattle.end_points.specs.declared.State.{State}
 use Rattle.end_points.specs.declared.State.TheVariants.{Open}
@@ -36,13 +34,15 @@ use Rattle.memory.specs.Layout.{Ranged}
 use Rattle.good.specs.Good.{Lists, Lines, mine, id_at, ids, Share, Resends, Filled, Sending, OpenSender, Entered, Timely, Good}
 use Rattle.good.proofs.Members.{mine_all, mine_append, mine_own}
 use Rattle.good.proofs.Lined.{added, append_cells, append_under}
-use Rattle.good.proofs.Known.{is_open_holds, stated_as, entered_as}
+use Rattle.good.proofs.Known.{stated_as, entered_as}
 use Rattle.good.proofs.Framing.{same_under, Within, within_then, within_append, within_set, entry_low, cell_low, length_owner, retries_owner, timely_as, timely_fewer}
 use Rattle.good.proofs.Offsets.{id_high, id_owner, data_ranged, cell_inj, id_inj, ids_more, ids_in}
 use Rattle.good.proofs.Turns.{run_fits, turned_to, sender_put, Kept, kept_either}
+use Rattle.good.proofs.Asked.{Asked}
 use Rattle.good.proofs.RunSets.{sent_puts, sent_end}
 use Rattle.good.proofs.Senders.{resends_kept, standing_kept}
 use Rattle.std.specs.Prelude.{Ok}
+use Rattle.end_points.proofs.Telling.{is_open_holds}
 
 -- ---- what waits
 
@@ -229,14 +229,9 @@ module _ (b : List ℕ) (l : Lists) (L : Lines b l) (i : ℕ) (low : i < 16) (e 
 
 -- no test of the call fits
 record Tested (x : Lent) (i : ℕ) (p : List ℕ) : Type 0 where
-  known : i < count_in x.node
-  sends : is_sends (end_of x.node i).entry.kind ≡ true
-  opened : (end_of x.node i).state ≡ Open
-  some : 1 ≤ length p
-  most : length p ≤ (end_of x.node i).entry.largest
+  asked : Asked x i p
   counted : (end_of x.node i).run.accepted.0 ≢ 4294967295
   room : (end_of x.node i).run.taken < (end_of x.node i).run.window.size
-  stored : need_in x.node ≤ length x.store
 
 tested : (x : Lent) (i : ℕ) (p : List ℕ) → send_answer x i p ≡ Ok tt → Tested x i p
 unfolding send_answer
@@ -245,45 +240,28 @@ tested x i p h =
     let c = clear ((leb (count_in x.node) i, refusal.NoEntry) ∷ send_tests e (length p) (length x.store) (need_in x.node)) h in
     let k = c.1 in
     record {
-      known = leb-false _ _ c.0;
-      sends = not-false _ k.0;
-      opened = is_open_holds _ (not-false _ k.1.0);
-      some = (let z = eqb-false (length p) 0 k.1.1.0 in omega arith);
-      most = ltb-false _ _ k.1.1.1.0;
+      asked = record {
+        known = leb-false _ _ c.0;
+        sends = not-false _ k.0;
+        opened = is_open_holds _ (not-false _ k.1.0);
+        some = (let z = eqb-false (length p) 0 k.1.1.0 in omega arith);
+        most = ltb-false _ _ k.1.1.1.0;
+        need = ltb-false _ _ k.1.1.1.1.1.1.0;
+      };
       counted = eqb-false _ _ k.1.1.1.1.0;
       room = leb-false _ _ k.1.1.1.1.1.0;
-      stored = ltb-false _ _ k.1.1.1.1.1.1.0;
     }
 
 -- what a send that passed made of the entry
 pub record SendPassed (x : Lent) (i : ℕ) (p : List ℕ) (e : EndPoint) (after : Lent) : Type 0 where
-  pub known : i < count_in x.node
-  pub sends : is_sends e.entry.kind ≡ true
-  pub opened : e.state ≡ Open
-  pub some : 1 ≤ length p
-  pub most : length p ≤ e.entry.largest
-  pub counted : e.run.accepted.0 ≢ 4294967295
+  pub asked : Asked x i p
   pub room : e.run.taken < e.run.window.size
-  pub need : need_in x.node ≤ length x.store
   pub is : after ≡ sent x i e p
   pub end : end_of after.node i ≡ turned_to e Open (sent_run e.run)
   pub filled : length_in after.book (cell i e.run.window (next_number e.run)) ≡ length p
   pub others : (k : ℕ) → k < e.run.taken
       → length_in after.book (cell i e.run.window (past e.run.window k)) ≡ length_in x.book (cell i e.run.window (past e.run.window k))
   pub stored : after.store ≡ sets x.store (spot e.place e.entry.largest (slot_for e.run.window (next_number e.run))) p
-
--- the run still fits its words
-sent_fits : (r : Run) → RunFits r → r.accepted.0 ≢ 4294967295 → r.taken < 128 → RunFits (sent_run r)
-unfolding sent_run
-sent_fits r f c t =
-    record {
-      start = f.start;
-      taken = omega arith;
-      handed = f.handed;
-      accepted = (let h = f.accepted in omega arith);
-      confirmed = f.confirmed;
-      urgent = f.urgent;
-    }
 
 sent_size : (r : Run) → (sent_run r).window ≡ r.window
 unfolding sent_run
@@ -298,30 +276,22 @@ module _ (t : List ℕ) (x : Lent) (l : Lists) (i : ℕ) (p : List ℕ) (g : Goo
   e = end_of x.node i
 
   low : i < 16
-  low = entry_low t x.node x.book l g i d.known
+  low = entry_low t x.node x.book l g i d.asked.known
 
   window : GoodWindow e.run.window
-  window = (g.entered i d.known).window
+  window = (g.entered i d.asked.known).window
 
   was : OpenSender x.book l i e
-  was = stated_as x.book l i e (g.entered i d.known) true d.sends Open d.opened
+  was = stated_as x.book l i e (g.entered i d.asked.known) true d.asked.sends Open d.asked.opened
 
   none : (q : ℕ) → q < 4 → Memᴰ (id_at i e.run.window e.run.taken) (l q) → ⊥
-  none = next_waits t x.node x.book l g i d.known was d.room
-
-  fits : RunFits (sent_run e.run)
-  fits =
-      sent_fits e.run (run_fits x.node i) d.counted
-      (let s = size_le e.run.window.size window.sized in let r = d.room in omega arith)
-
-  same_size : (sent_run e.run).window.size ≡ e.run.window.size
-  same_size = ap (λ (w : Window). w.size) (sent_size e.run)
+  none = next_waits t x.node x.book l g i d.asked.known was d.room
 
   now : Entered (sent x i e p).book (added l datas (id_at i e.run.window e.run.taken)) i (turned_to e e.state (sent_run e.run))
   now =
       entered_as (sent x i e p).book (added l datas (id_at i e.run.window e.run.taken)) i (turned_to e e.state (sent_run e.run))
-      (rw (sent_size e.run) window) true d.sends Open d.opened
-      (sent_open x.book l g.lines i low e window was (length p) d.some d.most d.room none e.state)
+      (rw (sent_size e.run) window) true d.asked.sends Open d.asked.opened
+      (sent_open x.book l g.lines i low e window was (length p) d.asked.some d.asked.most d.room none e.state)
 
   within : Within i x.book (sent x i e p).book l (added l datas (id_at i e.run.window e.run.taken))
   within = sent_within x.book l g.lines i low e.run.window window e.run.taken (length p) none
@@ -340,9 +310,9 @@ module _ (t : List ℕ) (x : Lent) (l : Lists) (i : ℕ) (p : List ℕ) (g : Goo
   soon =
       let a = (sent_puts x.node i g.long low).apart in
       timely_as (clock_in x.node) (quiet_in (sent x i e p).node) x.book (sent x i e p).book i e (turned_to e e.state (sent_run e.run))
-      (same_under i x.book (sent x i e p).book (under x.book l g.lines i low e window was (length p) d.some d.most d.room none)) refl refl
-      (timer x.book l g.lines i low e window was (length p) d.some d.most d.room none) e.state
-      (timely_fewer (clock_in x.node) (quiet_in x.node) (quiet_in (sent x i e p).node) x.book i e e.state a.quiet (g.timely i d.known))
+      (same_under i x.book (sent x i e p).book (under x.book l g.lines i low e window was (length p) d.asked.some d.asked.most d.room none)) refl refl
+      (timer x.book l g.lines i low e window was (length p) d.asked.some d.asked.most d.room none) e.state
+      (timely_fewer (clock_in x.node) (quiet_in x.node) (quiet_in (sent x i e p).node) x.book i e e.state a.quiet (g.timely i d.asked.known))
 
   sent_kept : Kept t x (sent x i e p) l i
   sent_kept =
@@ -350,31 +320,25 @@ module _ (t : List ℕ) (x : Lent) (l : Lists) (i : ℕ) (p : List ℕ) (g : Goo
         lists = added l datas (id_at i e.run.window e.run.taken);
         good =
             let a = sent_puts x.node i g.long low in
-            sender_put t x.node x.book l g i d.known d.sends (sent x i e p).node a.apart a.waits
+            sender_put t x.node x.book l g i d.asked.known d.asked.sends (sent x i e p).node a.apart a.waits
             a.acks
             (sent x i e p).book (added l datas (id_at i e.run.window e.run.taken)) within
             (turned_to e e.state (sent_run e.run)) put_end now soon;
         apart = (sent_puts x.node i g.long low).apart;
         within = within;
-        under = under x.book l g.lines i low e window was (length p) d.some d.most d.room none;
+        under = under x.book l g.lines i low e window was (length p) d.asked.some d.asked.most d.room none;
       }
 
   sent_passed : SendPassed x i p e (sent x i e p)
   sent_passed =
       record {
-        known = d.known;
-        sends = d.sends;
-        opened = d.opened;
-        some = d.some;
-        most = d.most;
-        counted = d.counted;
+        asked = d.asked;
         room = d.room;
-        need = d.stored;
         is = refl;
         end = put_end
-            ∙ ap (λ (s : State). turned_to e s (sent_run e.run)) d.opened;
+            ∙ ap (λ (s : State). turned_to e s (sent_run e.run)) d.asked.opened;
         filled = sent_here x.book l g.lines i low e.run.window window e.run.taken (length p) none;
-        others = others x.book l g.lines i low e window was (length p) d.some d.most d.room none;
+        others = others x.book l g.lines i low e window was (length p) d.asked.some d.asked.most d.room none;
         stored = refl;
       }
 

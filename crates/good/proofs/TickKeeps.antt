@@ -33,7 +33,7 @@ use Rattle.slots.specs.Slots.{cell, past, length_in, timer_in}
 use Rattle.timing.specs.Timing.{clock_in, quiet_in, later, left_of, passed as passing}
 use Rattle.timing.proofs.Falling.{later_next}
 use Rattle.call_tick.specs.Ticking.{Scanned, tick_entry, tick_entries, Recovered, again, recover, recover_all, entries, scanned, scan_both, scan_after, still_after, tick_both, tick_after, tick_answer}
-use Rattle.call_tick.proofs.Apart.{begun, timed, tick_only, scan_head}
+use Rattle.call_tick.proofs.Apart.{begun, timed, tick_same, scan_head}
 use Rattle.end_points.specs.States.{is_over}
 use Rattle.good.specs.Good.{Lists, Silent, Stated, Timely, Good}
 use Rattle.good.proofs.Lined.{added}
@@ -44,6 +44,7 @@ use Rattle.good.proofs.Turns.{run_fits, turned_to, end_saved, anew_fits, anew_si
 use Rattle.good.proofs.Senders.{reset_within, reset_cells, reset_under, reset_silent, enabled_sender}
 use Rattle.good.proofs.TickEntry.{Ticks, closed, enabled, opened, failed, failing, EntryTicked, tick_entry_keeps, Bound, Bounds}
 use Rattle.good.proofs.Timely.{falls_on, passes_over, found_on}
+use Rattle.end_points.proofs.Telling.{is_over_holds}
 
 -- ---- a bound stays while the entry's timers do, and where it is lowered
 
@@ -133,7 +134,7 @@ passed t c x l g idle zero h =
 passed t c x l g idle (suc n) h =
     let p = passed t c x l g idle n (omega arith) in
     let y = tick_entries c n (begun x) in
-    pass_then t c x y (tick_entry c n y) n h p (tick_entry_keeps t c y p.lists p.good n (omega (arith, p.count)) p.idle) ((tick_only c n y).before quiet_at (omega arith))
+    pass_then t c x y (tick_entry c n y) n h p (tick_entry_keeps t c y p.lists p.good n (omega (arith, p.count)) p.idle) ((tick_same c n y).before quiet_at (omega arith))
 
 -- ---- the bits
 
@@ -154,12 +155,6 @@ bit_none : (a n : ℕ) → a < 2 ^ n → a / 2 ^ n % 2 ≡ 0
 bit_none a n h = omega (arith, div-eq_of_lt h)
 
 -- ---- recovery
-
-over_failing : (s : State) → is_over s ≡ true → s ≡ Failing 0
-over_failing Closed h = absurd (false≢true h)
-over_failing (Enabled n sent) h = absurd (false≢true h)
-over_failing Open h = absurd (false≢true h)
-over_failing (Failing n) h = ap Failing (eqb-true n 0 h)
 
 -- only a sender fails, and then nothing of it waits
 failing_sends : (b : List ℕ) (l : Lists) (i : ℕ) (e : EndPoint) (k : Bool) (n : ℕ) → Stated b l i e k (Failing n) → (k ≡ true) × Silent l i []
@@ -243,7 +238,7 @@ module _ (t : List ℕ) (r : Recovered) (l : Lists) (g : Good t r.lent.node r.le
 
       sides : (o w : Bool) → is_over e.state ≡ o → is_own r.lent.book i ≡ w → Recovery t r (pick (o && not w) (again i r) r) l i
       sides true true o w = goes_on (rw (o, w))
-      sides true false o w = over w (over_failing e.state o)
+      sides true false o w = over w (is_over_holds e.state o)
       sides false w o own = goes_on (rw o)
 
 -- after the recovery of the first n entries

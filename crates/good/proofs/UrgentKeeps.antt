@@ -21,25 +21,26 @@ use Rattle.end_points.proofs.Kept.{RunFits}
 use Rattle.window.specs.declared.Window.{Window}
 use Rattle.end_points.specs.Ends.{word, load_entry, end_of}
 use Rattle.end_points.specs.Heads.{count_in, need_in}
-use Rattle.end_points.specs.States.{is_sends}
 use Rattle.end_points.specs.Lent.{Lent}
 use Rattle.end_points.specs.declared.State.{State}
 use Rattle.end_points.specs.declared.State.TheVariants.{Open}
 use Rattle.end_points.specs.declared.Run.{Run}
 use Rattle.end_points.specs.declared.EndPoint.{EndPoint}
-use Rattle.slots.specs.Slots.{cell, spot, past, length_in}
+use Rattle.slots.specs.Slots.{cell, spot, past}
 use Rattle.call_send.specs.Sending.{urgent_tests, urgent_answer, urgent_run, urged, urgent_after}
 use Rattle.timing.specs.Timing.{clock_in, quiet_in}
 use Rattle.memory.specs.Layout.{Ranged}
 use Rattle.good.specs.Good.{Lists, Lines, mine, Resends, Sending, OpenSender, Entered, Timely, Good}
 use Rattle.good.proofs.Members.{mine_all, mine_append, mine_own}
 use Rattle.good.proofs.Lined.{added, append_cells, append_under}
-use Rattle.good.proofs.Known.{is_open_holds, stated_as, entered_as}
+use Rattle.good.proofs.Known.{stated_as, entered_as}
 use Rattle.good.proofs.Framing.{same_under, Within, within_append, apart_saved, timely_as, entry_low}
 use Rattle.good.proofs.Offsets.{urgent_owner, urgent_ranged}
+use Rattle.good.proofs.Asked.{Asked}
 use Rattle.good.proofs.Turns.{run_fits, state_fits, turned_to, end_saved, sender_turn, Kept, kept_either}
 use Rattle.good.proofs.Senders.{resends_kept, standing_kept}
 use Rattle.std.specs.Prelude.{Ok}
+use Rattle.end_points.proofs.Telling.{is_open_holds}
 
 -- ---- what waits
 
@@ -122,13 +123,8 @@ module _ (b : List ℕ) (l : Lists) (L : Lines b l) (i : ℕ) (low : i < 16) (e 
 
 -- no test of the call fits
 record Tested (x : Lent) (i : ℕ) (p : List ℕ) : Type 0 where
-  known : i < count_in x.node
-  sends : is_sends (end_of x.node i).entry.kind ≡ true
-  opened : (end_of x.node i).state ≡ Open
-  some : 1 ≤ length p
-  most : length p ≤ (end_of x.node i).entry.largest
+  asked : Asked x i p
   waits : (end_of x.node i).run.urgent ≡ 0
-  need : need_in x.node ≤ length x.store
 
 tested : (x : Lent) (i : ℕ) (p : List ℕ) → urgent_answer x i p ≡ Ok tt → Tested x i p
 unfolding urgent_answer
@@ -137,27 +133,23 @@ tested x i p h =
     let c = clear ((leb (count_in x.node) i, refusal.NoEntry) ∷ urgent_tests e (length p) (length x.store) (need_in x.node)) h in
     let k = c.1 in
     record {
-      known = leb-false _ _ c.0;
-      sends = not-false _ k.0;
-      opened = is_open_holds _ (not-false _ k.1.0);
-      some = (let z = eqb-false (length p) 0 k.1.1.0 in omega arith);
-      most = ltb-false _ _ k.1.1.1.0;
+      asked = record {
+        known = leb-false _ _ c.0;
+        sends = not-false _ k.0;
+        opened = is_open_holds _ (not-false _ k.1.0);
+        some = (let z = eqb-false (length p) 0 k.1.1.0 in omega arith);
+        most = ltb-false _ _ k.1.1.1.0;
+        need = ltb-false _ _ k.1.1.1.1.1.0;
+      };
       waits = eqb-true _ _ (not-false _ k.1.1.1.1.0);
-      need = ltb-false _ _ k.1.1.1.1.1.0;
     }
 
 -- what an Urgent that passed made of the entry
 pub record UrgentPassed (x : Lent) (i : ℕ) (p : List ℕ) (e : EndPoint) (after : Lent) : Type 0 where
-  pub known : i < count_in x.node
-  pub sends : is_sends e.entry.kind ≡ true
-  pub opened : e.state ≡ Open
-  pub some : 1 ≤ length p
-  pub most : length p ≤ e.entry.largest
+  pub asked : Asked x i p
   pub waits : e.run.urgent ≡ 0
-  pub need : need_in x.node ≤ length x.store
   pub is : after ≡ urged x i e p
   pub end : end_of after.node i ≡ turned_to e Open (urgent_run e.run (length p))
-  pub lengths : (c : ℕ) → length_in after.book c ≡ length_in x.book c
   pub stored : after.store ≡ sets x.store (spot e.place e.entry.largest e.run.window.size) p
 
 -- the run still fits its words
@@ -186,62 +178,56 @@ module _ (t : List ℕ) (x : Lent) (l : Lists) (i : ℕ) (p : List ℕ) (g : Goo
   after = turned_to e e.state (urgent_run e.run (length p))
 
   low : i < 16
-  low = entry_low t x.node x.book l g i d.known
+  low = entry_low t x.node x.book l g i d.asked.known
 
   was : OpenSender x.book l i e
-  was = stated_as x.book l i e (g.entered i d.known) true d.sends Open d.opened
+  was = stated_as x.book l i e (g.entered i d.asked.known) true d.asked.sends Open d.asked.opened
 
   none : (q : ℕ) → q < 4 → Memᴰ (urgent_id i) (l q) → ⊥
-  none = urgent_waits t x.node x.book l g i d.known was d.waits
+  none = urgent_waits t x.node x.book l g i d.asked.known was d.waits
 
   fits : RunFits (urgent_run e.run (length p))
-  fits = urged_fits e.run (length p) (run_fits x.node i) (omega (arith, d.most, largest_small x.node i))
+  fits = urged_fits e.run (length p) (run_fits x.node i) (omega (arith, d.asked.most, largest_small x.node i))
 
   same_size : (urgent_run e.run (length p)).window.size ≡ e.run.window.size
   same_size = ap (λ (w : Window). w.size) (urged_window e.run (length p))
 
   now : Entered (urged x i e p).book (added l urgents (urgent_id i)) i after
   now =
-      entered_as (urged x i e p).book (added l urgents (urgent_id i)) i after (rw (urged_window e.run (length p)) (g.entered i d.known).window)
-      true d.sends Open d.opened
-      (urged_open x.book l g.lines i low e was d.waits (length p) d.some d.most none e.state)
+      entered_as (urged x i e p).book (added l urgents (urgent_id i)) i after (rw (urged_window e.run (length p)) (g.entered i d.asked.known).window)
+      true d.asked.sends Open d.asked.opened
+      (urged_open x.book l g.lines i low e was d.waits (length p) d.asked.some d.asked.most none e.state)
 
   soon : Timely (clock_in x.node) (quiet_in x.node) (urged x i e p).book i after e.state
   unfolding urgent_run
   soon =
       timely_as (clock_in x.node) (quiet_in x.node) x.book (urged x i e p).book i e after
-      (same_under i x.book (urged x i e p).book (under x.book l g.lines i low e was d.waits (length p) d.some d.most none)) refl refl
-      (λ k. cells x.book l g.lines i low e was d.waits (length p) d.some d.most none (timer_at (cell i e.run.window (past e.run.window k))) (omega arith))
-      e.state (g.timely i d.known)
+      (same_under i x.book (urged x i e p).book (under x.book l g.lines i low e was d.waits (length p) d.asked.some d.asked.most none)) refl refl
+      (λ k. cells x.book l g.lines i low e was d.waits (length p) d.asked.some d.asked.most none (timer_at (cell i e.run.window (past e.run.window k))) (omega arith))
+      e.state (g.timely i d.asked.known)
 
   within : Within i x.book (urged x i e p).book l (added l urgents (urgent_id i))
-  within = urged_within x.book l g.lines i low e was d.waits (length p) d.some d.most none
+  within = urged_within x.book l g.lines i low e was d.waits (length p) d.asked.some d.asked.most none
 
   urged_kept : Kept t x (urged x i e p) l i
   urged_kept =
       record {
         lists = added l urgents (urgent_id i);
-        good = sender_turn t x.node x.book l g i d.known d.sends e.state (urgent_run e.run (length p)) (state_fits x.node i) fits same_size
+        good = sender_turn t x.node x.book l g i d.asked.known d.asked.sends e.state (urgent_run e.run (length p)) (state_fits x.node i) fits same_size
             (urged x i e p).book (added l urgents (urgent_id i)) within now soon;
         apart = apart_saved i x.node e.state (urgent_run e.run (length p));
         within = within;
-        under = under x.book l g.lines i low e was d.waits (length p) d.some d.most none;
+        under = under x.book l g.lines i low e was d.waits (length p) d.asked.some d.asked.most none;
       }
 
   urged_passed : UrgentPassed x i p e (urged x i e p)
   urged_passed =
       record {
-        known = d.known;
-        sends = d.sends;
-        opened = d.opened;
-        some = d.some;
-        most = d.most;
+        asked = d.asked;
         waits = d.waits;
-        need = d.need;
         is = refl;
         end = end_saved x.node i e.state (urgent_run e.run (length p)) g.long low (state_fits x.node i) fits same_size
-            ∙ ap (λ (s : State). turned_to e s (urgent_run e.run (length p))) d.opened;
-        lengths = λ c. cells x.book l g.lines i low e was d.waits (length p) d.some d.most none (length_at c) (omega arith);
+            ∙ ap (λ (s : State). turned_to e s (urgent_run e.run (length p))) d.asked.opened;
         stored = refl;
       }
 

@@ -2,7 +2,7 @@
 -- arrival fits. And each frame that the remote end writes is such a frame; one with a fault is refused. Assumes nothing.
 use Prim.Native.Nat.{ℕ, zero, suc, ◌+◌, ◌-◌, ◌≤◌, ◌<◌}
 use mathlib.Core.Path.{◌≡◌, refl, sym, ap, ◌∙◌}
-use mathlib.Core.Bool.{Bool, true, false, not, ◌&&◌, true≢false, false≢true}
+use mathlib.Core.Bool.{Bool, true, false, not, ◌&&◌, false≢true}
 use mathlib.Core.Option.{some}
 use mathlib.Core.List.{List, [], ◌∷◌}
 use native.Mathlib.Omega.{arith}
@@ -18,8 +18,6 @@ use Rattle.frame.specs.declared.FrameType.{FrameType}
 use Rattle.frame.specs.declared.FrameType.TheVariants as type
 use Rattle.frame.proofs.ReadLaws.{taken as framed, header_for, payload_frame, read_frame}
 use Rattle.frame.proofs.TypeLaws.{type_of_number}
-use Rattle.table.specs.declared.Kind.{Kind}
-use Rattle.table.specs.declared.Kind.TheVariants.{Sends, Receives}
 use Rattle.table.specs.declared.Entry.{Entry}
 use Rattle.table.specs.Layout.{count_of}
 use Rattle.table.proofs.Every.{both}
@@ -35,6 +33,7 @@ use Rattle.machine.specs.Laws.{Is}
 use Rattle.machine.specs.LawsArriving.{Comes, fields_for, WrittenComes, FaultTold}
 use Rattle.machine.proofs.Entries.{not_none, elem_lt}
 use Rattle.std.specs.Prelude.{Ok}
+use Rattle.end_points.proofs.Telling.{same_kind}
 
 -- ---- the entry that is found
 
@@ -59,12 +58,6 @@ true_same : (a b : Bool) → same a b ≡ true → a ≡ b
 true_same true b h = sym h
 true_same false true h = absurd (false≢true h)
 true_same false false h = refl
-
-same_kind : (a b : Kind) → is_sends a ≡ is_sends b → a ≡ b
-same_kind Sends Sends h = refl
-same_kind Sends Receives h = absurd (true≢false h)
-same_kind Receives Sends h = absurd (false≢true h)
-same_kind Receives Receives h = refl
 
 record Fitting (x : Entry) (sends : Bool) (source channel : ℕ) : Type 0 where
   kind : sends ≡ is_sends x.kind

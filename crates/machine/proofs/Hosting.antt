@@ -24,26 +24,15 @@ use Rattle.machine.proofs.Entries.{elem_lt, elem_set_same}
 use Rattle.machine.proofs.Items.{share_gone, waits_last}
 use Rattle.machine.proofs.Judged.{by_entry, by_verdict, done_is, only_done}
 use Rattle.std.specs.Prelude.{Ok}
+use Rattle.end_points.proofs.Telling.{is_closed_holds, is_open_holds}
 
 -- ---- states by their tests
-
-is_closed_holds : (s : State) → is_closed s ≡ true → s ≡ Closed
-is_closed_holds Closed h = refl
-is_closed_holds (Enabled t sent) h = absurd (let z : ◌≡◌ {A = ℕ} 0 1 = cc in omega arith)
-is_closed_holds Open h = absurd (let z : ◌≡◌ {A = ℕ} 0 1 = cc in omega arith)
-is_closed_holds (Failing n) h = absurd (let z : ◌≡◌ {A = ℕ} 0 1 = cc in omega arith)
 
 pub not_closed : (s : State) → s ≢ Closed → is_closed s ≡ false
 not_closed Closed h = absurd (h refl)
 not_closed (Enabled t sent) h = refl
 not_closed Open h = refl
 not_closed (Failing n) h = refl
-
-is_open_holds : (s : State) → is_open s ≡ true → s ≡ Open
-is_open_holds Closed h = absurd (let z : ◌≡◌ {A = ℕ} 0 1 = cc in omega arith)
-is_open_holds (Enabled t sent) h = absurd (let z : ◌≡◌ {A = ℕ} 0 1 = cc in omega arith)
-is_open_holds Open h = refl
-is_open_holds (Failing n) h = absurd (let z : ◌≡◌ {A = ℕ} 0 1 = cc in omega arith)
 
 is_none : (o : Option (List ℕ)) → is_some o ≡ false → o ≡ none
 is_none none h = refl

@@ -2,7 +2,7 @@
 use Prim.Native.Nat.{ℕ, suc, ◌<◌}
 use mathlib.Core.Path.{◌≡◌, refl, sym, ap, ◌∙◌}
 use mathlib.Core.Logic.{◌≢◌}
-use mathlib.Core.Bool.{Bool, true, false, true≢false, false≢true}
+use mathlib.Core.Bool.{Bool, true, false}
 use mathlib.Core.Option.{Option, some}
 use mathlib.Core.List.{List, [], ◌∷◌}
 use native.Mathlib.Omega.{arith}
@@ -12,8 +12,6 @@ use borrow.Author.Tests.{eq-eqb, eqb-true}
 use Rattle.units.specs.Refusals.{pick}
 use Rattle.table.specs.Layout.{count_of, entry_of}
 use Rattle.table.specs.declared.Entry.{Entry}
-use Rattle.table.specs.declared.Kind.{Kind}
-use Rattle.table.specs.declared.Kind.TheVariants as kind
 use Rattle.table.proofs.Every.{both}
 use Rattle.table.proofs.Good.{one_entry}
 use Rattle.frame.specs.Types.{for_sender}
@@ -25,6 +23,7 @@ use Rattle.machine.specs.Machine.{End, Machine, place_of, entry_for}
 use Rattle.machine.specs.Sound.{Receives, Sound}
 use Rattle.machine.proofs.Entries.{not_none, elem_lt}
 use Rattle.promise.specs.Seen.{names}
+use Rattle.end_points.proofs.Telling.{same_kind}
 
 pub some_same : {A : Type 0} {a b : A} → ◌≡◌ {A = Option A} (some a) (some b) → a ≡ b
 some_same e = cc
@@ -48,12 +47,6 @@ found_fits m h e g =
     (placed (λ x. fits x.entry (for_sender h.kind) h.source.0 h.channel.0) m.ends e g)
 
 -- ---- which entry a frame names
-
-same_kind : (a b : Kind) → is_sends a ≡ is_sends b → a ≡ b
-same_kind kind.Sends kind.Sends h = refl
-same_kind kind.Sends kind.Receives h = absurd (true≢false h)
-same_kind kind.Receives kind.Sends h = absurd (false≢true h)
-same_kind kind.Receives kind.Receives h = refl
 
 is_false : (b : Bool) → (b ≡ true → ⊥) → b ≡ false
 is_false true h = absurd (h refl)

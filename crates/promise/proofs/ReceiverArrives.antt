@@ -24,7 +24,6 @@ use Rattle.blocks.specs.Blocks.{block_of}
 use Rattle.blocks.specs.Reading.{read_block}
 use Rattle.blocks.proofs.Reading.{reads_back}
 use Rattle.good.proofs.Arrivals.{payload_size}
-use Rattle.good.proofs.Known.{is_open_holds}
 use Rattle.machine.specs.Calls.{arrives}
 use Rattle.machine.specs.Machine.{End, acks, Machine, Outcome, anew, offset, is_new, held_run, handing_on, block_room, receiving, entry_tests, resetting, taken_in, step, without}
 use Rattle.machine.specs.Sound.{Sound}
@@ -40,6 +39,7 @@ use Rattle.promise.proofs.Watched.{Watch, owed, Follows, still}
 use Rattle.promise.proofs.Arrivals.{Taken, o, seen, named, other_kind, by_kind}
 use Rattle.promise.proofs.ReceiverView.{r_state_of, recv_of, reset_view, new_same, given_then, view_then}
 use Rattle.promise.proofs.ReceiverCalls.{r_watch, RStep}
+use Rattle.end_points.proofs.Telling.{is_open_holds}
 
 module _ (t : List ℕ) (m : Machine) (S : Sound t m) (j : ℕ) (e : End) (there : get_elem? m.ends j ≡ some e) where
   abbrev K : Watch

@@ -16,7 +16,6 @@ use Rattle.table.specs.declared.Entry.{Entry}
 use Rattle.frame.specs.Layout.{payload_of}
 use Rattle.frame.specs.Reading.{read_of}
 use Rattle.end_points.specs.States.{is_sends, is_closed}
-use Rattle.good.proofs.Known.{is_closed_holds}
 use Rattle.blocks.specs.Reading.{read_block}
 use Rattle.machine.specs.Calls.{Call, opens, closes, counts, sends, urges, plans, arrives, hands_out, reports, Answer}
 use Rattle.machine.specs.Machine.{End, acks, Machine, Outcome, answers, unless, sending, sending_all, planning, step}
@@ -30,6 +29,7 @@ use Rattle.promise.proofs.Laws.{RNext, rn_same, rn_open, rn_close}
 use Rattle.promise.proofs.Owing.{owed_gone}
 use Rattle.promise.proofs.Watched.{Watch, owed, Step, still, untouched, elsewhere, counts_step, unseen, opens_step, closes_step, sends_step, urges_step, reports_step}
 use Rattle.promise.proofs.ReceiverView.{r_state_of, recv_of, ended_view}
+use Rattle.end_points.proofs.Telling.{is_closed_holds}
 
 pub r_comes : (e : Entry) (j : ℕ) (block f : List ℕ) (a : Answer) → r_seen e j (arrives block f) a
     ≡ pick (is_done a.numbers) (r_in e (read_of f) (payload_of f) (read_block a.out)) r_quiet

@@ -41,7 +41,6 @@ use Rattle.call_arrive.specs.Arriving.{read_answer, read_after, frame_tests, arr
 use Rattle.good.specs.Good.{Lists, Good}
 use Rattle.good.specs.Calls.{Memory, lent, answer, after}
 use Rattle.machine.specs.Calls.{arrives, Bytes}
-use Rattle.good.proofs.Known.{is_open_holds}
 use Rattle.good.proofs.Framing.{count_low}
 use Rattle.good.proofs.Arrivals.{payload_size, header_byte}
 use Rattle.good.proofs.NoCorners.{no_corner}
@@ -54,6 +53,7 @@ use Rattle.refinement.proofs.AckStands.{Takes, ack_takes}
 use Rattle.refinement.proofs.ReceiveStands.{urgent_takes, reset_takes, data_takes}
 use Rattle.std.specs.Prelude.{Result, Ok, Err}
 use Rattle.end_points.specs.declared.answers.Arrival.{Arrival}
+use Rattle.end_points.proofs.Telling.{is_open_holds}
 
 -- ---- the first that fits
 

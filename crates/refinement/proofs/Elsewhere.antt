@@ -38,6 +38,7 @@ use Rattle.good.proofs.Payloads.{s_filled, r_filled, Stored, unaltered, put, sto
 use Rattle.machine.specs.Machine.{End, Item, Sort, Out, number, stated, node, port, listed, turned}
 use Rattle.refinement.specs.Standing.{Reading, read_at, payload_for, number_for, place_for, state_for, end_for, end_at, waiting_for, under_for, stands_for, Stands}
 use Rattle.machine.proofs.Listed.{listed_ext, listed_replicate, set_listed}
+use Rattle.table.proofs.Every.{both}
 
 -- ---- an end point stands for the same, in another book and store
 
@@ -59,11 +60,6 @@ timer_as L b b' i i' r r' k k' h u t = parts h u (ap L t)
     parts : {h g u v : Bool} {s t : ℕ} → h ≡ g → u ≡ v → s ≡ t → pick (h && not u) s 0 ≡ pick (g && not v) t 0
     parts a b c = rw (a, b, c)
 
--- a test on two pieces, both true
-both_true : (a b : Bool) → (a && b) ≡ true → (a ≡ true) × (b ≡ true)
-both_true true b h = (refl, h)
-both_true false b h = absurd (let z : ◌≡◌ {A = ℕ} 0 1 = cc in omega arith)
-
 module _ (L : Reading) (st st' b b' : List ℕ) (i : ℕ) (e : EndPoint) where
   abbrev Same : (List ℕ → ℕ → ℕ) → ℕ → Type 0
   Same read k = read b' (cell i e.run.window (past e.run.window k)) ≡ read b (cell i e.run.window (past e.run.window k))
@@ -76,7 +72,7 @@ module _ (L : Reading) (st st' b b' : List ℕ) (i : ℕ) (e : EndPoint) where
       sides : (t : Bool) → (not (is_sends e.entry.kind) && held e.run.window k) ≡ t
           → ◌≡◌ {A = Option (List ℕ)} (pick t (some (payload_for st' b' i e k)) none) (pick t (some (payload_for st b i e k)) none)
       sides true h =
-          let z = both_true (not (is_sends e.entry.kind)) (held e.run.window k) h in
+          let z = both (not (is_sends e.entry.kind)) (held e.run.window k) h in
           ap some (p k (not-true (is_sends e.entry.kind) z.0) z.1)
       sides false h = refl
 

@@ -95,7 +95,7 @@ module _ (t : List ℕ) (n : Memory) (l : Lists) (g : Good t n.node n.book l) (r
     slot_fits = slot_low t n.node n.book l g i li (next_number e.run)
 
     left : Leaves t n now l i
-    left = leaves (send_keeps t (lent n []) l i p g li) now.store (put slot p li slot_fits went.most went.stored)
+    left = leaves (send_keeps t (lent n []) l i p g li) now.store (put slot p li slot_fits went.asked.most went.stored)
 
     low : i < 16
     low = low_at g li
@@ -104,7 +104,7 @@ module _ (t : List ℕ) (n : Memory) (l : Lists) (g : Good t n.node n.book l) (r
     good = (g.entered i li).window
 
     was : OpenSender n.book l i e
-    was = stated_at g li true went.sends Open went.opened
+    was = stated_at g li true went.asked.sends Open went.asked.opened
 
     -- a length and the retries put, and one more that waits as data
     put_s : Put n.book (sent_book n.book at (length p)) l (length_at at) (length p) (retries_at at) 0 3 (cell_id at)
@@ -118,18 +118,18 @@ module _ (t : List ℕ) (n : Memory) (l : Lists) (g : Good t n.node n.book l) (r
     book = ap (λ (x : Lent). x.book) went.is
 
     end : end_of now.node i ≡ turned_to e e.state (sent_run e.run)
-    end = went.end ∙ ap (λ (s : State). turned_to e s (sent_run e.run)) (sym went.opened)
+    end = went.end ∙ ap (λ (s : State). turned_to e s (sent_run e.run)) (sym went.asked.opened)
 
     -- its numbers: the new one, and those before it
 
     new_payload : payload_for now.store now.book i e e.run.taken ≡ p
-    new_payload = rw (went.filled, went.stored) (put_read n g room li slot p slot_fits went.most)
+    new_payload = rw (went.filled, went.stored) (put_read n g room li slot p slot_fits went.asked.most)
 
     old_payload : (k : ℕ) → k < e.run.taken → payload_for now.store now.book i e k ≡ payload_for n.store n.book i e k
     old_payload k hk =
         rw went.stored
-        (payload_apart t n l g i li room slot p slot_fits went.most now.book k
-        (s_filled t n.node n.book l g i li went.sends k hk)
+        (payload_apart t n l g i li room slot p slot_fits went.asked.most now.book k
+        (s_filled t n.node n.book l g i li went.asked.sends k hk)
         (λ c. let z = slot_inj w good k e.run.taken (omega (arith, went.room)) went.room c in omega arith)
         (went.others k hk))
 
@@ -167,14 +167,14 @@ module _ (t : List ℕ) (n : Memory) (l : Lists) (g : Good t n.node n.book l) (r
     urgent =
         rw went.stored
         (slots_stay t n.node n.book l g i i w.size slot e.run.urgent n.store p li li
-        (urgent_low t n.node n.book l g i li went.sends) slot_fits (urgent_most g li went.sends) went.most room
+        (urgent_low t n.node n.book l g i li went.asked.sends) slot_fits (urgent_most g li went.asked.sends) went.asked.most room
         refl (λ z. let y = slot_lt w (next_number e.run) good in omega arith))
 
     here : end_at now i ≡ taking p E
     unfolding end_for sent_run
     here =
         end_at_holds left end
-        ∙ rw (went.opened, numbers, no_places now.store now.book i e went.sends, no_places n.store n.book i e went.sends, urgent)
+        ∙ rw (went.asked.opened, numbers, no_places now.store now.book i e went.asked.sends, no_places n.store n.book i e went.asked.sends, urgent)
 
     -- what waits: one more, last of the data
 
@@ -227,22 +227,22 @@ module _ (t : List ℕ) (n : Memory) (l : Lists) (g : Good t n.node n.book l) (r
     went_u = urgent_passed t (lent n []) l i p g h
 
     last_fits : w.size < slots_of (entry_of t i).kind (entry_of t i).window
-    last_fits = urgent_low t n.node n.book l g i li went_u.sends
+    last_fits = urgent_low t n.node n.book l g i li went_u.asked.sends
 
     left_u : Leaves t n now_u l i
-    left_u = leaves (urgent_keeps t (lent n []) l i p g li) now_u.store (put w.size p li last_fits went_u.most went_u.stored)
+    left_u = leaves (urgent_keeps t (lent n []) l i p g li) now_u.store (put w.size p li last_fits went_u.asked.most went_u.stored)
 
     low_u : i < 16
     low_u = low_at g li
 
     was_u : OpenSender n.book l i e
-    was_u = stated_at g li true went_u.sends Open went_u.opened
+    was_u = stated_at g li true went_u.asked.sends Open went_u.asked.opened
 
     book_u : now_u.book ≡ appended n.book layout.urgents id
     book_u = ap (λ (x : Lent). x.book) went_u.is
 
     end_u : end_of now_u.node i ≡ turned_to e e.state (urgent_run e.run (length p))
-    end_u = went_u.end ∙ ap (λ (s : State). turned_to e s (urgent_run e.run (length p))) (sym went_u.opened)
+    end_u = went_u.end ∙ ap (λ (s : State). turned_to e s (urgent_run e.run (length p))) (sym went_u.asked.opened)
 
     -- it waited nowhere
     none_waits_u : (q : ℕ) → q < 4 → Memᴰ id (l q) → ⊥
@@ -261,8 +261,8 @@ module _ (t : List ℕ) (n : Memory) (l : Lists) (g : Good t n.node n.book l) (r
     payload_u : (k : ℕ) → k < e.run.taken → payload_for now_u.store now_u.book i e k ≡ payload_for n.store n.book i e k
     payload_u k hk =
         rw went_u.stored
-        (payload_apart t n l g i li room w.size p last_fits went_u.most now_u.book k
-        (s_filled t n.node n.book l g i li went_u.sends k hk)
+        (payload_apart t n l g i li room w.size p last_fits went_u.asked.most now_u.book k
+        (s_filled t n.node n.book l g i li went_u.asked.sends k hk)
         (λ z. let y = slot_lt w (past w k) (g.entered i li).window in omega arith)
         (cells_u (length_at (cell i w (past w k))) (omega arith)))
 
@@ -273,18 +273,18 @@ module _ (t : List ℕ) (n : Memory) (l : Lists) (g : Good t n.node n.book l) (r
         (cells_u (retries_at c) (omega arith)) (cells_u (timer_at c) (omega arith))
 
     urgent_new : take (length p) (drop (spot e.place e.entry.largest w.size) now_u.store) ≡ p
-    urgent_new = rw went_u.stored (put_read n g room li w.size p last_fits went_u.most)
+    urgent_new = rw went_u.stored (put_read n g room li w.size p last_fits went_u.asked.most)
 
     here_u : end_at now_u i ≡ urging (some p) E
     unfolding end_for urgent_run
     here_u =
         end_at_holds left_u end_u
         ∙ rw (
-          went_u.opened,
+          went_u.asked.opened,
           listed_ext e.run.taken (number_for (read_at n) now_u.store now_u.book i e) (number_for (read_at n) n.store n.book i e) numbers_u,
-          no_places now_u.store now_u.book i e went_u.sends,
-          no_places n.store n.book i e went_u.sends,
-          ne_eqb (length p) 0 (λ z. omega (arith, went_u.some)),
+          no_places now_u.store now_u.book i e went_u.asked.sends,
+          no_places n.store n.book i e went_u.asked.sends,
+          ne_eqb (length p) 0 (λ z. omega (arith, went_u.asked.some)),
           urgent_new,
         )
 

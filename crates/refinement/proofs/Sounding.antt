@@ -49,6 +49,7 @@ use Rattle.refinement.specs.Standing.{Reading, read_at, state_for, payload_for, 
 use Rattle.machine.proofs.Listed.{length_listed, get_d_listed, elem_listed, elem_none}
 use Rattle.refinement.proofs.Elsewhere.{no_urgent, none_taken, urgent_most}
 use Rattle.refinement.proofs.Following.{state_in, item_at}
+use Rattle.table.proofs.Every.{both}
 
 -- ---- members of a list by its numbers
 
@@ -82,10 +83,6 @@ picked false a p e = absurd (not_some p e)
 pub picked_not : {A : Type 0} (t : Bool) (a p : A) → pick t none (some a) ≡ some p → (t ≡ false) × (p ≡ a)
 picked_not true a p e = absurd (not_some p e)
 picked_not false a p e = (refl, some_same p a (sym e))
-
-both_true : (a b : Bool) → (a && b) ≡ true → (a ≡ true) × (b ≡ true)
-both_true true b h = (refl, h)
-both_true false b h = absurd (let z : ◌≡◌ {A = ℕ} 0 1 = cc in omega arith)
 
 not_true : (a : Bool) → not a ≡ true → a ≡ false
 not_true true h = absurd (let z : ◌≡◌ {A = ℕ} 0 1 = cc in omega arith)
@@ -148,7 +145,7 @@ module _ (t : List ℕ) (n : Memory) (l : Lists) (g : Good t n.node n.book l) (r
         sides : (k : ℕ) × (k < e.entry.window) × (some p ≡ place_for n.store n.book i e k) → Sized e.entry p
         sides (k, h, q) =
             let x = picked (not (is_sends e.entry.kind) && held w k) (payload_for n.store n.book i e k) p (sym q) in
-            let y = both_true (not (is_sends e.entry.kind)) (held w k) x.0 in
+            let y = both (not (is_sends e.entry.kind)) (held w k) x.0 in
             rw x.1 (filled_sized k (r_filled t n.node n.book l g i li (not_true (is_sends e.entry.kind) y.0) k y.1))
 
     urgent_sized : (p : List ℕ) → (end_at n i).urgent ≡ some p → Sized e.entry p

@@ -10,7 +10,7 @@ use native.Mathlib.Decide.{dec_lt, ℕ_discrete}
 use native.Mathlib.Omega.{arith}
 use lib.ListN.{length}
 use lib.Dec.{eqb, ltb}
-use borrow.Author.Tests.{eqb-true, eq-eqb, ne_eqb, lt-ltb, le-ltb}
+use borrow.Author.Tests.{eq-eqb, ne_eqb, lt-ltb, le-ltb}
 use Rattle.units.specs.Refusals.{pick}
 use Rattle.memory.specs.Layout as layout
 use Rattle.memory.specs.Layout.{reset_id}
@@ -54,6 +54,7 @@ use Rattle.refinement.proofs.Following.{state_in, low_at, stated_at, enabled_end
 use Rattle.refinement.proofs.Numbers.{running_is}
 use Rattle.refinement.proofs.TickStands.{entry_ticks}
 use Rattle.refinement.proofs.TickQuiet.{entry_passes}
+use Rattle.end_points.proofs.Telling.{is_over_holds}
 
 abbrev tick_one : ℕ → End → Machine → Machine
 tick_one i e m = ticked m i e e.state
@@ -149,12 +150,6 @@ module _ (t : List ℕ) (n : Memory) (l : Lists) (g : Good t n.node n.book l) (r
       (λ k h l' g' room'. entry_passes t n l' g' room' bound k h (upto c now k) (upto c now (suc k)) (upto_here c now k) (upto_next c now k) (upto_other c now k))
 
 -- ---- an end that is over becomes Enabled
-
-is_over_holds : (s : State) → is_over s ≡ true → s ≡ Failing 0
-is_over_holds Closed h = absurd (let z : ◌≡◌ {A = ℕ} 0 1 = cc in omega arith)
-is_over_holds (Enabled n sent) h = absurd (let z : ◌≡◌ {A = ℕ} 0 1 = cc in omega arith)
-is_over_holds Open h = absurd (let z : ◌≡◌ {A = ℕ} 0 1 = cc in omega arith)
-is_over_holds (Failing n) h = ap Failing (eqb-true n 0 h)
 
 first_true : (a b : Bool) → (a && b) ≡ true → a ≡ true
 first_true true b h = refl

@@ -1,6 +1,6 @@
 -- Laws of the entries' areas: how long one can be, that none reaches into another, and that a slot lies inside its own.
 -- Assumes nothing.
-use mathlib.Core.Path.{◌≡◌, refl}
+use mathlib.Core.Path.{◌≡◌}
 use mathlib.Core.List.{List}
 use Prim.Native.Nat.{ℕ, zero, suc, ◌+◌, ◌*◌, ◌≤◌, ◌<◌}
 use native.Mathlib.Decide.{dec_lt}
@@ -48,11 +48,6 @@ unfolding area_of
 slot_inside e k l = slots_apart e.largest k (slots_of e.kind e.window) l
 
 -- Areas in the store
-
--- an area begins where the one before it ends
-pub place_next : (t : List ℕ) (k : ℕ) → place_of t (suc k) ≡ place_of t k + area_of (entry_of t k)
-unfolding place_of
-place_next t k = refl
 
 -- no area reaches past the place of a later entry
 pub areas_apart : AreasApart

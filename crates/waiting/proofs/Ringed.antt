@@ -38,19 +38,7 @@ elsewhere ws j v k (suc n) h l =
     let r : from (set ws j v) ((k + 1) % 32) n ≡ from ws ((k + 1) % 32) n = elsewhere ws j v ((k + 1) % 32) n h (mod-lt (k + 1) (omega arith)) in
     rw (g, r)
 
--- a store past the n that wait leaves them
-outside : (ws : List ℕ) (v k n d : ℕ) → k < 32 → n ≤ d → d < 32 → from (set ws (ack_at ((k + d) % 32)) v) k n ≡ from ws k n
-unfolding from
-outside ws v k zero d p l m = refl
-outside ws v k (suc n) zero p l m = absurd (omega arith)
-outside ws v k (suc n) (suc d) p l m =
-    let g : get_or (set ws (ack_at ((k + suc d) % 32)) v) (ack_at k) 0 ≡ get_or ws (ack_at k) 0 =
-    get_or-set_other ws (ack_at ((k + suc d) % 32)) (ack_at k) v 0 (λ e. apart k d p (omega arith) (omega arith)) in
-    let r : from (set ws (ack_at ((k + suc d) % 32)) v) ((k + 1) % 32) n ≡ from ws ((k + 1) % 32) n =
-    rw (step k d p) at (outside ws v ((k + 1) % 32) n d (mod-lt (k + 1) (omega arith)) (omega arith) (omega arith)) in
-    rw (g, r)
-
--- and one right behind them is one more
+-- a store right behind the n that wait is one more
 behind : (ws : List ℕ) (v k n : ℕ) → 64 ≤ length ws → k < 32 → n < 32 → from (set ws (ack_at ((k + n) % 32)) v) k (suc n) ≡ from ws k n ++ (v ∷ [])
 unfolding from
 behind ws v k zero l p m =

@@ -77,12 +77,6 @@ module _ (w : Window) (s : ℕ) where
   pub found_new : (accept_of w s).found ≡ New → (inside_of w s ≡ true) × (held w (offset_of w s) ≡ false)
   found_new e = rw e at accept_says
 
-  pub found_held : (accept_of w s).found ≡ Held → (inside_of w s ≡ true) × (held w (offset_of w s) ≡ true)
-  found_held e = rw e at accept_says
-
-  pub found_outside : (accept_of w s).found ≡ Outside → inside_of w s ≡ false
-  found_outside e = rw e at accept_says
-
   -- ---- what stays
 
   pub accept_same : ((accept_of w s).found ≡ New → ⊥) → (accept_of w s).window ≡ w
@@ -137,12 +131,6 @@ module _ (w : Window) (s : ℕ) where
       go false h =
           ap (λ (a : Accepted). held a.window k) (accept_new i h)
           ∙ more_held w g (offset_of w s) (ltb-true (offset_of w s) w.size i) k
-
-  -- so the number's own offset is
-  pub accept_own : Good w → inside_of w s ≡ true → held (accept_of w s).window (offset_of w s) ≡ true
-  accept_own g i =
-      accept_held g i (offset_of w s)
-      ∙ ap (λ (b : Bool). b || held w (offset_of w s)) (eq-eqb (offset_of w s) (offset_of w s) refl)
 
   -- and of any number the other offsets are as before
   pub accept_other : Good w → (k : ℕ) → (k ≡ offset_of w s → ⊥) → held (accept_of w s).window k ≡ held w k

@@ -28,16 +28,6 @@ module _ (w : Window) where
       by_cases (dec_lt (run_of w) 128) (λ l. run_in_stops 128 (joined w.marks) l)
       (λ l. bit_above 128 (joined w.marks) (run_of w) (good_lt w g) (omega arith))
 
-  -- so none without a gap is longer
-  pub run_longest : Good w → (j : ℕ) → ((k : ℕ) → k < j → held w k ≡ true) → j ≤ run_of w
-  run_longest g j h =
-      by_cases (dec_lt (run_of w) j) (λ l. absurd (true≢false (sym (h (run_of w) l) ∙ run_stops g))) (λ l. omega arith)
-
-  pub run_unique : Good w → (j : ℕ) → ((k : ℕ) → k < j → held w k ≡ true) → held w j ≡ false → run_of w ≡ j
-  run_unique g j h s =
-      let l = run_longest g j h in
-      by_cases (dec_lt j (run_of w)) (λ q. absurd (true≢false (sym (run_held j q) ∙ s))) (λ q. omega arith)
-
   pub run_le : Good w → run_of w ≤ w.size
   run_le g =
       by_cases (dec_lt w.size (run_of w))

@@ -1,13 +1,13 @@
 -- The window law, once over W: where counts are near enough, the test on their bytes is the order of the counts;
 -- and the numbers of one window have slots of their own. Assumes nothing.
-use Rattle.std.proofs.Common.{◌≡◌, ℕ, ◌+◌, ◌-◌, ◌*◌, ◌/◌, ◌%◌, ◌^◌, ◌<◌, ◌≤◌, true, sym, ap, ◌∙◌, mul-le-mul_right, mod-lt, div-add-mod', arith}
+use Rattle.std.proofs.Common.{◌≡◌, ℕ, ◌+◌, ◌-◌, ◌*◌, ◌/◌, ◌%◌, ◌^◌, ◌<◌, ◌≤◌, true, sym, ap, ◌∙◌, mul-le-mul_right, div-add-mod', arith}
 use mathlib.Core.Logic.{by_cases}
 use native.Mathlib.Decide.{dec_le, dec_lt}
 use lib.Pow.{mod-mod-pow}
 use Rattle.units.specs.Sizes.{is_size}
 use Rattle.window.specs.Numbers.{distance_of, byte_of, slot_of}
 use Rattle.window.specs.Law.{WindowLaw, SlotsDiffer}
-use Rattle.window.proofs.Sizes.{size_power, size_pos}
+use Rattle.window.proofs.Sizes.{size_power}
 
 -- ---- in or out
 
@@ -27,10 +27,6 @@ window_law W start n small front back = (
 )
 
 -- ---- slots
-
--- the slots are the numbers below W
-pub slot_lt : (W s : ℕ) → is_size W ≡ true → slot_of W s < W
-slot_lt W s v = mod-lt s (size_pos W v)
 
 -- folding a count leaves its slot
 pub slot_byte : (W n : ℕ) → is_size W ≡ true → slot_of W (byte_of n) ≡ slot_of W n

@@ -1,25 +1,14 @@
 -- `call_open::setting::put_entries` meets its contract. The loop's invariant: the first k entries are in, and the place is where
 -- entry k's area begins. Assumes nothing.
 use mathlib.Core.Path.{◌≡◌, ap, ◌∙◌}
-use mathlib.Core.List.{List}
-use Prim.Native.Nat.{ℕ, ◌+◌, ◌≤◌, ◌<◌}
-use native.Mathlib.Numerals.{add-one}
+use Prim.Native.Nat.{◌+◌, ◌≤◌, ◌<◌}
 use native.Mathlib.Omega.{arith}
 use Rattle.table.specs.Layout.{count_of, entry_of}
-use Rattle.table.specs.Areas.{area_of, place_of}
-use Rattle.table.specs.declared.Entry.{Entry}
+use Rattle.table.specs.Areas.{area_of}
 use Rattle.table.proofs.Places.{areas_inside}
 use Rattle.table.proofs.Good.{good_head, store_fits}
-use Rattle.end_points.specs.Ends.{saved, saved_entry}
-use Rattle.end_points.specs.declared.State.TheVariants.{Closed}
-use Rattle.arrive_lookup.specs.Lookup.{indexed}
-use Rattle.call_open.specs.Setup.{first_run, tabled}
 use Rattle.call_open.proofs.setting.put_entries.Goals.{In-loop-k}
 use Rattle.call_open.proofs.setting.put_entries.Goals as goal
-
-one_more : (t a b z : List ℕ) (k p : ℕ) (e : Entry) → b ≡ tabled t k a → e ≡ entry_of t k → p ≡ place_of t k → z ≡ indexed (saved (saved_entry b k e p) k Closed first_run) k e → z ≡ tabled t (k + 1) a
-unfolding tabled
-one_more t a b z k p e hb he hp q = rw (add-one, ← hb, ← he, ← hp) q
 
 few : (c : In-loop-k) → c.loop-k.k < 16
 few c =

@@ -37,11 +37,3 @@ loop-k-preserved c =
     let b = at_k f l.k (omega (arith, c.count.ensures, l.auto.k)) in
     let one : l.k + 1 - (count_of f + 1) ≡ l.k - (count_of f + 1) + 1 = omega (arith, c.count.ensures, l.auto.k) in
     (omega (arith, c.count.ensures, l.auto.k), rw one (every_more _ _ l.invariant.1 (b ∙ rw (← c.begin.ensures) (eq-eqb _ _ c.if-begin-ne0.false))))
-
-pub returns : goal.returns
-unfolding unused_good
-returns c =
-    let l = c.loop-k in
-    let f = c.args.file.now in
-    let all : l.k - (count_of f + 1) ≡ most_records - count_of f = omega (arith, c.count.ensures) in
-    sym (rw all at l.invariant.1)
