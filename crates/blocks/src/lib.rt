@@ -14,8 +14,8 @@ ghost use Rattle.units.specs.Bytes.{be32};
 ghost use Rattle.blocks.specs.Blocks.{offsets_at, offset_bytes, block_of, takes};
 ghost use Rattle.blocks.specs.Payloads.{payload_at, payloads};
 
-use slots::{cell_of, cells, part, slot_for, spot_of};
-use units::bytes::{put_all, put16, put32};
+use slots::{cell_of, cells, slot_for, spot_of};
+use units::bytes::{part, put_all, put16, put32};
 use window::{Window, advance};
 
 // Whose payloads they are: the entry, where its area of the store begins, P, and its window.
@@ -78,10 +78,7 @@ pub fn put_block(out: &mut [u8], store: &[u8], book: &[u16], o: Owner, k: u8) ->
         end += p.len();
     }
     put_offset(out, k, end);
-    if out.len() < end {
-        return out.len();
-    }
-    end
+    end.min(out.len())
 }
 
 // The block of no payload; answers how much of it the lent block took.
@@ -92,10 +89,7 @@ pub fn put_none(out: &mut [u8]) -> usize
 {
     put16(out, 0, 0);
     put_offset(out, 0, layout::EMPTY);
-    if out.len() < layout::EMPTY {
-        return out.len();
-    }
-    layout::EMPTY
+    layout::EMPTY.min(out.len())
 }
 
 // The block of one payload; answers how much of it the lent block took.
@@ -109,8 +103,5 @@ pub fn put_one(out: &mut [u8], payload: &[u8]) -> usize
     put_offset(out, 0, layout::ONLY);
     put_offset(out, 1, end);
     put_all(out, layout::ONLY, payload);
-    if out.len() < end {
-        return out.len();
-    }
-    end
+    end.min(out.len())
 }

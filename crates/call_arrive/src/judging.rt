@@ -21,24 +21,14 @@ use waiting::acks;
 fn is_delivered(t: FrameType) -> bool
     ensures { result ≡ carries t }
 {
-    match t {
-        FrameType::Data => true,
-        FrameType::Acknowledge => false,
-        FrameType::Reset => false,
-        FrameType::Urgent => true,
-    }
+    matches!(t, FrameType::Data | FrameType::Urgent)
 }
 
 // Whether a frame of a type is acknowledged.
 fn is_answered(t: FrameType) -> bool
     ensures { result ≡ answered t }
 {
-    match t {
-        FrameType::Data => true,
-        FrameType::Acknowledge => false,
-        FrameType::Reset => true,
-        FrameType::Urgent => false,
-    }
+    matches!(t, FrameType::Data | FrameType::Reset)
 }
 
 // The room that Data and Urgent need in the block.
@@ -54,10 +44,7 @@ fn block_room(node: &[u64], i: u8) -> usize
 fn acks_full(t: FrameType, n: u8) -> bool
     ensures { result ≡ answered t && leb ack_places n }
 {
-    if is_answered(t) {
-        return acks::MOST <= n;
-    }
-    false
+    is_answered(t) && acks::MOST <= n
 }
 
 // Data and Urgent, with a payload of n bytes, for entry i, which is not Closed.

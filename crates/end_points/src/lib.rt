@@ -13,8 +13,9 @@ ghost use Rattle.memory.specs.Layout.{entry_long, entry_at};
 ghost use Rattle.end_points.specs.Ends.{kind_of, state_of, load_entry, place_in, load_state, load_run, end_of};
 ghost use Rattle.end_points.specs.Ends.{state_words, kind_number, saved, saved_entry};
 
-use memory::{layout, put_words, word_at};
+use memory::{layout, word_at};
 use table::{Entry, Kind};
+use units::bytes::{part, put_all};
 use units::{Address, Channel, Seq, Unfolded};
 use window::{Marks, Window};
 
@@ -83,15 +84,11 @@ fn words_of(node: &[u64], i: usize) -> &[u64]
     requires { i < 4096 }
     ensures { result.now ≡ take entry_long (drop (entry_at i) node.now) }
 {
-    let at = layout::ENTRY_AT + layout::ENTRY_WORDS * i;
-    let end = at + layout::ENTRY_WORDS;
-    if end <= node.len() {
-        return &node[at..end];
-    }
-    if at <= node.len() {
-        return &node[at..];
-    }
-    &node[0..0]
+    part(
+        node,
+        layout::ENTRY_AT + layout::ENTRY_WORDS * i,
+        layout::ENTRY_WORDS,
+    )
 }
 
 // What the table says of entry i.
@@ -168,8 +165,19 @@ pub fn load_run(node: &[u64], i: usize, size: u8) -> Run
     }
 }
 
-// End point i.
+// The run of end point i.
 #[tactic(auto, unfolding(crate::specs::Ends::end_of))]
+pub fn run_of(node: &[u64], i: usize) -> Run
+    requires { i < 4096 }
+    ensures { result ≡ (end_of node.now i).run }
+{
+    load_run(node, i, (load_entry(node, i).window % 256) as u8)
+}
+
+// End point i. The compiler is told to take it in, so that it reads at each call what is used there and no more: else
+// the whole is handed over by way of memory.
+#[tactic(auto, unfolding(crate::specs::Ends::end_of))]
+#[inline(always)]
 pub fn load(node: &[u64], i: usize) -> EndPoint
     requires { i < 4096 }
     ensures { result ≡ end_of node.now i }
@@ -206,7 +214,7 @@ pub fn save(node: &mut [u64], i: usize, s: State, r: Run)
         r.confirmed.0 as u64,
         r.urgent as u64,
     ];
-    put_words(
+    put_all(
         node,
         layout::ENTRY_AT + layout::ENTRY_WORDS * i + layout::STATE,
         &words,
@@ -259,5 +267,5 @@ pub fn save_entry(node: &mut [u64], i: usize, e: Entry, place: u16)
         e.timeout as u64,
         place as u64,
     ];
-    put_words(node, layout::ENTRY_AT + layout::ENTRY_WORDS * i, &words)
+    put_all(node, layout::ENTRY_AT + layout::ENTRY_WORDS * i, &words)
 }

@@ -15,20 +15,6 @@ loop-j-preserved c =
     c.put_all.ensures
     (payloads_more _ _ _ _ _ _ _ _ c.payload-p.ensures.is)
 
-pub returns-then-out-end-clause-length : goal.returns-then-out-end-clause-length
-returns-then-out-end-clause-length c =
-    let l = c.loop-j in
-    let a = c.args in
-    let h : l.j ≡ a.k = omega arith in
-    let w = begun_done a.out.now (rw h at l.invariant) c.put16.ensures c.put_offset-2.ensures in omega (arith, w.0, (c.put_offset-2.auto.out ∙ begun_long c.loop-j.invariant ∙ c.put16.auto.s))
-
-pub returns-then-out-end-clause-written : goal.returns-then-out-end-clause-written
-returns-then-out-end-clause-written c =
-    let l = c.loop-j in
-    let a = c.args in
-    let h : l.j ≡ a.k = omega arith in
-    let w = begun_done a.out.now (rw h at l.invariant) c.put16.ensures c.put_offset-2.ensures in w.1
-
 pub returns-clause-length : goal.returns-clause-length
 returns-clause-length c =
     let l = c.loop-j in

@@ -3,14 +3,6 @@ use native.Mathlib.Omega.{arith}
 use Rattle.blocks.proofs.Appending.{length_one, sets_one}
 use Rattle.blocks.proofs.put_one.Goals as goal
 
-pub returns-then-out-end-clause-length : goal.returns-then-out-end-clause-length
-returns-then-out-end-clause-length c =
-    let a = c.args in omega (arith, length_one a.payload.now)
-
-pub returns-then-out-end-clause-written : goal.returns-then-out-end-clause-written
-returns-then-out-end-clause-written c =
-    let a = c.args in rw (c.put_all.ensures, c.put_offset-2.ensures, c.put_offset.ensures, c.put16.ensures) (sets_one a.out.now a.payload.now)
-
 pub returns-clause-length : goal.returns-clause-length
 returns-clause-length c =
     let a = c.args in omega (arith, length_one a.payload.now)
