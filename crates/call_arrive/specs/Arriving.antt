@@ -1,5 +1,6 @@
 -- An arrival: which answer, and what all that was lent holds afterwards. Cited by the call. Assumes nothing.
-use Rattle.std.specs.Prelude.{ℕ, ◌+◌, ◌*◌, Bool, not, ◌&&◌, List, [], ◌∷◌, length, get_or, eqb, leb, ltb, Result, Ok, Err}
+use Rattle.std.specs.Prelude.{ℕ, ◌+◌, ◌*◌, Bool, not, ◌&&◌, List, [], ◌∷◌, length, get_or, eqb, leb, ltb, Result, Ok}
+use Rattle.std.specs.Prelude.{Err}
 use Rattle.units.specs.Refusals.{verdict, Verdict}
 use Rattle.units.specs.declared.refusals.Refusal.{Refusal}
 use Rattle.units.specs.declared.refusals.Refusal.TheVariants as refusal
@@ -70,7 +71,8 @@ answer_as (Err w) a = Err w
 -- 13, 5, 14, 6 at entry i; else which entry that is, and what the frame was there [R37, O8]
 unfoldable pub entry_answer : Lent → ℕ → Header → List ℕ → Result Arrival Refusal
 entry_answer x i h p =
-    answer_as (entry_verdict x i h) (Ok (record { entry = i; was = taken_in_answer x i (end_of x.node i) h.kind h.seq.0 p }))
+    let was = taken_in_answer x i (end_of x.node i) h.kind h.seq.0 p in
+    answer_as (entry_verdict x i h) (Ok (record { entry = i; was = was }))
 
 -- refused for the header's fault, or judged at the entry that the frame is for [R15, R16, R17, R18, R37]
 unfoldable pub read_answer : Lent → Result Header Refusal → List ℕ → Result Arrival Refusal

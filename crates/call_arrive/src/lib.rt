@@ -114,6 +114,7 @@ pub fn arrive(
     if !is_ours(node, frame) {
         return Err(Refusal::NotOurs);
     }
+    // By `?` the header would come packed into a word, and an acknowledgement cost 3.5 in 100 more (./bench).
     match header(frame) {
         Err(why) => Err(why),
         Ok(h) => {

@@ -1,6 +1,7 @@
 -- Handing out, one frame a call: which answer, and what all that was lent holds afterwards. Cited by the call.
 -- Assumes nothing.
-use Rattle.std.specs.Prelude.{ℕ, ◌+◌, ◌%◌, true, not, List, [], length, take, drop, ◌==◌, nat_le, nat_lt, slice_set, Result, Ok, Err}
+use Rattle.std.specs.Prelude.{ℕ, ◌+◌, ◌%◌, true, not, List, [], length, take, drop, ◌==◌, nat_le, nat_lt, slice_set}
+use Rattle.std.specs.Prelude.{Result, Ok, Err}
 use Rattle.std.proofs.lemmas.List.Edits.{sets}
 use Rattle.units.specs.Refusals.{pick}
 use Rattle.units.specs.declared.refusals.Refusal.TheVariants as refusal

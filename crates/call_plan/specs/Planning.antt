@@ -6,11 +6,11 @@ use Rattle.units.specs.declared.refusals.Refusal.TheVariants as refusal
 use Rattle.blocks.specs.Reading.{is_plan, read_block}
 use Rattle.end_points.specs.Lent.{Lent}
 use Rattle.call_send.specs.Sending.{send_answer, send_after}
--- what sends made one after the other come to: how many payloads were accepted, what the next was refused with, if
--- there was one, and all that was lent afterwards
 use Rattle.end_points.specs.declared.answers.Plan.{Plan}
 use Rattle.units.specs.declared.refusals.Refusal.{Refusal}
 
+-- what sends made one after the other come to: how many payloads were accepted, what the next was refused with, if
+-- there was one, and all that was lent afterwards
 pub record InOrder : Type 0 where
   pub accepted : ℕ
   pub stop : Verdict

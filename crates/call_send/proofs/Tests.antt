@@ -6,9 +6,9 @@ use Prim.Native.Nat.{ℕ}
 use native.Mathlib.Omega.{arith}
 use Rattle.units.specs.Refusals.{pick, verdict}
 use Rattle.units.specs.declared.refusals.Refusal.{Refusal}
--- where the first list refuses, the whole refuses
 use Rattle.std.specs.Prelude.{Ok, Err}
 
+-- where the first list refuses, the whole refuses
 pub first_refuses : (ts us : List (Bool × Refusal)) (w : Refusal) → verdict ts ≡ Err w → verdict (ts ++ us) ≡ Err w
 first_refuses [] us w h = let z : ◌≡◌ {A = ℕ} 0 1 = cc in absurd (omega arith)
 first_refuses (t ∷ ts) us w h = sides t.0 (first_refuses ts us w) h

@@ -5,7 +5,8 @@ use Rattle.units.specs.Limits.{most_accepted}
 use Rattle.units.specs.Refusals.{verdict, Verdict}
 use Rattle.units.specs.declared.refusals.Refusal.{Refusal}
 use Rattle.units.specs.declared.refusals.Refusal.TheVariants as refusal
-use Rattle.memory.specs.Layout.{entry_at, taken_word, accepted_word, datas, urgents, urgent_id, cell_id, length_at, retries_at}
+use Rattle.memory.specs.Layout.{entry_at, taken_word, accepted_word, datas, urgents, urgent_id, cell_id, length_at}
+use Rattle.memory.specs.Layout.{retries_at}
 use Rattle.waiting.specs.Queues.{appended}
 use Rattle.end_points.specs.Ends.{end_of, saved}
 use Rattle.end_points.specs.Heads.{count_in, need_in}

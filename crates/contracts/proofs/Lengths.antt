@@ -17,8 +17,6 @@ use Rattle.memory.specs.Layout.{node_words, entry_at, state_word}
 use Rattle.waiting.specs.Port.{under_in}
 use Rattle.units.specs.declared.refusals.Refusal.{Refusal}
 use Rattle.units.specs.declared.refusals.Refusal.TheVariants as refusal
-use Rattle.units.specs.declared.refusals.Verdict.{Verdict}
-use Rattle.units.specs.declared.refusals.Verdict.TheVariants as verdicts
 use Rattle.frame.specs.Layout.{overhead, payload_of}
 use Rattle.frame.specs.Writing.{write_tests, write_answer, written_as}
 use Rattle.frame.specs.declared.Fields.{Fields}
@@ -26,8 +24,6 @@ use Rattle.frame.specs.declared.Header.{Header}
 use Rattle.frame.specs.Reading.{header_of}
 use Rattle.frame.specs.declared.FrameType.{FrameType}
 use Rattle.frame.specs.declared.FrameType.TheVariants as type
-use Rattle.frame.specs.declared.Read.{Read}
-use Rattle.frame.specs.declared.Read.TheVariants as read
 use Rattle.end_points.specs.Answers.{what_of, value_of, arrived_of, handed_of}
 use Rattle.end_points.specs.Ends.{state_of, end_of}
 use Rattle.end_points.specs.States.{is_closed}
@@ -38,13 +34,10 @@ use Rattle.end_points.specs.declared.State.{State}
 use Rattle.end_points.specs.declared.State.TheVariants.{Closed, Enabled, Open, Failing}
 use Rattle.end_points.specs.declared.answers.Was.{Was}
 use Rattle.end_points.specs.declared.answers.Was.TheVariants as was
-use Rattle.end_points.specs.declared.answers.Arrived.{Arrived}
-use Rattle.end_points.specs.declared.answers.Arrived.TheVariants as arrived
-use Rattle.end_points.specs.declared.answers.HandedOut.{HandedOut}
-use Rattle.end_points.specs.declared.answers.HandedOut.TheVariants as handed
 use Rattle.arrive_ack.specs.Acking.{counts, passing, ack_answer}
 use Rattle.arrive_data.specs.Receiving.{reset_answer, data_answer, urgent_answer}
-use Rattle.call_arrive.specs.Arriving.{frame_tests, entry_tests, entry_of, entry_verdict, taken_in_answer, answer_as, entry_answer, read_answer}
+use Rattle.call_arrive.specs.Arriving.{frame_tests, entry_tests, entry_of, entry_verdict, taken_in_answer, answer_as}
+use Rattle.call_arrive.specs.Arriving.{entry_answer, read_answer}
 use Rattle.call_arrive.specs.Arriving.{arrival_answer}
 use Rattle.call_hand_out.specs.Handing.{frame_out, next_out, fitted, hand_out_answer}
 use Rattle.firmware.specs.Nodes.{refusal_in, value_in, arrived_in}
@@ -53,7 +46,11 @@ use Rattle.node.proofs.hand_out.Reads as node_hand_out
 use Rattle.frame.proofs.writing.write.Reads as frame_write
 use Rattle.firmware.proofs.nodes.shelugvar_arrival.Reads as shelugvar_arrival
 use Rattle.firmware.proofs.nodes.shelugvar_hand_out.Reads as shelugvar_hand_out
-use Rattle.contracts.specs.Outcome.{LengthWithin, length_of, block_length, block_length_at, frame_length, written_length, EntryWithin}
+use Rattle.contracts.specs.Outcome.{LengthWithin, length_of, block_length, block_length_at, frame_length}
+use Rattle.contracts.specs.Outcome.{written_length, EntryWithin}
+use Rattle.std.specs.Prelude.{Result, Ok, Err}
+use Rattle.units.specs.Refusals.{Verdict}
+use Rattle.end_points.specs.declared.answers.Arrival.{Arrival}
 
 -- ---- an arrival
 
@@ -86,14 +83,14 @@ taken_within x i e type.Acknowledge s p = omega (arith, ack_none e e.state s)
 taken_within x i e type.Reset s p = omega arith
 taken_within x i e type.Urgent s p = omega arith
 
-answer_within : (v : Verdict) (a : Arrived) (n : ℕ) → block_length a ≤ n → block_length (answer_as v a) ≤ n
-answer_within verdicts.Passed a n h = h
-answer_within (verdicts.Refused w) a n h = omega arith
+answer_within : (v : Verdict) (a : Result Arrival Refusal) (n : ℕ) → block_length a ≤ n → block_length (answer_as v a) ≤ n
+answer_within (Ok _) a n h = h
+answer_within (Err w) a n h = omega arith
 
-read_within : (x : Lent) (r : Read) (p : List ℕ) → block_length (read_answer x r p) ≤ length x.out
+read_within : (x : Lent) (r : Result Header Refusal) (p : List ℕ) → block_length (read_answer x r p) ≤ length x.out
 unfolding read_answer entry_answer
-read_within x (read.Refused w) p = omega arith
-read_within x (read.Frame h) p =
+read_within x (Err w) p = omega arith
+read_within x (Ok h) p =
     let i = entry_of x h in
     answer_within (entry_verdict x i h) _ (length x.out)
     (taken_within x i (end_of x.node i) h.kind h.seq.0 p)
@@ -113,7 +110,7 @@ fitted_within : (out f : List ℕ) → frame_length (fitted out f) ≤ length ou
 fitted_within out f = sides (ltb (length out) (length f)) refl
   where
     sides : (b : Bool) → ltb (length out) (length f) ≡ b
-        → frame_length (pick b (handed.Refused refusal.TooShort) (handed.Length (length f))) ≤ length out
+        → frame_length (pick b (Err refusal.TooShort) (Ok (length f))) ≤ length out
     sides true h = omega arith
     sides false h = ltb-false (length out) (length f) h
 
@@ -124,8 +121,8 @@ hand_within x =
     (refused (ltb (length x.store) _) refusal.TooShort _
     (fitted_within x.out (frame_out x (next_out x.node x.book))))
   where
-    refused : (b : Bool) (w : Refusal) (a : HandedOut) → frame_length a ≤ length x.out
-        → frame_length (pick b (handed.Refused w) a) ≤ length x.out
+    refused : (b : Bool) (w : Refusal) (a : Result ℕ Refusal) → frame_length a ≤ length x.out
+        → frame_length (pick b (Err w) a) ≤ length x.out
     refused true w a h = omega arith
     refused false w a h = h
 
@@ -166,10 +163,10 @@ at_within w i (a ∷ b ∷ c ∷ more) = sides w
     sides (was.Data n) = omega arith
     sides (was.Urgent n) = omega arith
 
-arrived_within : (a : Arrived) (old : List ℕ) → refusal_in (arrived_of a) ≡ 0 → block_length_at (arrived_in (arrived_of a) old) ≤ block_length a
+arrived_within : (a : Result Arrival Refusal) (old : List ℕ) → refusal_in (arrived_of a) ≡ 0 → block_length_at (arrived_in (arrived_of a) old) ≤ block_length a
 unfolding arrived_in
-arrived_within (arrived.At i w) old z = at_within w i old
-arrived_within (arrived.Refused w) old z = absurd (omega (arith, refused_some w, z))
+arrived_within (Ok a) old z = at_within a.was a.entry old
+arrived_within (Err w) old z = absurd (omega (arith, refused_some w, z))
 
 pub shelugvar_arrival_within :
     LengthWithin shelugvar_arrival.Post (λ r. r ≡ 0) (λ r e. block_length_at e.1.1.1.1.1.0.now) (λ a. a.1.1.1.0.now)
@@ -180,10 +177,10 @@ shelugvar_arrival_within u a r e p d =
     (let h = arrived_within (arrival_answer x f) a.1.1.1.1.1.0.now (sym p.0 ∙ d) in
     omega (arith, h, arrival_within x f))
 
-handed_within : (a : HandedOut) (old : ℕ) → refusal_in (handed_of a) ≡ 0 → value_in (handed_of a) old ≡ frame_length a
+handed_within : (a : Result ℕ Refusal) (old : ℕ) → refusal_in (handed_of a) ≡ 0 → value_in (handed_of a) old ≡ frame_length a
 unfolding value_in
-handed_within (handed.Length n) old z = refl
-handed_within (handed.Refused w) old z = absurd (omega (arith, refused_some w, z))
+handed_within (Ok n) old z = refl
+handed_within (Err w) old z = absurd (omega (arith, refused_some w, z))
 
 pub shelugvar_hand_out_within :
     LengthWithin shelugvar_hand_out.Post (λ r. r ≡ 0) (λ r e. e.1.1.1.1.0.now) (λ a. a.1.1.1.0.now)
@@ -199,9 +196,9 @@ write_within d p b = sides (verdict (write_tests d (length p) (length b))) refl
   where
     sides : (v : Verdict) → verdict (write_tests d (length p) (length b)) ≡ v
         → written_length (written_as v (length p + overhead)) ≤ length b
-    sides verdicts.Passed h =
+    sides (Ok _) h =
         ltb-false (length b) (length p + overhead) (clear (write_tests d (length p) (length b)) h).1.1.1.1.0
-    sides (verdicts.Refused w) h = omega arith
+    sides (Err w) h = omega arith
 
 pub frame_write_within : LengthWithin frame_write.Post (λ r. Unit {0}) (λ r e. written_length r) (λ a. a.0.now)
 frame_write_within u a r e p d = rw p.0 (write_within a.1.0 a.1.1.0.now a.0.now)
@@ -224,7 +221,7 @@ module _ (x : Lent) (long : length x.node ≡ node_words) where
   unfolding end_of state_of
   past_closed = rw (get_or-eq_default x.node 0 {n = entry_at most_entries + state_word} (omega arith))
 
-  found_low : (h : Header) → entry_verdict x (entry_of x h) h ≡ verdicts.Passed → entry_of x h < most_entries
+  found_low : (h : Header) → entry_verdict x (entry_of x h) h ≡ Ok tt → entry_of x h < most_entries
   unfolding entry_for
   found_low h v = sides (dec_lt (entry_of x h) most_entries)
     where
@@ -243,24 +240,24 @@ module _ (x : Lent) (long : length x.node ≡ node_words) where
           let closed : is_closed (end_of x.node (entry_of x h)).state ≡ true = rw is past_closed in
           absurd (true≢false (sym closed ∙ open'))
 
-  read_low : (r : Read) (p : List ℕ) (i : ℕ) (w : Was) → read_answer x r p ≡ arrived.At i w → i < most_entries
+  read_low : (r : Result Header Refusal) (p : List ℕ) (i : ℕ) (w : Was) → read_answer x r p ≡ Ok (record { entry = i; was = w }) → i < most_entries
   unfolding read_answer entry_answer
-  read_low (read.Refused v) p i w e = let z : ◌≡◌ {A = ℕ} 0 1 = cc in absurd (omega arith)
-  read_low (read.Frame h) p i w e = sides (entry_verdict x (entry_of x h) h) refl e
+  read_low (Err v) p i w e = let z : ◌≡◌ {A = ℕ} 0 1 = cc in absurd (omega arith)
+  read_low (Ok h) p i w e = sides (entry_verdict x (entry_of x h) h) refl e
     where
       sides : (v : Verdict) → entry_verdict x (entry_of x h) h ≡ v
-          → answer_as v (arrived.At (entry_of x h) (taken_in_answer x (entry_of x h) (end_of x.node (entry_of x h)) h.kind h.seq.0 p))
-          ≡ arrived.At i w → i < most_entries
-      sides verdicts.Passed q e = let z : entry_of x h ≡ i = cc in rw (← z) (found_low h q)
-      sides (verdicts.Refused v) q e = let z : ◌≡◌ {A = ℕ} 0 1 = cc in absurd (omega arith)
+          → answer_as v (Ok (record { entry = entry_of x h; was = taken_in_answer x (entry_of x h) (end_of x.node (entry_of x h)) h.kind h.seq.0 p }))
+          ≡ Ok (record { entry = i; was = w }) → i < most_entries
+      sides (Ok _) q e = let z : entry_of x h ≡ i = cc in rw (← z) (found_low h q)
+      sides (Err v) q e = let z : ◌≡◌ {A = ℕ} 0 1 = cc in absurd (omega arith)
 
-  arrival_low : (f : List ℕ) (i : ℕ) (w : Was) → arrival_answer x f ≡ arrived.At i w → i < most_entries
+  arrival_low : (f : List ℕ) (i : ℕ) (w : Was) → arrival_answer x f ≡ Ok (record { entry = i; was = w }) → i < most_entries
   unfolding arrival_answer
   arrival_low f i w e = sides (verdict (frame_tests x.node f)) e
     where
-      sides : (v : Verdict) → answer_as v (read_answer x (header_of f) (payload_of f)) ≡ arrived.At i w → i < most_entries
-      sides verdicts.Passed e = read_low (header_of f) (payload_of f) i w e
-      sides (verdicts.Refused v) e = let z : ◌≡◌ {A = ℕ} 0 1 = cc in absurd (omega arith)
+      sides : (v : Verdict) → answer_as v (read_answer x (header_of f) (payload_of f)) ≡ Ok (record { entry = i; was = w }) → i < most_entries
+      sides (Ok _) e = read_low (header_of f) (payload_of f) i w e
+      sides (Err v) e = let z : ◌≡◌ {A = ℕ} 0 1 = cc in absurd (omega arith)
 
 pub node_arrival_entry : EntryWithin node_arrival.Post (λ a. a.0.now) (λ r. r)
 node_arrival_entry u a r e p long i w is =

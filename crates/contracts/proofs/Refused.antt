@@ -10,23 +10,12 @@ use borrow.Author.Tests.{ne_eqb}
 use lib.ListN.{length}
 use Rattle.units.specs.Refusals.{verdict}
 use Rattle.units.specs.declared.refusals.Refusal.{Refusal}
-use Rattle.units.specs.declared.refusals.Verdict.{Verdict}
-use Rattle.units.specs.declared.refusals.Verdict.TheVariants as verdicts
 use Rattle.frame.specs.Layout.{payload_of}
 use Rattle.frame.specs.Reading.{header_of, read_of}
 use Rattle.frame.specs.Writing.{write_tests, write_answer, written_of, written_as, bytes_as}
 use Rattle.frame.specs.declared.Fields.{Fields}
-use Rattle.frame.specs.declared.Read.{Read}
-use Rattle.frame.specs.declared.Read.TheVariants as read
-use Rattle.frame.specs.declared.Written.TheVariants as written
 use Rattle.end_points.specs.Answers.{answer_of, counted_of, planned_of, arrived_of, handed_of, stated_of, needed_of}
 use Rattle.end_points.specs.Lent.{Lent, bare, stored, whole}
-use Rattle.end_points.specs.declared.answers.Planned.{Planned}
-use Rattle.end_points.specs.declared.answers.Planned.TheVariants as planned
-use Rattle.end_points.specs.declared.answers.Arrived.{Arrived}
-use Rattle.end_points.specs.declared.answers.Arrived.TheVariants as arrived
-use Rattle.end_points.specs.declared.answers.HandedOut.{HandedOut}
-use Rattle.end_points.specs.declared.answers.HandedOut.TheVariants as handed
 use Rattle.call_open.specs.Opening.{open_answer, open_after, close_answer, close_after, counts_answer, state_answer}
 use Rattle.call_open.specs.Setup.{need_answer, setup_answer, setup_after}
 use Rattle.call_send.specs.Sending.{send_answer, send_after, urgent_answer, urgent_after}
@@ -72,42 +61,47 @@ use Rattle.firmware.proofs.nodes.shelugvar_hand_out.Reads as shelugvar_hand_out
 use Rattle.firmware.proofs.nodes.shelugvar_report.Reads as shelugvar_report
 use Rattle.contracts.specs.Outcome.{Spares, IsRefused, NotZero}
 use Rattle.contracts.proofs.Stores.{but_store}
+use Rattle.std.specs.Prelude.{Result, Ok, Err}
+use Rattle.frame.specs.declared.Header.{Header}
+use Rattle.units.specs.Refusals.{Verdict}
+use Rattle.end_points.specs.declared.answers.Plan.{Plan}
+use Rattle.end_points.specs.declared.answers.Arrival.{Arrival}
 
 -- ---- the node's calls
 
-pub node_setup_refused : Spares node_setup.Post (IsRefused verdicts.Refused) (λ e. bare e.0.now e.1.0.now)
+pub node_setup_refused : Spares node_setup.Post IsRefused (λ e. bare e.0.now e.1.0.now)
 unfolding setup_after
 node_setup_refused u a r e p w = but_store a.1.1.0.now (cc (p.1, w.1))
 
-pub node_open_refused : Spares node_open.Post (IsRefused verdicts.Refused) (λ e. bare e.0.now e.1.0.now)
+pub node_open_refused : Spares node_open.Post IsRefused (λ e. bare e.0.now e.1.0.now)
 unfolding open_after
 node_open_refused u a r e p w = cc (p.1, w.1)
 
-pub node_close_refused : Spares node_close.Post (IsRefused verdicts.Refused) (λ e. bare e.0.now e.1.0.now)
+pub node_close_refused : Spares node_close.Post IsRefused (λ e. bare e.0.now e.1.0.now)
 unfolding close_after
 node_close_refused u a r e p w = cc (p.1, w.1)
 
-pub node_send_refused : Spares node_send.Post (IsRefused verdicts.Refused)
+pub node_send_refused : Spares node_send.Post IsRefused
     (λ e. stored e.0.now e.1.0.now e.1.1.0.now)
 unfolding send_after
 node_send_refused u a r e p w = cc (p.1, w.1)
 
-pub node_plan_refused : Spares node_plan.Post (IsRefused planned.Refused)
+pub node_plan_refused : Spares node_plan.Post IsRefused
     (λ e. stored e.0.now e.1.0.now e.1.1.0.now)
 unfolding plan_after
 node_plan_refused u a r e p w = cc (p.1, w.1)
 
-pub node_urgent_refused : Spares node_urgent.Post (IsRefused verdicts.Refused)
+pub node_urgent_refused : Spares node_urgent.Post IsRefused
     (λ e. stored e.0.now e.1.0.now e.1.1.0.now)
 unfolding urgent_after
 node_urgent_refused u a r e p w = cc (p.1, w.1)
 
-pub node_hand_out_refused : Spares node_hand_out.Post (IsRefused handed.Refused)
+pub node_hand_out_refused : Spares node_hand_out.Post IsRefused
     (λ e. whole e.0.now e.1.0.now [] e.1.1.1.0.now)
 unfolding hand_out_after
 node_hand_out_refused u a r e p w = but_store a.1.1.0.now (cc (p.1, w.1))
 
-pub node_report_refused : Spares node_report.Post (IsRefused verdicts.Refused) (λ e. bare e.0.now e.1.0.now)
+pub node_report_refused : Spares node_report.Post IsRefused (λ e. bare e.0.now e.1.0.now)
 unfolding report_after
 node_report_refused u a r e p w = cc (p.1, w.1)
 
@@ -115,22 +109,22 @@ node_report_refused u a r e p w = cc (p.1, w.1)
 
 module _ (w : Refusal) where
   -- each verdict gives answer and memory alike
-  judged : (v : Verdict) (a : Arrived) (x y : Lent) → (a ≡ arrived.Refused w → y ≡ x) → answer_as v a
-      ≡ arrived.Refused w → after_as v x y ≡ x
-  judged verdicts.Passed a x y h e = h e
-  judged (verdicts.Refused v) a x y h e = refl
+  judged : (v : Verdict) (a : Result Arrival Refusal) (x y : Lent) → (a ≡ Err w → y ≡ x) → answer_as v a
+      ≡ Err w → after_as v x y ≡ x
+  judged (Ok _) a x y h e = h e
+  judged (Err v) a x y h e = refl
 
-  read_on : (x : Lent) (r : Read) (p : List ℕ) → read_answer x r p ≡ arrived.Refused w → read_after x r p ≡ x
+  read_on : (x : Lent) (r : Result Header Refusal) (p : List ℕ) → read_answer x r p ≡ Err w → read_after x r p ≡ x
   unfolding read_answer read_after entry_answer entry_after
-  read_on x (read.Refused v) p e = refl
-  read_on x (read.Frame h) p e =
+  read_on x (Err v) p e = refl
+  read_on x (Ok h) p e =
       judged (entry_verdict x (entry_of x h) h) _ x _ (λ q. let z : ◌≡◌ {A = ℕ} 0 1 = cc in absurd (omega arith)) e
 
-  pub arrival_spared : (x : Lent) (f : List ℕ) → arrival_answer x f ≡ arrived.Refused w → arrival_after x f ≡ x
+  pub arrival_spared : (x : Lent) (f : List ℕ) → arrival_answer x f ≡ Err w → arrival_after x f ≡ x
   unfolding arrival_answer arrival_after
   arrival_spared x f e = judged (verdict (frame_tests x.node f)) _ x _ (read_on x (header_of f) (payload_of f)) e
 
-pub node_arrival_refused : Spares node_arrival.Post (IsRefused arrived.Refused)
+pub node_arrival_refused : Spares node_arrival.Post IsRefused
     (λ e. whole e.0.now e.1.0.now e.1.1.0.now e.1.1.1.0.now)
 node_arrival_refused u a r e p w =
     let x = whole a.0.now a.1.0.now a.1.1.0.now a.1.1.1.0.now in
@@ -138,48 +132,48 @@ node_arrival_refused u a r e p w =
 
 -- ---- the calls on which those stand
 
-pub call_open_setup_refused : Spares call_open_setup.Post (IsRefused verdicts.Refused)
+pub call_open_setup_refused : Spares call_open_setup.Post IsRefused
     (λ e. bare e.0.now e.1.0.now)
 unfolding setup_after
 call_open_setup_refused u a r e p w = but_store a.1.1.0.now (cc (p.1, w.1))
 
-pub call_open_open_refused : Spares call_open_open.Post (IsRefused verdicts.Refused)
+pub call_open_open_refused : Spares call_open_open.Post IsRefused
     (λ e. bare e.0.now e.1.0.now)
 unfolding open_after
 call_open_open_refused u a r e p w = cc (p.1, w.1)
 
-pub call_open_close_refused : Spares call_open_close.Post (IsRefused verdicts.Refused)
+pub call_open_close_refused : Spares call_open_close.Post IsRefused
     (λ e. bare e.0.now e.1.0.now)
 unfolding close_after
 call_open_close_refused u a r e p w = cc (p.1, w.1)
 
-pub call_send_send_refused : Spares call_send_send.Post (IsRefused verdicts.Refused)
+pub call_send_send_refused : Spares call_send_send.Post IsRefused
     (λ e. stored e.0.now e.1.0.now e.1.1.0.now)
 unfolding send_after
 call_send_send_refused u a r e p w = cc (p.1, w.1)
 
-pub call_plan_plan_refused : Spares call_plan_plan.Post (IsRefused planned.Refused)
+pub call_plan_plan_refused : Spares call_plan_plan.Post IsRefused
     (λ e. stored e.0.now e.1.0.now e.1.1.0.now)
 unfolding plan_after
 call_plan_plan_refused u a r e p w = cc (p.1, w.1)
 
-pub call_send_urgent_refused : Spares call_send_urgent.Post (IsRefused verdicts.Refused)
+pub call_send_urgent_refused : Spares call_send_urgent.Post IsRefused
     (λ e. stored e.0.now e.1.0.now e.1.1.0.now)
 unfolding urgent_after
 call_send_urgent_refused u a r e p w = cc (p.1, w.1)
 
-pub call_arrive_arrive_refused : Spares call_arrive_arrive.Post (IsRefused arrived.Refused)
+pub call_arrive_arrive_refused : Spares call_arrive_arrive.Post IsRefused
     (λ e. whole e.0.now e.1.0.now e.1.1.0.now e.1.1.1.0.now)
 call_arrive_arrive_refused u a r e p w =
     let x = whole a.0.now a.1.0.now a.1.1.0.now a.1.1.1.0.now in
     p.1 ∙ arrival_spared w.0 x a.1.1.1.1.0.now (sym p.0 ∙ w.1)
 
-pub call_hand_out_hand_out_refused : Spares call_hand_out_hand_out.Post (IsRefused handed.Refused)
+pub call_hand_out_hand_out_refused : Spares call_hand_out_hand_out.Post IsRefused
     (λ e. whole e.0.now e.1.0.now [] e.1.1.1.0.now)
 unfolding hand_out_after
 call_hand_out_hand_out_refused u a r e p w = but_store a.1.1.0.now (cc (p.1, w.1))
 
-pub call_report_report_refused : Spares call_report_report.Post (IsRefused verdicts.Refused)
+pub call_report_report_refused : Spares call_report_report.Post IsRefused
     (λ e. bare e.0.now e.1.0.now)
 unfolding report_after
 call_report_report_refused u a r e p w = cc (p.1, w.1)
@@ -188,24 +182,24 @@ call_report_report_refused u a r e p w = cc (p.1, w.1)
 
 -- each verdict gives answer and bytes alike
 as_written : (v : Verdict) (n : ℕ) (new old : List ℕ) (w : Refusal)
-    → written_as v n ≡ written.Refused w → bytes_as v new old ≡ old
-as_written verdicts.Passed n new old w e = let z : ◌≡◌ {A = ℕ} 0 1 = cc in absurd (omega arith)
-as_written (verdicts.Refused v) n new old w e = refl
+    → written_as v n ≡ Err w → bytes_as v new old ≡ old
+as_written (Ok _) n new old w e = let z : ◌≡◌ {A = ℕ} 0 1 = cc in absurd (omega arith)
+as_written (Err v) n new old w e = refl
 
-write_spared : (d : Fields) (p b : List ℕ) (w : Refusal) → write_answer d p b ≡ written.Refused w → written_of d p b ≡ b
+write_spared : (d : Fields) (p b : List ℕ) (w : Refusal) → write_answer d p b ≡ Err w → written_of d p b ≡ b
 unfolding write_answer written_of
 write_spared d p b w = as_written (verdict (write_tests d (length p) (length b))) _ _ _ w
 
-pub frame_write_refused : Spares frame_write.Post (IsRefused written.Refused) (λ e. e.0.now)
+pub frame_write_refused : Spares frame_write.Post IsRefused (λ e. e.0.now)
 frame_write_refused u a r e p w =
     p.1 ∙ write_spared a.1.0 a.1.1.0.now a.0.now w.0 (sym p.0 ∙ w.1)
 
 -- ---- for C: an answer other than 0
 
-module _ (x : Lent) (after : Verdict → Lent) (refused : (w : Refusal) → after (verdicts.Refused w) ≡ x) where
+module _ (x : Lent) (after : Verdict → Lent) (refused : (w : Refusal) → after (Err w) ≡ x) where
   told : (v : Verdict) → NotZero (refusal_in (answer_of v)) → after v ≡ x
-  told verdicts.Passed n = absurd (n refl)
-  told (verdicts.Refused w) n = refused w
+  told (Ok _) n = absurd (n refl)
+  told (Err w) n = refused w
 
 setup_told : (x : Lent) (t : List ℕ) → NotZero (refusal_in (answer_of (setup_answer x t)))
     → setup_after x t (setup_answer x t) ≡ x
@@ -290,10 +284,10 @@ pub shelugvar_store_need_refused : Spares shelugvar_store_need.Post NotZero (λ 
 shelugvar_store_need_refused u a r e p z =
     p.1 ∙ value_spared (needed_of (need_answer a.0.now)) a.1.0.now (subst NotZero p.0 z)
 
-plan_told : (x : Lent) (i : ℕ) (block : List ℕ) (a : Planned) → NotZero (refusal_in (planned_of a)) → plan_after x i block a ≡ x
+plan_told : (x : Lent) (i : ℕ) (block : List ℕ) (a : Result Plan Refusal) → NotZero (refusal_in (planned_of a)) → plan_after x i block a ≡ x
 unfolding plan_after
-plan_told x i block (planned.Accepted n stop) z = absurd (z refl)
-plan_told x i block (planned.Refused w) z = refl
+plan_told x i block (Ok a) z = absurd (z refl)
+plan_told x i block (Err w) z = refl
 
 pub shelugvar_plan_refused : Spares {M = Lent × List ℕ} shelugvar_plan.Post NotZero
     (λ e. (stored e.0.now e.1.0.now e.1.1.0.now, e.1.1.1.1.1.0.now))
@@ -305,10 +299,10 @@ shelugvar_plan_refused u a r e p z =
     let v = pair_spared (planned_of (plan_answer x i block)) a.1.1.1.1.1.0.now k in
     cc (p.1.0, p.1.1, plan_told x i block (plan_answer x i block) k, v)
 
-arrival_told : (x : Lent) (f : List ℕ) (a : Arrived) → arrival_answer x f ≡ a → NotZero (refusal_in (arrived_of a))
+arrival_told : (x : Lent) (f : List ℕ) (a : Result Arrival Refusal) → arrival_answer x f ≡ a → NotZero (refusal_in (arrived_of a))
     → arrival_after x f ≡ x
-arrival_told x f (arrived.At i was) e z = absurd (z refl)
-arrival_told x f (arrived.Refused w) e z = arrival_spared w x f e
+arrival_told x f (Ok a) e z = absurd (z refl)
+arrival_told x f (Err w) e z = arrival_spared w x f e
 
 pub shelugvar_arrival_refused : Spares {M = Lent × List ℕ} shelugvar_arrival.Post NotZero
     (λ e. (whole e.0.now e.1.0.now e.1.1.0.now e.1.1.1.0.now, e.1.1.1.1.1.0.now))
@@ -319,10 +313,10 @@ shelugvar_arrival_refused u a r e p z =
     let v = arrived_spared (arrived_of (arrival_answer x f)) a.1.1.1.1.1.0.now k in
     cc (p.1.0, p.1.1, arrival_told x f (arrival_answer x f) refl k, v)
 
-hand_out_told : (x : Lent) (a : HandedOut) → NotZero (refusal_in (handed_of a)) → hand_out_after x a ≡ x
+hand_out_told : (x : Lent) (a : Result ℕ Refusal) → NotZero (refusal_in (handed_of a)) → hand_out_after x a ≡ x
 unfolding hand_out_after
-hand_out_told x (handed.Length n) z = absurd (z refl)
-hand_out_told x (handed.Refused w) z = refl
+hand_out_told x (Ok n) z = absurd (z refl)
+hand_out_told x (Err w) z = refl
 
 pub shelugvar_hand_out_refused : Spares {M = Lent × ℕ} shelugvar_hand_out.Post NotZero
     (λ e. (whole e.0.now e.1.0.now [] e.1.1.1.0.now, e.1.1.1.1.0.now))
@@ -335,18 +329,18 @@ shelugvar_hand_out_refused u a r e p z =
     but_store a.1.1.0.now (p.1.0 ∙ hand_out_told x (hand_out_answer x) k) in
     cc (l, p.1.1, v)
 
-read_in : (r : Read) (fields : List ℕ) → NotZero (read_number r) → read_fields r fields ≡ fields
+read_in : (r : Result Header Refusal) (fields : List ℕ) → NotZero (read_number r) → read_fields r fields ≡ fields
 unfolding read_fields
-read_in (read.Frame h) fields z = absurd (z refl)
-read_in (read.Refused w) fields z = refl
+read_in (Ok h) fields z = absurd (z refl)
+read_in (Err w) fields z = refl
 
 pub shelugvar_frame_read_refused : Spares shelugvar_frame_read.Post NotZero (λ e. e.1.0.now)
 shelugvar_frame_read_refused u a r e p z =
     p.1 ∙ read_in (read_of a.0.now) a.1.0.now (subst NotZero p.0 z)
 
 written_in : (v : Verdict) (n : ℕ) (new old : List ℕ) → NotZero (write_number (written_as v n)) → bytes_as v new old ≡ old
-written_in verdicts.Passed n new old z = absurd (z refl)
-written_in (verdicts.Refused w) n new old z = refl
+written_in (Ok _) n new old z = absurd (z refl)
+written_in (Err w) n new old z = refl
 
 write_told : (d : Fields) (p b : List ℕ) → NotZero (write_number (write_answer d p b)) → written_of d p b ≡ b
 unfolding write_answer written_of

@@ -10,7 +10,6 @@ use mathlib.Core.Bool.{Bool, true, false}
 use mathlib.Core.List.{List}
 use lib.Dec.{eqb, ltb}
 use Rattle.units.specs.Refusals.{pick}
-use Rattle.units.specs.declared.refusals.Verdict.TheVariants as verdicts
 use Rattle.end_points.specs.Lent.{Lent, whole}
 use Rattle.call_open.specs.Setup.{setup_answer, setup_after}
 use Rattle.call_open.specs.Opening.{open_after, close_after}
@@ -42,6 +41,7 @@ use Rattle.trace_lines.proofs.replay.Reads as trace_lines_replay
 use Rattle.contracts.specs.Gives.{Makes, Steps, Replays}
 use Rattle.contracts.specs.Outcome.{One, OneAnswer, OneBehind, Spares, ToldRefused}
 use Rattle.contracts.proofs.Refused.{arrival_spared}
+use Rattle.std.specs.Prelude.{Ok}
 
 -- ---- one outcome: the file
 
@@ -163,11 +163,11 @@ step_makes u a r e p given l =
     k : ℕ
     k = a.1.1.1.1.1.0
 
-    first : k ≡ 0 → r ≡ told.Plain verdicts.Passed → SetUp (table_in f) (kept (whole e.0.now e.1.0.now e.1.1.0.now e.1.1.1.0.now))
+    first : k ≡ 0 → r ≡ told.Plain (Ok tt) → SetUp (table_in f) (kept (whole e.0.now e.1.0.now e.1.1.0.now e.1.1.1.0.now))
     first z t =
-        let same : told.Plain (setup_answer (stored_of x) (table_in f)) ≡ told.Plain verdicts.Passed =
+        let same : told.Plain (setup_answer (stored_of x) (table_in f)) ≡ told.Plain (Ok tt) =
         sym (ap (λ (o : Outcome). o.told) (first_is x f given)) ∙ ap (λ (j : ℕ). (step_of x f j).told) (sym z) ∙ sym p.0 ∙ t in
-        let begins : setup_answer (stored_of x) (table_in f) ≡ verdicts.Passed = cc in
+        let begins : setup_answer (stored_of x) (table_in f) ≡ (Ok tt) = cc in
         subst (λ (y : Lent). SetUp (table_in f) (kept y)) (sym (p.1 ∙ ap (λ (j : ℕ). (step_of x f j).lent) z)) (step_sets_up x f given begins)
 
 -- a replay leaves what its records leave

@@ -1,9 +1,7 @@
 -- From contract to call: an outcome that a call's contract allows is the call that the promise speaks of (`Did`), and
 -- through it the machine's. Cited by the laws of proofs/, for every call of a node. Assumes nothing.
-use Rattle.std.specs.Prelude.{ℕ, ◌<◌, ◌≡◌, ◌≢◌, true, List, [], length}
+use Rattle.std.specs.Prelude.{ℕ, ◌<◌, ◌≡◌, ◌≢◌, true, List, [], length, Ok}
 use Rattle.std.specs.Borrow.{MutBor}
-use Rattle.units.specs.declared.refusals.Verdict.{Verdict}
-use Rattle.units.specs.declared.refusals.Verdict.TheVariants.{Passed}
 use Rattle.memory.specs.Layout.{node_words, book_halves}
 use Rattle.end_points.specs.Lent.{Lent}
 use Rattle.trace.specs.Kinds.{table_kind, is_kind}
@@ -17,6 +15,7 @@ use Rattle.good.specs.Calls.{Memory, kept, SetUp}
 use Rattle.replayed.specs.Replayed.{table_in, call_named, call_at, Single, Given}
 use Rattle.machine.specs.Calls.{Call, Answer, Bytes, Fed}
 use Rattle.promise.specs.Nodes.{Did}
+use Rattle.units.specs.Refusals.{Verdict}
 
 -- what a host keeps: node and book as they were lent, and its store
 abbrev pub memory : MutBor (List ℕ) → MutBor (List ℕ) → List ℕ → Memory
@@ -39,7 +38,7 @@ Gives {L} {A} {R} Post call told before after =
 abbrev pub SetsUp : {L A : Type 0} → (L → A → Verdict → A → Type 0) → (A → Lent) → (A → List ℕ) → (A → A → Memory)
     → Type 0
 SetsUp {L} {A} Post before table after =
-    (u : L) (a : A) (r : Verdict) (e : A) → Post u a r e → r ≡ Passed
+    (u : L) (a : A) (r : Verdict) (e : A) → Post u a r e → r ≡ Ok tt
     → length (before a).node ≡ node_words → length (before a).book ≡ book_halves → Bytes (table a)
     → SetUp (table a) (after a e)
 
@@ -54,7 +53,7 @@ Makes {L} {A} Post lent kind index bytes =
 -- and of the step to record k of a good file: the first sets a node up, or is refused, and every other is one single
 -- call [L9, L10]
 pub record Step (x y : Lent) (f : List ℕ) (k : ℕ) (t : Told) : Type 0 where
-  pub first : k ≡ 0 → t ≡ told.Plain Passed → SetUp (table_in f) (kept y)
+  pub first : k ≡ 0 → t ≡ told.Plain (Ok tt) → SetUp (table_in f) (kept y)
   pub then : 0 < k → Single x y (call_at f k x.out) (told_of t)
 
 abbrev pub Steps : {L A : Type 0} → (L → A → Told → A → Type 0) → (A → Lent) → (A → List ℕ) → (A → ℕ) → Type 0

@@ -1,22 +1,16 @@
 -- Outcomes of a function, over its contract's own text. `Post` is what the contract says of a call: of the arguments at
 -- entry, the answer, and the arguments at exit. Cited by the laws of proofs/, for every public function. Assumes
 -- nothing.
-use Rattle.std.specs.Prelude.{ℕ, ◌≤◌, ◌<◌, ◌≡◌, List, length, get_or, leb}
+use Rattle.std.specs.Prelude.{ℕ, ◌≤◌, ◌<◌, ◌≡◌, List, length, get_or, leb, Result, Ok, Err}
 use Rattle.units.specs.Limits.{most_entries}
 use Rattle.units.specs.Refusals.{pick}
 use Rattle.units.specs.declared.refusals.Refusal.{Refusal}
-use Rattle.units.specs.declared.refusals.Verdict.TheVariants as verdicts
 use Rattle.memory.specs.Layout.{node_words}
-use Rattle.frame.specs.declared.Written.{Written}
-use Rattle.frame.specs.declared.Written.TheVariants as written
 use Rattle.end_points.specs.declared.answers.Was.{Was}
 use Rattle.end_points.specs.declared.answers.Was.TheVariants as was
-use Rattle.end_points.specs.declared.answers.Arrived.{Arrived}
-use Rattle.end_points.specs.declared.answers.Arrived.TheVariants as arrived
-use Rattle.end_points.specs.declared.answers.HandedOut.{HandedOut}
-use Rattle.end_points.specs.declared.answers.HandedOut.TheVariants as handed
 use Rattle.trace_step.specs.declared.Told.{Told}
 use Rattle.trace_step.specs.declared.Told.TheVariants as told
+use Rattle.end_points.specs.declared.answers.Arrival.{Arrival}
 
 -- ---- one outcome: two that a contract allows for the same arguments are the same
 
@@ -50,15 +44,15 @@ abbrev pub Spares : {L A R M : Type 0} → (L → A → R → A → Type 0) → 
 Spares {L} {A} {R} Post Refuses lent = (u : L) (a : A) (r : R) (e : A) → Post u a r e → Refuses r → lent e ≡ lent a
 
 -- an answer that is a refusal, whichever; and for C one that is not 0 [R44]
-abbrev pub IsRefused : {R : Type 0} → (Refusal → R) → R → Type 0
-IsRefused refused r = (w : Refusal) × (r ≡ refused w)
+abbrev pub IsRefused : {R : Type 0} → Result R Refusal → Type 0
+IsRefused r = (w : Refusal) × (r ≡ Err w)
 
 -- of a record's call, whichever it is [R44]
 abbrev pub ToldRefused : Told → Type 0
-ToldRefused (told.Plain v) = IsRefused verdicts.Refused v
-ToldRefused (told.Arrival a) = IsRefused arrived.Refused a
+ToldRefused (told.Plain v) = IsRefused v
+ToldRefused (told.Arrival a) = IsRefused a
 ToldRefused (told.Tick bits) = ⊥
-ToldRefused (told.HandOut h) = IsRefused handed.Refused h
+ToldRefused (told.HandOut h) = IsRefused h
 
 abbrev pub NotZero : ℕ → Type 0
 NotZero n = n ≡ 0 → ⊥
@@ -81,29 +75,30 @@ length_of (was.Reset n) = 0
 length_of (was.Data n) = n
 length_of (was.Urgent n) = n
 
-abbrev pub block_length : Arrived → ℕ
-block_length (arrived.At i w) = length_of w
-block_length (arrived.Refused w) = 0
+abbrev pub block_length : Result Arrival Refusal → ℕ
+block_length (Ok a) = length_of a.was
+block_length (Err w) = 0
 
 -- in C's numbers: what it was, its entry, its value. What it was is 4 of Data and 5 of an Urgent, which write a block
 abbrev pub block_length_at : List ℕ → ℕ
 block_length_at values = pick (leb 4 (get_or values 0 0)) (get_or values 2 0) 0
 
 -- of the frame that is handed out [H4]
-abbrev pub frame_length : HandedOut → ℕ
-frame_length (handed.Length n) = n
-frame_length (handed.Refused w) = 0
+abbrev pub frame_length : Result ℕ Refusal → ℕ
+frame_length (Ok n) = n
+frame_length (Err w) = 0
 
 -- of the frame that is written [R41]
-abbrev pub written_length : Written → ℕ
-written_length (written.Length n) = n
-written_length (written.Refused w) = 0
+abbrev pub written_length : Result ℕ Refusal → ℕ
+written_length (Ok n) = n
+written_length (Err w) = 0
 
 -- ---- the entry of an arrival
 
 -- where it is not refused, its index is one that a table can have, whatever node and book hold, as long as they have
 -- the lengths of their types [T1, O8, O9]
-abbrev pub EntryWithin : {L A R E : Type 0} → (L → A → R → E → Type 0) → (A → List ℕ) → (R → Arrived) → Type 0
+abbrev pub EntryWithin : {L A R E : Type 0} → (L → A → R → E → Type 0) → (A → List ℕ)
+    → (R → Result Arrival Refusal) → Type 0
 EntryWithin {L} {A} {R} {E} Post node answered =
     (u : L) (a : A) (r : R) (e : E) → Post u a r e → length (node a) ≡ node_words
-    → (i : ℕ) (w : Was) → answered r ≡ arrived.At i w → i < most_entries
+    → (i : ℕ) (w : Was) → answered r ≡ Ok (record { entry = i; was = w }) → i < most_entries

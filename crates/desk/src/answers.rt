@@ -1,6 +1,6 @@
 // The line of a record, with the bytes of the block or the frame that its call wrote.
 use crate::kinds;
-use end_points::answers::{Arrived, HandedOut, Was};
+use end_points::answers::Was;
 use lines::answers::{counted, planned};
 use lines::sink::Sink;
 use lines::{number, text, value, values};
@@ -25,15 +25,10 @@ fn delivered(was: Was) -> usize {
 fn written(t: Told) -> usize {
     match t {
         Told::Plain(_) => 0,
-        Told::Arrival(a) => match a {
-            Arrived::At(_, was) => delivered(was),
-            Arrived::Refused(_) => 0,
-        },
+        Told::Arrival(Ok(arrival)) => delivered(arrival.was),
+        Told::Arrival(Err(_)) => 0,
         Told::Tick(_) => 0,
-        Told::HandOut(h) => match h {
-            HandedOut::Length(n) => n,
-            HandedOut::Refused(_) => 0,
-        },
+        Told::HandOut(length) => length.unwrap_or(0),
     }
 }
 

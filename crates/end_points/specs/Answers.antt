@@ -6,13 +6,13 @@ use Rattle.end_points.specs.declared.State.{State}
 use Rattle.end_points.specs.declared.State.TheVariants.{Closed, Enabled, Open, Failing}
 use Rattle.end_points.specs.declared.answers.Was.{Was}
 use Rattle.end_points.specs.declared.answers.Was.TheVariants as was
--- setup, open, close, send and Urgent: 0, or the refusal [O3]
 use Rattle.units.specs.Refusals.{Verdict}
 use Rattle.units.specs.declared.refusals.Refusal.{Refusal}
 use Rattle.end_points.specs.declared.answers.Counts.{Counts}
 use Rattle.end_points.specs.declared.answers.Plan.{Plan}
 use Rattle.end_points.specs.declared.answers.Arrival.{Arrival}
 
+-- setup, open, close, send and Urgent: 0, or the refusal [O3]
 abbrev pub answer_of : Verdict → List ℕ
 answer_of (Ok _) = 0 ∷ []
 answer_of (Err w) = refused_of w

@@ -71,10 +71,12 @@ pub fn shelugvar_counts(node: &Node, index: usize, values: &mut [u32; 2]) -> u8
         ≡ pair_in (counted_of (counts_answer node.now index)) values.old }
 {
     match node::counts(node, index) {
-        Ok(Counts {
-            accepted,
-            confirmed,
-        }) => {
+        Ok(
+            Counts {
+                accepted,
+                confirmed,
+            },
+        ) => {
             values[0] = accepted.0;
             values[1] = confirmed.0;
             0

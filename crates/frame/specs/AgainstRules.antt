@@ -1,7 +1,8 @@
 -- Paper 01's refusal 12, "against the frame rules", and the four faults that change request K1 put in its place: each
 -- is told exactly where its test is the first to fit, and but for the number every answer is that of before. Proved in
 -- proofs/AgainstRules.antt. Assumes nothing.
-use Rattle.std.specs.Prelude.{ℕ, ◌+◌, ◌≤◌, ◌<◌, ◌≡◌, ◌≢◌, ◌↔◌, ◌⊎◌, Bool, true, false, not, ◌||◌, List, [], eqb, leb, ltb, length, get_or, Result, Ok, Err}
+use Rattle.std.specs.Prelude.{ℕ, ◌+◌, ◌≤◌, ◌<◌, ◌≡◌, ◌≢◌, ◌↔◌, ◌⊎◌, Bool, true, false, not, ◌||◌, List, [], eqb, leb}
+use Rattle.std.specs.Prelude.{ltb, length, get_or, Result, Ok, Err}
 use Rattle.std.proofs.Common.{inl, inr}
 use Rattle.units.specs.Bytes.{get16_of}
 use Rattle.units.specs.Refusals.{number_of, pick}

@@ -5,9 +5,9 @@ use Rattle.units.specs.Refusals.{number_of, pick}
 use Rattle.units.specs.declared.refusals.Refusal.{Refusal}
 use Rattle.units.specs.declared.refusals.Refusal.TheVariants as refusal
 use Rattle.frame.specs.Layout.{type_byte, length_byte, sequence_byte}
--- the number of the byte, for a refusal that is for a fault of the frame's header [R15, R16, R17, R18, R47]
 use Rattle.frame.specs.declared.Header.{Header}
 
+-- the number of the byte, for a refusal that is for a fault of the frame's header [R15, R16, R17, R18, R47]
 abbrev pub byte_in : Refusal → List ℕ
 byte_in refusal.BadTable = []
 byte_in refusal.NoEntry = []

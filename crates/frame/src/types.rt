@@ -18,7 +18,6 @@ pub fn type_number(kind: FrameType) -> u8
     }
 }
 
-// The type that a number stands for. [F7, G4]
 impl TryFrom<u8> for FrameType {
     ghost use Rattle.std.specs.Prelude.{◌≡◌};
     ghost use Rattle.frame.specs.Types.{known_of};
@@ -27,6 +26,7 @@ impl TryFrom<u8> for FrameType {
 
     ghost try_from_gives = { λ number kind. kind ≡ known_of number };
 
+    // The type that a number stands for. [F7, G4]
     fn try_from(number: u8) -> Result<FrameType, Refusal> {
         match number {
             0 => Ok(FrameType::Data),

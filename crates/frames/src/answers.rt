@@ -3,12 +3,13 @@ use crate::records::get32;
 use crate::{kinds, records};
 use frame::reading::{payload, read};
 use frame::writing::write;
-use frame::{Fields, Header, Read, Written, type_number};
+use frame::{Fields, Header, type_number};
 use lines::sink::Sink;
 use lines::{numbers, refused, value, values};
 use std::io::Write;
 use units::bytes::byte_at;
-use units::{Address, Channel, Seq, refusals};
+use units::refusals::Refusal;
+use units::{Address, Channel, Seq};
 
 // What a buffer is filled with beforehand, to show what the writer leaves as it was.
 const FILLER: u8 = 165;
@@ -33,8 +34,8 @@ fn taken<W: Write>(to: &mut Sink<W>, out: &mut [u8], at: usize, h: Header, frame
 // Kind 1: the reader.
 fn reading<W: Write>(to: &mut Sink<W>, out: &mut [u8], at: usize, bytes: &[u8]) -> usize {
     match read(bytes) {
-        Read::Frame(h) => taken(to, out, at, h, bytes),
-        Read::Refused(why) => refused(to, out, at, why),
+        Ok(h) => taken(to, out, at, h, bytes),
+        Err(why) => refused(to, out, at, why),
     }
 }
 
@@ -67,13 +68,18 @@ fn fields_of(bytes: &[u8]) -> Fields {
 }
 
 // What the writer answers: 0 and the frame's length, or the refusal, which names no byte: there is no frame yet.
-fn written<W: Write>(to: &mut Sink<W>, out: &mut [u8], at: usize, answer: Written) -> usize {
+fn written<W: Write>(
+    to: &mut Sink<W>,
+    out: &mut [u8],
+    at: usize,
+    answer: Result<usize, Refusal>,
+) -> usize {
     match answer {
-        Written::Length(n) => {
+        Ok(n) => {
             let next = value(to, out, at, 0);
             value(to, out, next, n as u64)
         }
-        Written::Refused(why) => value(to, out, at, refusals::number(why) as u64),
+        Err(why) => value(to, out, at, u8::from(why) as u64),
     }
 }
 

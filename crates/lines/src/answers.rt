@@ -6,9 +6,9 @@ ghost use Rattle.lines.specs.Sink.{Says, HasRoom, values_text};
 
 use crate::sink::Sink;
 use crate::{refused, value};
-use end_points::answers::{Arrived, Counted, HandedOut, Planned, Was, what};
+use end_points::answers::{Arrival, Counts, Plan, Was, what};
 use std::io::Write;
-use units::refusals::Verdict;
+use units::refusals::Refusal;
 
 // 0, and a number.
 #[tactic(auto, unfolding(crate::specs::Lines::valued_all), using(crate::proofs::Pages::whole))]
@@ -24,63 +24,83 @@ pub fn done<W: Write>(to: &mut Sink<W>, out: &mut [u8], at: usize, v: u64) -> us
 
 // Setup, open, close, send, Urgent.
 #[tactic(auto, unfolding(crate::specs::Lines::valued_all), using(crate::proofs::Pages::whole))]
-pub fn verdict<W: Write>(to: &mut Sink<W>, out: &mut [u8], at: usize, v: Verdict) -> usize
+pub fn verdict<W: Write>(
+    to: &mut Sink<W>,
+    out: &mut [u8],
+    at: usize,
+    v: Result<(), Refusal>,
+) -> usize
     ensures answer { result ≡ (valued_all (page out.old at) (answer_of v)).taken }
     ensures after { out.new ≡ (valued_all (page out.old at) (answer_of v)).bytes }
     ensures written { HasRoom (page out.old at) →
         Says W.contents to.old (page out.old at) to.new (page out.new result) (values_text (answer_of v)) }
 {
     match v {
-        Verdict::Passed => value(to, out, at, 0),
-        Verdict::Refused(why) => refused(to, out, at, why),
+        Ok(()) => value(to, out, at, 0),
+        Err(why) => refused(to, out, at, why),
     }
 }
 
 // Counts: accepted and confirmed.
 #[tactic(auto, unfolding(crate::specs::Lines::valued_all), using(crate::proofs::Pages::whole))]
-pub fn counted<W: Write>(to: &mut Sink<W>, out: &mut [u8], at: usize, c: Counted) -> usize
+pub fn counted<W: Write>(
+    to: &mut Sink<W>,
+    out: &mut [u8],
+    at: usize,
+    c: Result<Counts, Refusal>,
+) -> usize
     ensures answer { result ≡ (valued_all (page out.old at) (counted_of c)).taken }
     ensures after { out.new ≡ (valued_all (page out.old at) (counted_of c)).bytes }
     ensures written { HasRoom (page out.old at) →
         Says W.contents to.old (page out.old at) to.new (page out.new result) (values_text (counted_of c)) }
 {
     match c {
-        Counted::Counts(accepted, confirmed) => {
-            let next = done(to, out, at, accepted.0 as u64);
-            value(to, out, next, confirmed.0 as u64)
+        Ok(counts) => {
+            let next = done(to, out, at, counts.accepted.0 as u64);
+            value(to, out, next, counts.confirmed.0 as u64)
         }
-        Counted::Refused(why) => refused(to, out, at, why),
+        Err(why) => refused(to, out, at, why),
     }
 }
 
 // A plan: how many payloads were accepted, and what refused the next.
 #[tactic(auto, unfolding(crate::specs::Lines::valued_all), using(crate::proofs::Pages::whole))]
-pub fn planned<W: Write>(to: &mut Sink<W>, out: &mut [u8], at: usize, p: Planned) -> usize
+pub fn planned<W: Write>(
+    to: &mut Sink<W>,
+    out: &mut [u8],
+    at: usize,
+    p: Result<Plan, Refusal>,
+) -> usize
     ensures answer { result ≡ (valued_all (page out.old at) (planned_of p)).taken }
     ensures after { out.new ≡ (valued_all (page out.old at) (planned_of p)).bytes }
     ensures written { HasRoom (page out.old at) →
         Says W.contents to.old (page out.old at) to.new (page out.new result) (values_text (planned_of p)) }
 {
     match p {
-        Planned::Accepted(n, stop) => {
-            let next = done(to, out, at, n as u64);
-            verdict(to, out, next, stop)
+        Ok(plan) => {
+            let next = done(to, out, at, plan.accepted as u64);
+            verdict(to, out, next, plan.stop)
         }
-        Planned::Refused(why) => refused(to, out, at, why),
+        Err(why) => refused(to, out, at, why),
     }
 }
 
 // Handing out: the frame's length.
 #[tactic(auto, unfolding(crate::specs::Lines::valued_all), using(crate::proofs::Pages::whole))]
-pub fn handed<W: Write>(to: &mut Sink<W>, out: &mut [u8], at: usize, h: HandedOut) -> usize
+pub fn handed<W: Write>(
+    to: &mut Sink<W>,
+    out: &mut [u8],
+    at: usize,
+    h: Result<usize, Refusal>,
+) -> usize
     ensures answer { result ≡ (valued_all (page out.old at) (handed_of h)).taken }
     ensures after { out.new ≡ (valued_all (page out.old at) (handed_of h)).bytes }
     ensures written { HasRoom (page out.old at) →
         Says W.contents to.old (page out.old at) to.new (page out.new result) (values_text (handed_of h)) }
 {
     match h {
-        HandedOut::Length(n) => done(to, out, at, n as u64),
-        HandedOut::Refused(why) => refused(to, out, at, why),
+        Ok(n) => done(to, out, at, n as u64),
+        Err(why) => refused(to, out, at, why),
     }
 }
 
@@ -104,18 +124,23 @@ fn came_with<W: Write>(to: &mut Sink<W>, out: &mut [u8], at: usize, was: Was) ->
 
 // An arrival: what the frame was, the entry that it was for, and what came with it.
 #[tactic(auto, unfolding(crate::specs::Lines::valued_all), using(crate::proofs::Pages::whole))]
-pub fn arrived<W: Write>(to: &mut Sink<W>, out: &mut [u8], at: usize, a: Arrived) -> usize
+pub fn arrived<W: Write>(
+    to: &mut Sink<W>,
+    out: &mut [u8],
+    at: usize,
+    a: Result<Arrival, Refusal>,
+) -> usize
     ensures answer { result ≡ (valued_all (page out.old at) (arrived_of a)).taken }
     ensures after { out.new ≡ (valued_all (page out.old at) (arrived_of a)).bytes }
     ensures written { HasRoom (page out.old at) →
         Says W.contents to.old (page out.old at) to.new (page out.new result) (values_text (arrived_of a)) }
 {
     match a {
-        Arrived::At(i, was) => {
-            let mut next = done(to, out, at, what(was) as u64);
-            next = value(to, out, next, i as u64);
-            came_with(to, out, next, was)
+        Ok(arrival) => {
+            let mut next = done(to, out, at, what(arrival.was) as u64);
+            next = value(to, out, next, arrival.entry as u64);
+            came_with(to, out, next, arrival.was)
         }
-        Arrived::Refused(why) => refused(to, out, at, why),
+        Err(why) => refused(to, out, at, why),
     }
 }

@@ -118,7 +118,7 @@ pub fn refused<W: Write>(to: &mut Sink<W>, out: &mut [u8], at: usize, why: Refus
     ensures written { HasRoom (page out.old at) →
         Says W.contents to.old (page out.old at) to.new (page out.new result) (values_text (refused_of why)) }
 {
-    let n = units::refusals::number(why);
+    let n = u8::from(why);
     let next = value(to, out, at, n as u64);
     let byte = faults::fault_byte(n);
     if byte == faults::NO_BYTE {
@@ -158,7 +158,7 @@ pub fn refused_all<W: Write>(to: &mut Sink<W>, out: &mut [u8], at: usize, why: R
         Says W.contents to.old (page out.old at) to.new (page out.new result)
         (last_text (ascii "refused") (number_of why)) }
 {
-    last(to, out, at, b"refused", units::refusals::number(why) as u64)
+    last(to, out, at, b"refused", u8::from(why) as u64)
 }
 
 // The last line where a record is of no listed kind.

@@ -2,7 +2,8 @@
 -- it was, and that a call on one entry leaves every other. The laws of single calls are in the other files
 -- Laws*.antt. In square brackets: the rules of docs/RULES.md that a law is about. Proved in proofs/Standing.antt and
 -- proofs/Apart.antt. Assumes nothing.
-use Rattle.std.specs.Prelude.{ℕ, ◌≤◌, ◌<◌, ◌≡◌, ◌≢◌, Bool, true, not, List, [], ◌∷◌, ◌++◌, length, get_or, replicate, eqb, Ok}
+use Rattle.std.specs.Prelude.{ℕ, ◌≤◌, ◌<◌, ◌≡◌, ◌≢◌, Bool, true, not, List, [], ◌∷◌, ◌++◌, length, get_or, replicate}
+use Rattle.std.specs.Prelude.{eqb, Ok}
 use Rattle.std.proofs.Math.Option.{none, some}
 use Rattle.std.proofs.Math.ListN.{get_elem?}
 use Rattle.end_points.specs.declared.State.{State}

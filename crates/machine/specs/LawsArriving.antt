@@ -2,7 +2,8 @@
 -- node that refuses all, one that always answers "ignored", one that leaves its state alone, and one that delivers
 -- the first payload and afterwards only acknowledges. That nothing is held at the start of a window is StartStaysFree
 -- of Laws.antt. Proved in proofs/Coming.antt, Receiving.antt, Acking.antt. Assumes nothing.
-use Rattle.std.specs.Prelude.{ℕ, suc, ◌+◌, ◌≤◌, ◌<◌, ◌≡◌, ◌≢◌, Bool, true, false, ◌&&◌, List, [], ◌∷◌, ◌++◌, length, drop, set, replicate, eqb, Ok}
+use Rattle.std.specs.Prelude.{ℕ, suc, ◌+◌, ◌≤◌, ◌<◌, ◌≡◌, ◌≢◌, Bool, true, false, ◌&&◌, List, [], ◌∷◌, ◌++◌, length}
+use Rattle.std.specs.Prelude.{drop, set, replicate, eqb, Ok}
 use Rattle.std.proofs.Math.Option.{none, some}
 use Rattle.std.proofs.Math.ListN.{get_elem?}
 use Rattle.units.specs.declared.refusals.Refusal.{Refusal}

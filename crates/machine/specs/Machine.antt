@@ -2,7 +2,8 @@
 -- is what a reader must believe of demand 2. That the nodes of crates/node are this machine is proved in
 -- crates/refinement. Frames, blocks, tables and states are those of their own crates. In square brackets: the rules
 -- of docs/RULES.md that a definition states. Assumes nothing.
-use Rattle.std.specs.Prelude.{ℕ, zero, suc, ◌+◌, ◌-◌, ◌*◌, ◌^◌, ◌≡◌, Bool, true, false, not, ◌&&◌, ◌||◌, List, [], ◌∷◌, ◌++◌, length, drop, get_or, set, replicate, eqb, leb, ltb, Result, Ok, Err}
+use Rattle.std.specs.Prelude.{ℕ, zero, suc, ◌+◌, ◌-◌, ◌*◌, ◌^◌, ◌≡◌, Bool, true, false, not, ◌&&◌, ◌||◌, List, [], ◌∷◌}
+use Rattle.std.specs.Prelude.{◌++◌, length, drop, get_or, set, replicate, eqb, leb, ltb, Result, Ok, Err}
 use Rattle.std.proofs.Math.Option.{Option, none, some}
 use Rattle.std.proofs.Math.ListN.{get_elem?}
 use Rattle.std.proofs.lemmas.List.Edits.{sets}
@@ -307,7 +308,9 @@ unfoldable pub counting : Machine → ℕ → Outcome
 counting m i =
     on_entry m i λ e.
     unless ((not (is_sends e.entry.kind), refusal.OtherKind) ∷ []) [] m
-    (answers (counted_of (Ok (record { accepted = record { 0 = e.accepted }; confirmed = record { 0 = e.confirmed } }))) [] m)
+    (answers
+    (counted_of (Ok (record { accepted = record { 0 = e.accepted }; confirmed = record { 0 = e.confirmed } })))
+    [] m)
 
 -- 2; it alters nothing, so that it is no step of the machine [E1, R2, R45]
 unfoldable pub stating : Machine → ℕ → List ℕ

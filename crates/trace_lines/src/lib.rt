@@ -20,7 +20,7 @@ use node::{Book, Node};
 use std::io::Write;
 use trace::layout;
 use trace_step::{Told, step};
-use units::refusals::{Refusal, Verdict};
+use units::refusals::Refusal;
 
 // The record that has the table.
 const FIRST: usize = 0;
@@ -88,10 +88,7 @@ fn is_refused(t: Told) -> bool
     ensures { result ≡ is_refused t }
 {
     match t {
-        Told::Plain(v) => match v {
-            Verdict::Passed => false,
-            Verdict::Refused(_) => true,
-        },
+        Told::Plain(v) => v.is_err(),
         Told::Arrival(_) => false,
         Told::Tick(_) => false,
         Told::HandOut(_) => false,

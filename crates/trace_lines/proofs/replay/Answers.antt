@@ -15,9 +15,11 @@ use Rattle.trace_step.specs.Told.{told_of}
 use Rattle.trace_step.specs.declared.Told.{Told}
 use Rattle.trace_step.specs.Steps.{step_of}
 use Rattle.trace_step.specs.Replay.{state_after, told_at, is_refused, made_of}
-use Rattle.trace_lines.specs.Lines.{lines_text, line_text, replay_text, line_of, kind_of, lines_after, replay_page, replay_lent}
+use Rattle.trace_lines.specs.Lines.{lines_text, line_text, replay_text, line_of, kind_of, lines_after, replay_page}
+use Rattle.trace_lines.specs.Lines.{replay_lent}
 use Rattle.trace_lines.proofs.replay.Invariants.{Replayed}
-use Rattle.trace_lines.proofs.replay.Goals.{else-k-eq-FIRST-via-then-k-eq-FIRST+else-is_refused, else-k-eq-FIRST-via-else-k-eq-FIRST}
+use Rattle.trace_lines.proofs.replay.Goals.{else-k-eq-FIRST-via-then-k-eq-FIRST+else-is_refused}
+use Rattle.trace_lines.proofs.replay.Goals.{else-k-eq-FIRST-via-else-k-eq-FIRST}
 use Rattle.trace_lines.proofs.replay.Goals as goal
 
 -- one record more
