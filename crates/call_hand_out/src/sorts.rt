@@ -13,7 +13,7 @@ ghost use Rattle.frame.specs.declared.FrameType.TheVariants as type;
 use super::framing::{fields_to, put_frame};
 use end_points::states::without_urgent;
 use end_points::{Run, State, load, load_entry, load_place, run_of, save};
-use frame::{FrameType, type_number};
+use frame::FrameType;
 use memory::layout;
 use slots::{cells, number_in, spot_of};
 use timing::STANDING;
@@ -42,7 +42,7 @@ pub fn put_ack(
     let fields = fields_to(node, entry, FrameType::Acknowledge, a.seq);
     let n = put_frame(frame, fields, b"")?;
     acks::pop(node);
-    port::begin(book, type_number(FrameType::Acknowledge), a.entry, a.seq);
+    port::begin(book, u8::from(FrameType::Acknowledge), a.entry, a.seq);
     Ok(n)
 }
 
@@ -67,7 +67,7 @@ pub fn put_reset(
     let fields = fields_to(node, e.entry, FrameType::Reset, Seq(0));
     let n = put_frame(frame, fields, b"")?;
     queues::unlink(book, x);
-    port::begin(book, type_number(FrameType::Reset), i as u8, Seq(0));
+    port::begin(book, u8::from(FrameType::Reset), i as u8, Seq(0));
     save(node, i, State::Enabled(STANDING, true), e.run);
     Ok(n)
 }
@@ -97,7 +97,7 @@ pub fn put_urgent(
     let spot = spot_of(e.place, e.entry.largest, run.window.size);
     let n = put_frame(frame, fields, part(store, spot, run.urgent as usize))?;
     queues::unlink(book, x);
-    port::begin(book, type_number(FrameType::Urgent), i as u8, Seq(0));
+    port::begin(book, u8::from(FrameType::Urgent), i as u8, Seq(0));
     save(node, i, state, without_urgent(run));
     Ok(n)
 }
@@ -117,7 +117,7 @@ fn put_sent(book: &mut [u16], x: u16, number: Seq)
     cells::put_timer(book, x.saturating_sub(layout::CELL_ID), STANDING);
     port::begin(
         book,
-        type_number(FrameType::Data),
+        u8::from(FrameType::Data),
         entry_of(x) as u8,
         number,
     )

@@ -11,7 +11,7 @@ pub mod states; // states.rt: questions about kind and state, and a run begun an
 ghost use Rattle.std.specs.Prelude.{◌≡◌, ◌<◌, take, drop, [], ◌∷◌};
 ghost use Rattle.memory.specs.Layout.{entry_long, entry_at};
 ghost use Rattle.end_points.specs.Ends.{kind_of, state_of, load_entry, place_in, load_state, load_run, end_of};
-ghost use Rattle.end_points.specs.Ends.{state_words, kind_number, saved, saved_entry};
+ghost use Rattle.end_points.specs.Ends.{state_words, saved, saved_entry};
 
 use memory::{layout, word_at};
 use table::{Entry, Kind};
@@ -200,11 +200,11 @@ pub fn save(node: &mut [u64], i: usize, s: State, r: Run)
     requires { i < 4096 }
     ensures { node.new ≡ saved node.old i s r }
 {
-    let w = state_words(s);
+    let [tag, value, flag] = state_words(s);
     let words = [
-        w.0,
-        w.1,
-        w.2,
+        tag,
+        value,
+        flag,
         r.window.start.0 as u64,
         r.window.marks.0,
         r.window.marks.1,
@@ -221,32 +221,15 @@ pub fn save(node: &mut [u64], i: usize, s: State, r: Run)
     )
 }
 
-// A state in three words.
-#[derive(Clone, Copy)]
-struct Words(u64, u64, u64);
-
-fn state_words(s: State) -> Words
-    ensures { result.0 ∷ result.1 ∷ result.2 ∷ [] ≡ state_words s }
+// The three words of a state.
+fn state_words(s: State) -> [u64; 3]
+    ensures { result ≡ state_words s }
 {
     match s {
-        State::Closed => Words(0, 0, 0),
-        State::Enabled(t, sent) => {
-            if sent {
-                return Words(1, t as u64, 1);
-            }
-            Words(1, t as u64, 0)
-        }
-        State::Open => Words(2, 0, 0),
-        State::Failing(n) => Words(3, n as u64, 0),
-    }
-}
-
-fn kind_word(k: Kind) -> u64
-    ensures { result ≡ kind_number k }
-{
-    match k {
-        Kind::Sends => 0,
-        Kind::Receives => 1,
+        State::Closed => [0, 0, 0],
+        State::Enabled(t, sent) => [1, t as u64, sent as u64],
+        State::Open => [2, 0, 0],
+        State::Failing(n) => [3, n as u64, 0],
     }
 }
 
@@ -256,9 +239,8 @@ pub fn save_entry(node: &mut [u64], i: usize, e: Entry, place: u16)
     requires { i < 4096 }
     ensures { node.new ≡ saved_entry node.old i e place }
 {
-    let kind = e.kind;
     let words = [
-        kind_word(kind),
+        u8::from(e.kind) as u64,
         e.remote.0 as u64,
         e.channel.0 as u64,
         e.retries as u64,

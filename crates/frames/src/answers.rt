@@ -3,7 +3,7 @@ use crate::records::get32;
 use crate::{kinds, records};
 use frame::reading::{payload, read};
 use frame::writing::write;
-use frame::{Fields, Header, type_number};
+use frame::{Fields, Header};
 use lines::sink::Sink;
 use lines::{numbers, refused, value, values};
 use std::io::Write;
@@ -22,7 +22,7 @@ fn taken<W: Write>(to: &mut Sink<W>, out: &mut [u8], at: usize, h: Header, frame
         h.destination.0 as u64,
         h.protocol as u64,
         h.source.0 as u64,
-        type_number(kind) as u64,
+        u8::from(kind) as u64,
         h.channel.0 as u64,
         h.seq.0 as u64,
         h.length as u64,
