@@ -1,5 +1,4 @@
 // What each kind of record prints after its number and kind.
-use crate::records::get32;
 use crate::{kinds, records};
 use frame::reading::{payload, read};
 use frame::writing::write;
@@ -7,7 +6,7 @@ use frame::{Fields, Header};
 use lines::sink::Sink;
 use lines::{numbers, refused, value, values};
 use std::io::Write;
-use units::bytes::byte_at;
+use units::bytes::{byte_at, get32};
 use units::refusals::Refusal;
 use units::{Address, Channel, Seq};
 
@@ -105,7 +104,7 @@ fn writing<W: Write>(
     bytes: &[u8],
     buffer: &mut [u8],
 ) -> usize {
-    let asked = get32(bytes, records::ROOM);
+    let asked = get32(bytes, records::ROOM) as usize;
     if asked < buffer.len() {
         return writing_into(to, out, at, bytes, &mut buffer[0..asked]);
     }
