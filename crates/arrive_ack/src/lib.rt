@@ -3,7 +3,7 @@
 // number; an acknowledgement that is ignored alters nothing.
 #![tactic(auto)]
 
-ghost use Rattle.std.specs.Prelude.{◌≡◌, ◌-◌, ◌<◌};
+ghost use Rattle.std.specs.Prelude.{◌≡◌, ◌<◌};
 ghost use Rattle.end_points.specs.declared.State.TheVariants as state;
 ghost use Rattle.arrive_ack.specs.Acking.{fewer, moved, opened_run, tallied, reset_gone, stopped, ack_answer};
 ghost use Rattle.arrive_ack.specs.Acking.{counted_node, ack_node, ack_book};
@@ -11,8 +11,9 @@ ghost use Rattle.arrive_ack.specs.Acking.{counted_node, ack_node, ack_book};
 use end_points::answers::Was;
 use end_points::states::is_new;
 use end_points::{EndPoint, Run, State, save};
-use memory::{layout, put_word};
+use memory::layout;
 use slots::{cell_of, cells};
+use units::bytes::put;
 use units::{Seq, Unfolded};
 use waiting::queues;
 use window::{Passed, distance};
@@ -24,16 +25,6 @@ struct Tally {
     passed: u8,
 }
 
-// a less b, and 0 where b is more.
-fn less(a: u8, b: u8) -> u8
-    ensures { result ≡ a - b }
-{
-    if a <= b {
-        return 0;
-    }
-    a - b
-}
-
 // The run whose start has passed some numbers.
 fn moved_run(r: Run, p: Passed) -> Run
     ensures { result ≡ moved r p }
@@ -42,10 +33,10 @@ fn moved_run(r: Run, p: Passed) -> Run
     let accepted = r.accepted;
     Run {
         window,
-        taken: less(r.taken, p.run),
-        handed: less(r.handed, p.run),
+        taken: r.taken.saturating_sub(p.run),
+        handed: r.handed.saturating_sub(p.run),
         accepted,
-        confirmed: Unfolded(std::num::wrapping_add_u32(r.confirmed.0, p.run as u32)),
+        confirmed: Unfolded(r.confirmed.0.wrapping_add(p.run as u32)),
         urgent: r.urgent,
     }
 }
@@ -145,12 +136,12 @@ fn put_counted(node: &mut [u64], i: usize, r: Run)
     ensures { node.new ≡ counted_node node.old i r }
 {
     let at = layout::ENTRY_AT + layout::ENTRY_WORDS * i;
-    put_word(node, at + layout::START, r.window.start.0 as u64);
-    put_word(node, at + layout::LOW_MARKS, r.window.marks.0);
-    put_word(node, at + layout::HIGH_MARKS, r.window.marks.1);
-    put_word(node, at + layout::TAKEN, r.taken as u64);
-    put_word(node, at + layout::HANDED, r.handed as u64);
-    put_word(node, at + layout::CONFIRMED, r.confirmed.0 as u64)
+    put(node, at + layout::START, r.window.start.0 as u64);
+    put(node, at + layout::LOW_MARKS, r.window.marks.0);
+    put(node, at + layout::HIGH_MARKS, r.window.marks.1);
+    put(node, at + layout::TAKEN, r.taken as u64);
+    put(node, at + layout::HANDED, r.handed as u64);
+    put(node, at + layout::CONFIRMED, r.confirmed.0 as u64)
 }
 
 // At Open.
@@ -176,10 +167,7 @@ fn fewer_of(t: u16, n: u16) -> u16
     if t == 0 {
         return n;
     }
-    if n == 0 {
-        return 0;
-    }
-    n - 1
+    n.saturating_sub(1)
 }
 
 // At Failing, with the number of timers that still run.

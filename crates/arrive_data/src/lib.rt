@@ -14,10 +14,10 @@ use blocks::{Owner, put_block, put_none, put_one};
 use end_points::answers::Was;
 use end_points::states::{anew_run, is_new};
 use end_points::{EndPoint, State, save};
-use memory::{layout, put_word};
+use memory::layout;
 use slots::{cell_of, cells, slot_for, spot_of};
 use units::Seq;
-use units::bytes::put_all;
+use units::bytes::{put, put_all};
 use waiting::acks;
 use window::Window;
 
@@ -94,9 +94,9 @@ fn put_window(node: &mut [u64], i: usize, w: Window)
     ensures { node.new ≡ window_node node.old i w }
 {
     let at = layout::ENTRY_AT + layout::ENTRY_WORDS * i;
-    put_word(node, at + layout::START, w.start.0 as u64);
-    put_word(node, at + layout::LOW_MARKS, w.marks.0);
-    put_word(node, at + layout::HIGH_MARKS, w.marks.1)
+    put(node, at + layout::START, w.start.0 as u64);
+    put(node, at + layout::LOW_MARKS, w.marks.0);
+    put(node, at + layout::HIGH_MARKS, w.marks.1)
 }
 
 // An Urgent, at Open: it is delivered, and not acknowledged.

@@ -11,20 +11,16 @@ ghost use Rattle.arrive_lookup.specs.Lookup.{row_in, channel_digit, marked, inde
 ghost use Rattle.frame.specs.Types.{for_sender};
 
 use frame::FrameType;
-use memory::{layout, put_word, word_at};
+use memory::{layout, word_at};
 use table::{Entry, Kind};
+use units::bytes::put;
 use units::{Address, Channel};
 
 // Whether frames of a type are for senders.
 fn for_sender(t: FrameType) -> bool
     ensures { result ≡ for_sender t }
 {
-    match t {
-        FrameType::Data => false,
-        FrameType::Acknowledge => true,
-        FrameType::Reset => false,
-        FrameType::Urgent => false,
-    }
+    matches!(t, FrameType::Acknowledge)
 }
 
 // A row of the index: there is one for each byte, which is a channel in one place and an address in another.
@@ -42,7 +38,7 @@ fn sets_in(node: &[u64], v: Row) -> u64
 fn lowest(set: u64) -> u8
     ensures { result ≡ first_from (bit set) 0 16 }
 {
-    u64::trailing_zeros(set | 65536) as u8
+    (set | 65536).trailing_zeros() as u8
 }
 
 // The entry that a frame of a type from a source on a channel is for; 16 where there is none.
@@ -64,7 +60,7 @@ fn mark(node: &mut [u64], v: Row, k: u8)
     ensures { node.new ≡ marked node.old v.0 k }
 {
     let with = sets_in(node, v) | (1 << k);
-    put_word(node, layout::ROW_AT + v.0 as usize, with)
+    put(node, layout::ROW_AT + v.0 as usize, with)
 }
 
 // Entry i's digit in the row of its channel.

@@ -14,8 +14,8 @@ ghost use Rattle.units.specs.Bytes.{be32};
 ghost use Rattle.blocks.specs.Blocks.{offsets_at, offset_bytes, block_of, takes};
 ghost use Rattle.blocks.specs.Payloads.{payload_at, payloads};
 
-use slots::{cell_of, cells, part, slot_for, spot_of};
-use units::bytes::{put_all, put16, put32};
+use slots::{cell_of, cells, slot_for, spot_of};
+use units::bytes::{part, put_all, put16, put32};
 use window::{Window, advance};
 
 // Whose payloads they are: the entry, where its area of the store begins, P, and its window.

@@ -44,10 +44,7 @@ fn block_room(node: &[u64], i: u8) -> usize
 fn acks_full(t: FrameType, n: u8) -> bool
     ensures { result ≡ answered t && leb ack_places n }
 {
-    if is_answered(t) {
-        return acks::MOST <= n;
-    }
-    false
+    is_answered(t) && acks::MOST <= n
 }
 
 // Data and Urgent, with a payload of n bytes, for entry i, which is not Closed.

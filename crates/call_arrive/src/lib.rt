@@ -16,7 +16,7 @@ use arrive_ack::acknowledge;
 use arrive_data::{take_data, take_reset, take_urgent};
 use arrive_lookup::entry_for;
 use end_points::answers::{Arrival, Was};
-use end_points::{EndPoint, heads, load_entry, load_place, load_run, load_state};
+use end_points::{EndPoint, heads, load};
 use frame::reading::{header, is_sound, payload};
 use frame::{FrameType, layout};
 use judging::judge;
@@ -29,10 +29,7 @@ fn is_ours(node: &[u64], frame: &[u8]) -> bool
     ensures { result ≡ ours node.now frame.now }
 {
     let destination = Address(byte_at(frame, layout::DESTINATION));
-    if destination.is(heads::own(node)) {
-        return byte_at(frame, layout::PROTOCOL) == heads::protocol(node);
-    }
-    false
+    destination == heads::own(node) && byte_at(frame, layout::PROTOCOL) == heads::protocol(node)
 }
 
 // Entry i, which is e, takes in a frame of type t, number s and payload.
@@ -63,25 +60,6 @@ fn take(
     }
 }
 
-// End point i as `load` reads it. It has one caller, so that the compiler reads there what the caller uses and no more:
-// `load` has many, and hands over the whole by way of memory.
-#[tactic(auto, unfolding(end_points::specs::Ends::end_of))]
-fn read_end(node: &[u64], i: usize) -> EndPoint
-    requires { i < 4096 }
-    ensures { result ≡ end_of node.now i }
-{
-    let entry = load_entry(node, i);
-    let place = load_place(node, i);
-    let state = load_state(node, i);
-    let run = load_run(node, i, (entry.window % 256) as u8);
-    EndPoint {
-        entry,
-        place,
-        state,
-        run,
-    }
-}
-
 // A frame of type t, with a payload of n bytes by its header and number s, comes to entry i. It takes these apart and
 // not the `Header`, which would be packed into a word and unpacked again.
 fn come(
@@ -107,7 +85,7 @@ fn come(
         ≡ after_as v x (taken_in_after x i e t s.0 payload.now) }
 {
     judge(node, i, t, n, store.len(), out.len())?;
-    let e = read_end(node, i as usize);
+    let e = load(node, i as usize);
     let was = take(node, book, store, out, i, e, t, s, payload);
     Ok(Arrival { entry: i, was })
 }

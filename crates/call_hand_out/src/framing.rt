@@ -6,7 +6,7 @@ ghost use Rattle.call_hand_out.specs.Handing.{fields_to, fitted, once};
 
 use end_points::heads;
 use frame::writing::emit;
-use frame::{Fields, FrameType, layout, type_number};
+use frame::{Fields, FrameType, layout};
 use table::Entry;
 use units::Seq;
 use units::refusals::Refusal;
@@ -22,7 +22,7 @@ pub fn fields_to(node: &[u64], e: Entry, t: FrameType, s: Seq) -> Fields
         destination,
         protocol: heads::protocol(node),
         source: heads::own(node),
-        kind: type_number(t),
+        kind: u8::from(t),
         user: 0,
         channel,
         seq: s,

@@ -1,5 +1,5 @@
 // Each sort of what waits, handed out: its frame into the buffer, and what that leaves of node and book.
-ghost use Rattle.std.specs.Prelude.{◌≡◌, ◌-◌, ◌<◌};
+ghost use Rattle.std.specs.Prelude.{◌≡◌, ◌<◌};
 ghost use Rattle.std.proofs.lemmas.List.Edits.{sets};
 ghost use Rattle.units.specs.Refusals.{pick};
 ghost use Rattle.waiting.specs.Queues.{unlinked};
@@ -13,25 +13,16 @@ ghost use Rattle.frame.specs.declared.FrameType.TheVariants as type;
 
 use super::framing::{fields_to, put_frame};
 use end_points::states::without_urgent;
-use end_points::{Run, State, load, load_entry, load_place, load_run, save};
-use frame::{FrameType, type_number};
-use memory::{layout, put_word};
-use slots::{cells, number_in, part, spot_of};
+use end_points::{Run, State, load, load_entry, load_place, run_of, save};
+use frame::FrameType;
+use memory::layout;
+use slots::{cells, number_in, spot_of};
 use timing::STANDING;
 use units::Seq;
+use units::bytes::{part, put};
 use units::refusals::Refusal;
 use waiting::acks::Ack;
 use waiting::{acks, port, queues};
-
-// a less b, and 0 where b is more.
-fn less(a: u16, b: u16) -> u16
-    ensures { result ≡ a - b }
-{
-    if a <= b {
-        return 0;
-    }
-    a - b
-}
 
 // An acknowledgement.
 #[tactic(auto, unfolding(crate::specs::Handing::ack_frame, end_points::specs::Ends::end_of))]
@@ -52,7 +43,7 @@ pub fn put_ack(
     let fields = fields_to(node, entry, FrameType::Acknowledge, a.seq);
     let n = put_frame(frame, fields, b"")?;
     acks::pop(node);
-    port::begin(book, type_number(FrameType::Acknowledge), a.entry, a.seq);
+    port::begin(book, u8::from(FrameType::Acknowledge), a.entry, a.seq);
     Ok(n)
 }
 
@@ -72,12 +63,12 @@ pub fn put_reset(
     ensures frame { frame.new ≡ once result frame.old
         (sets frame.old 0 (reset_frame node.old x)) }
 {
-    let i = (less(x, layout::RESET_ID) % 256) as usize;
+    let i = (x.saturating_sub(layout::RESET_ID) % 256) as usize;
     let e = load(node, i);
     let fields = fields_to(node, e.entry, FrameType::Reset, Seq(0));
     let n = put_frame(frame, fields, b"")?;
     queues::unlink(book, x);
-    port::begin(book, type_number(FrameType::Reset), i as u8, Seq(0));
+    port::begin(book, u8::from(FrameType::Reset), i as u8, Seq(0));
     save(node, i, State::Enabled(STANDING, true), e.run);
     Ok(n)
 }
@@ -99,7 +90,7 @@ pub fn put_urgent(
     ensures frame { frame.new ≡ once result frame.old
         (sets frame.old 0 (urgent_frame node.old store.now x)) }
 {
-    let i = (less(x, layout::URGENT_ID) % 256) as usize;
+    let i = (x.saturating_sub(layout::URGENT_ID) % 256) as usize;
     let e = load(node, i);
     let state = e.state;
     let run = e.run;
@@ -107,7 +98,7 @@ pub fn put_urgent(
     let spot = spot_of(e.place, e.entry.largest, run.window.size);
     let n = put_frame(frame, fields, part(store, spot, run.urgent as usize))?;
     queues::unlink(book, x);
-    port::begin(book, type_number(FrameType::Urgent), i as u8, Seq(0));
+    port::begin(book, u8::from(FrameType::Urgent), i as u8, Seq(0));
     save(node, i, state, without_urgent(run));
     Ok(n)
 }
@@ -116,16 +107,7 @@ pub fn put_urgent(
 fn entry_of(x: u16) -> usize
     ensures { result ≡ id_entry x }
 {
-    (less(x, layout::CELL_ID) / layout::CELLS % 256) as usize
-}
-
-// The run of entry i.
-#[tactic(auto, unfolding(end_points::specs::Ends::end_of))]
-fn run_of(node: &[u64], i: usize) -> Run
-    requires { i < 4096 }
-    ensures { result ≡ (end_of node.now i).run }
-{
-    load_run(node, i, (load_entry(node, i).window % 256) as u8)
+    (x.saturating_sub(layout::CELL_ID) / layout::CELLS % 256) as usize
 }
 
 // The slot that is x in its queue waits no more: its timer stands, and its frame, with this number, is under way.
@@ -133,10 +115,10 @@ fn put_sent(book: &mut [u16], x: u16, number: Seq)
     ensures { book.new ≡ sent (stood book.old x) type.Data (id_entry x) number.0 }
 {
     queues::unlink(book, x);
-    cells::put_timer(book, less(x, layout::CELL_ID), STANDING);
+    cells::put_timer(book, x.saturating_sub(layout::CELL_ID), STANDING);
     port::begin(
         book,
-        type_number(FrameType::Data),
+        u8::from(FrameType::Data),
         entry_of(x) as u8,
         number,
     )
@@ -148,11 +130,7 @@ fn put_handed(node: &mut [u64], i: usize, r: Run)
     ensures { node.new ≡ handed_node node.old i r }
 {
     let at = layout::ENTRY_AT + layout::ENTRY_WORDS * i;
-    put_word(
-        node,
-        at + layout::HANDED,
-        std::num::wrapping_add_u8(r.handed, 1) as u64,
-    )
+    put(node, at + layout::HANDED, r.handed.wrapping_add(1) as u64)
 }
 
 // The number that is x in its queue: with FIRST as data, so that one number more is handed out, else again.
@@ -174,7 +152,7 @@ pub fn put_number<const FIRST: bool>(
         (sets frame.old 0 (data_frame node.old book.old store.now x)) }
 {
     let i = entry_of(x);
-    let g = less(x, layout::CELL_ID);
+    let g = x.saturating_sub(layout::CELL_ID);
     let slot = (g % layout::CELLS) as u8;
     let entry = load_entry(node, i);
     let run = run_of(node, i);

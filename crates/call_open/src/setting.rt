@@ -11,10 +11,11 @@ ghost use Rattle.call_open.specs.Setup.{need_answer, setup_answer, setup_after, 
 
 use arrive_lookup::put_in_index;
 use end_points::{Run, State, save, save_entry};
-use memory::{layout, put_half, put_words};
+use memory::layout;
 use table::Entry;
 use timing::ROUND;
 use units::Unfolded;
+use units::bytes::{put, put_all};
 use units::refusals::Refusal;
 use waiting::port;
 use window::Window;
@@ -75,7 +76,7 @@ fn put_head(node: &mut [u64], table: &[u8])
         0,
         ROUND as u64,
     ];
-    put_words(node, layout::COUNT_AT, &words)
+    put_all(node, layout::COUNT_AT, &words)
 }
 
 // The entries, each Closed, at their places in the store.
@@ -134,6 +135,6 @@ fn empty(book: &mut [u16])
 fn empty_queue(book: &mut [u16], q: u16)
     ensures { book.new ≡ joined book.old q q }
 {
-    put_half(book, q as usize, q);
-    put_half(book, layout::PREV_AT + q as usize, q)
+    put(book, q as usize, q);
+    put(book, layout::PREV_AT + q as usize, q)
 }

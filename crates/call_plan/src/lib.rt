@@ -19,8 +19,9 @@ use call_send::judging::judge_send;
 use call_send::lay;
 use end_points::answers::Plan;
 use end_points::{EndPoint, heads, load};
-use memory::{layout, put_word, word_at};
+use memory::{layout, word_at};
 use units::Unfolded;
+use units::bytes::put;
 use units::refusals::Refusal;
 
 // The host hands over a plan.
@@ -152,6 +153,6 @@ fn put_accepted(node: &mut [u64], i: usize, n: u8)
     let at = layout::ENTRY_AT + layout::ENTRY_WORDS * i;
     let taken = word_at(node, at + layout::TAKEN) % 256;
     let accepted = word_at(node, at + layout::ACCEPTED) % 4294967296;
-    put_word(node, at + layout::TAKEN, taken + n as u64);
-    put_word(node, at + layout::ACCEPTED, accepted + n as u64)
+    put(node, at + layout::TAKEN, taken + n as u64);
+    put(node, at + layout::ACCEPTED, accepted + n as u64)
 }

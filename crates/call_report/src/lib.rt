@@ -15,23 +15,11 @@ ghost use Rattle.end_points.specs.Lent.{bare};
 ghost use Rattle.end_points.specs.declared.State.TheVariants as state;
 ghost use Rattle.call_report.specs.Reporting.{report_answer, report_after, data_starts, started_node, started_book};
 
-use end_points::{Run, State, load_entry, load_run, load_state, save};
+use end_points::{Run, State, load_entry, load_state, run_of, save};
 use slots::{cell_of, cells};
 use units::refusals::Refusal;
 use waiting::port;
 use window::distance;
-
-// The run of entry i.
-#[tactic(auto, unfolding(end_points::specs::Ends::end_of))]
-fn run_of(node: &[u64], i: u8) -> Run
-    ensures { result ≡ (end_of node.now i).run }
-{
-    load_run(
-        node,
-        i as usize,
-        (load_entry(node, i as usize).window % 256) as u8,
-    )
-}
 
 // The cell whose timer of Data starts at its end: where its number is still handed out and its timer stands.
 fn data_start(book: &[u16], i: u8, r: Run, u: u16) -> Option<u16>
@@ -78,7 +66,7 @@ fn at_enabled(node: &mut [u64], book: &[u16], i: u8, d: u16, sent: bool, u: u16)
     }
     let timeout = load_entry(node, i as usize).timeout;
     let over = timing::later(timing::clock(node), timeout);
-    let run = run_of(node, i);
+    let run = run_of(node, i as usize);
     save(node, i as usize, State::Enabled(over, true), run);
     timing::heed(node, timeout)
 }
@@ -91,7 +79,7 @@ fn at_open(node: &mut [u64], book: &mut [u16], i: u8, u: u16)
     ensures book { book.new ≡ started_book node.old book.old i
         (end_of node.old i) state.Open u }
 {
-    let run = run_of(node, i);
+    let run = run_of(node, i as usize);
     let Some(g) = data_start(book, i, run, u) else {
         return;
     };
@@ -107,7 +95,7 @@ fn at_failing(node: &mut [u64], book: &mut [u16], i: u8, n: u16, u: u16)
     ensures book { book.new ≡ started_book node.old book.old i
         (end_of node.old i) (state.Failing n) u }
 {
-    let run = run_of(node, i);
+    let run = run_of(node, i as usize);
     if let Some(g) = data_start(book, i, run, u) {
         start_data(node, book, i, g);
     }

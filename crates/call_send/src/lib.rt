@@ -7,42 +7,20 @@
 pub mod judging; // judging.rt: which of the two calls are refused
 
 ghost use Rattle.std.specs.Prelude.{◌≡◌, ◌<◌, length};
-ghost use Rattle.end_points.specs.Ends.{end_of};
 ghost use Rattle.slots.specs.Slots.{cell};
 ghost use Rattle.end_points.specs.Lent.{stored};
 ghost use Rattle.call_send.specs.Sending.{send_answer, send_after, sent_node, sent_book, urgent_answer, urgent_after};
 ghost use Rattle.call_send.specs.Sending.{laid_book, laid_store, urgent_run};
 
-use end_points::{
-    EndPoint, Run, State, heads, load, load_entry, load_place, load_run, load_state, save,
-};
+use end_points::{EndPoint, Run, State, heads, load, save};
 use judging::{judge_send, judge_urgent};
-use memory::{layout, put_word};
+use memory::layout;
 use slots::{cell_of, cells, slot_for, spot_of};
 use units::Seq;
-use units::bytes::put_all;
+use units::bytes::{put, put_all};
 use units::refusals::Refusal;
 use waiting::queues;
 use window::{Window, advance};
-
-// End point i as `load` reads it. It has one caller, so that the compiler reads there what the caller uses and no more:
-// `load` has many, and hands over the whole by way of memory.
-#[tactic(auto, unfolding(end_points::specs::Ends::end_of))]
-fn read_end(node: &[u64], i: usize) -> EndPoint
-    requires { i < 4096 }
-    ensures { result ≡ end_of node.now i }
-{
-    let entry = load_entry(node, i);
-    let place = load_place(node, i);
-    let state = load_state(node, i);
-    let run = load_run(node, i, (entry.window % 256) as u8);
-    EndPoint {
-        entry,
-        place,
-        state,
-        run,
-    }
-}
 
 // The host sends a payload: it takes the next sequence number and waits as data.
 #[tactic(auto, unfolding(crate::specs::Sending::send_answer, crate::specs::Sending::send_after))]
@@ -62,7 +40,7 @@ pub fn send(
     if heads::count(node) as usize <= index {
         return Err(Refusal::NoEntry);
     }
-    let e = read_end(node, index);
+    let e = load(node, index);
     judge_send(e, payload.len(), store.len(), heads::need(node))?;
     lay(book, store, index as u8, e, payload);
     put_sent(node, index, e.run);
@@ -121,8 +99,8 @@ fn put_sent(node: &mut [u64], i: usize, r: Run)
     ensures { node.new ≡ sent_node node.old i r }
 {
     let at = layout::ENTRY_AT + layout::ENTRY_WORDS * i;
-    put_word(node, at + layout::TAKEN, (r.taken + 1) as u64);
-    put_word(node, at + layout::ACCEPTED, (r.accepted.0 + 1) as u64)
+    put(node, at + layout::TAKEN, (r.taken + 1) as u64);
+    put(node, at + layout::ACCEPTED, (r.accepted.0 + 1) as u64)
 }
 
 // The run with an Urgent of n bytes waiting.

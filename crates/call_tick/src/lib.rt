@@ -17,11 +17,10 @@ ghost use Rattle.call_tick.specs.Ticking.{scan_of, tick_answer, tick_after};
 ghost use Rattle.end_points.specs.States.{is_over};
 
 use end_points::states::{anew_run, is_open, without_urgent};
-use end_points::{
-    EndPoint, State, heads, load, load_entry, load_place, load_run, load_state, save,
-};
+use end_points::{State, heads, load, load_state, run_of, save};
 use memory::layout;
 use timers::tick_slots;
+use units::limits;
 use waiting::{port, queues};
 
 // In tick c entry i at Enabled, with its Reset's timer running out at tick d: then the Reset waits again. While it is
@@ -48,29 +47,10 @@ fn tick_enabled(
     if d != c {
         return timing::soonest(least, c, d);
     }
-    let run = load(node, i as usize).run;
+    let run = run_of(node, i as usize);
     save(node, i as usize, State::Enabled(0, sent), run);
     queues::append(book, layout::RESETS, layout::RESET_ID + i as u16);
     least
-}
-
-// End point i as `load` reads it. It has one caller, as `tick_sent` and all that it calls have, so that the compiler
-// reads there what is used, where it is used: of an end that has handed nothing out no more than that.
-#[tactic(auto, unfolding(end_points::specs::Ends::end_of))]
-fn read_end(node: &[u64], i: usize) -> EndPoint
-    requires { i < 4096 }
-    ensures { result ≡ end_of node.now i }
-{
-    let entry = load_entry(node, i);
-    let place = load_place(node, i);
-    let state = load_state(node, i);
-    let run = load_run(node, i, (entry.window % 256) as u8);
-    EndPoint {
-        entry,
-        place,
-        state,
-        run,
-    }
 }
 
 // Entry i at Open or Failing: an open end is Failing from now on where a number's retries are spent, and only then does
@@ -82,15 +62,15 @@ fn tick_sent(node: &mut [u64], book: &mut [u16], i: u8, c: u16, failing: bool, l
         let t = ticked c i e failing book.old least in
         scan_of node.new book.new result ≡ pick failing (tick_failing y i e t) (tick_open y i e t) }
 {
-    let e = read_end(node, i as usize);
+    let e = load(node, i as usize);
     let t = tick_slots(book, i, e, c, failing, least);
     if failing {
-        let run = load(node, i as usize).run;
+        let run = run_of(node, i as usize);
         save(node, i as usize, State::Failing(t.running as u16), run);
         return t.least;
     }
     if t.failing {
-        let run = without_urgent(load(node, i as usize).run);
+        let run = without_urgent(run_of(node, i as usize));
         save(node, i as usize, State::Failing(t.running as u16), run);
         return t.least;
     }
@@ -146,7 +126,7 @@ fn recover(node: &mut [u64], book: &mut [u16], i: u8, bits: u16) -> u16
         if port::is_own(book, i) {
             return bits;
         }
-        let run = anew_run(load(node, i as usize).run);
+        let run = anew_run(run_of(node, i as usize));
         save(node, i as usize, State::Enabled(0, false), run);
         queues::append(book, layout::RESETS, layout::RESET_ID + i as u16);
         return bits + (1 << i);
@@ -172,7 +152,7 @@ fn recover_all(node: &mut [u64], book: &mut [u16], n: u8) -> u16
 fn entries(node: &[u64]) -> u8
     ensures { result ≡ entries_of (bare node.now []) }
 {
-    heads::count(node).min(16)
+    heads::count(node).min(limits::ENTRIES)
 }
 
 // Tick c, where a timer can run out.
@@ -185,7 +165,7 @@ fn scan(node: &mut [u64], book: &mut [u16], c: u16) -> u16
     let n = entries(node);
     let least = tick_entries(node, book, n, c);
     let bits = recover_all(node, book, n);
-    timing::pass(node, c, timing::one_less(least));
+    timing::pass(node, c, least.saturating_sub(1) as u64);
     bits
 }
 

@@ -6,8 +6,9 @@ ghost use Rattle.memory.specs.Layout.{timer_at};
 ghost use Rattle.call_tick.specs.Ticking.{expired, tick_cell, stood_cell, tick_slot, ticked};
 
 use end_points::EndPoint;
-use memory::{half_at, layout, put_half};
+use memory::{half_at, layout};
 use slots::{idle, slot_for};
+use units::bytes::put;
 use waiting::{port, queues};
 use window::advance;
 
@@ -25,7 +26,7 @@ fn stop(book: &mut [u16], g: usize)
     requires { g < 33024 }
     ensures { book.new ≡ set book.old (timer_at g) 0 }
 {
-    put_half(book, layout::TIMER_AT + g, 0)
+    put(book, layout::TIMER_AT + g, 0)
 }
 
 // The timer of cell g comes to zero.
@@ -48,7 +49,7 @@ fn expire(book: &mut [u16], i: u8, e: EndPoint, g: usize, t: Timers) -> Timers
     let retries = half_at(book, layout::RETRIES_AT + g);
     if retries < e.entry.retries as u16 {
         stop(book, g);
-        put_half(book, layout::RETRIES_AT + g, retries + 1);
+        put(book, layout::RETRIES_AT + g, retries + 1);
         queues::append(book, layout::RESENDS, layout::CELL_ID + g as u16);
         return Timers {
             failing: false,

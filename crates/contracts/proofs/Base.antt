@@ -1,14 +1,15 @@
 -- One outcome: the base: units, the check byte, the window, the table, frames. A theorem a function, over its
 -- contract's own text. Assumes nothing.
+use Rattle.units.proofs.bytes.get_or.Reads as units_get_or
 use Rattle.units.proofs.bytes.byte_at.Reads as units_byte_at
+use Rattle.units.proofs.bytes.part.Reads as units_part
+use Rattle.units.proofs.bytes.put.Reads as units_put
+use Rattle.units.proofs.bytes.put_all.Reads as units_put_all
 use Rattle.units.proofs.bytes.get16.Reads as units_get16
 use Rattle.units.proofs.bytes.get32.Reads as units_get32
-use Rattle.units.proofs.bytes.part.Reads as units_part
-use Rattle.units.proofs.bytes.put8.Reads as units_put8
 use Rattle.units.proofs.bytes.put16.Reads as units_put16
 use Rattle.units.proofs.bytes.put32.Reads as units_put32
 use Rattle.units.proofs.bytes.least.Reads as units_least
-use Rattle.units.proofs.bytes.put_all.Reads as units_put_all
 use Rattle.units.proofs.Address.is.Reads as units_is
 use Rattle.units.proofs.refusals.U8FromRefusal.from.Reads as units_number
 use Rattle.units.proofs.sizes.default_size.Reads as units_default_size
@@ -26,6 +27,7 @@ use Rattle.window.proofs.Window.pass.Reads as window_pass
 use Rattle.window.proofs.Window.reset.Reads as window_reset
 use Rattle.window.proofs.Window.held_count.Reads as window_held_count
 use Rattle.table.proofs.area.Reads as table_area
+use Rattle.table.proofs.layout.U8FromKind.from.Reads as table_byte
 use Rattle.table.proofs.store_need.Reads as table_store_need
 use Rattle.table.proofs.count.Reads as table_count
 use Rattle.table.proofs.own.Reads as table_own
@@ -38,7 +40,7 @@ use Rattle.frame.proofs.reading.header.Reads as frame_header
 use Rattle.frame.proofs.reading.read.Reads as frame_read
 use Rattle.frame.proofs.reading.payload.Reads as frame_payload
 use Rattle.frame.proofs.types.FrameTypeTryFromU8.try_from.Reads as frame_known
-use Rattle.frame.proofs.type_number.Reads as frame_type_number
+use Rattle.frame.proofs.types.U8FromFrameType.from.Reads as frame_type_number
 use Rattle.frame.proofs.writing.emit.Reads as frame_emit
 use Rattle.frame.proofs.writing.write.Reads as frame_write
 use Rattle.contracts.specs.Outcome.{One, OneAnswer, OneAfter}
@@ -51,14 +53,8 @@ units_byte_at_one u v a r₁ r₂ e₁ e₂ p q = cc
 pub units_get32_one : OneAnswer units_get32.Post (λ r. r)
 units_get32_one u v a r₁ r₂ e₁ e₂ p q = cc
 
-pub units_part_one : OneAnswer units_part.Post (λ r. r.now)
-units_part_one u v a r₁ r₂ e₁ e₂ p q = cc
-
 pub units_get16_one : OneAnswer units_get16.Post (λ r. r)
 units_get16_one u v a r₁ r₂ e₁ e₂ p q = cc
-
-pub units_put8_one : OneAfter units_put8.Post (λ e. e.0.now)
-units_put8_one u v a r₁ r₂ e₁ e₂ p q = cc
 
 pub units_put16_one : OneAfter units_put16.Post (λ e. e.0.now)
 units_put16_one u v a r₁ r₂ e₁ e₂ p q = cc
@@ -68,9 +64,6 @@ units_put32_one u v a r₁ r₂ e₁ e₂ p q = cc
 
 pub units_least_one : OneAnswer units_least.Post (λ r. r)
 units_least_one u v a r₁ r₂ e₁ e₂ p q = cc
-
-pub units_put_all_one : OneAfter units_put_all.Post (λ e. e.0.now)
-units_put_all_one u v a r₁ r₂ e₁ e₂ p q = cc
 
 pub units_is_one : OneAnswer units_is.Post (λ r. r)
 units_is_one u v a r₁ r₂ e₁ e₂ p q = cc
@@ -128,6 +121,9 @@ window_held_count_one u v a r₁ r₂ e₁ e₂ p q = cc
 
 pub table_area_one : OneAnswer table_area.Post (λ r. r)
 table_area_one u v a r₁ r₂ e₁ e₂ p q = cc
+
+pub table_byte_one : OneAnswer table_byte.Post (λ r. r)
+table_byte_one u v a r₁ r₂ e₁ e₂ p q = cc
 
 pub table_store_need_one : OneAnswer table_store_need.Post (λ r. r)
 table_store_need_one u v a r₁ r₂ e₁ e₂ p q = cc

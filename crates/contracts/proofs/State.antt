@@ -1,10 +1,7 @@
 -- One outcome: the state's crates: memory, what waits, timers, end points, slots. A theorem a function, over its
 -- contract's own text. Assumes nothing.
 use Rattle.memory.proofs.word_at.Reads as memory_word_at
-use Rattle.memory.proofs.put_word.Reads as memory_put_word
 use Rattle.memory.proofs.half_at.Reads as memory_half_at
-use Rattle.memory.proofs.put_half.Reads as memory_put_half
-use Rattle.memory.proofs.put_words.Reads as memory_put_words
 use Rattle.waiting.proofs.acks.waiting.Reads as waiting_waiting
 use Rattle.waiting.proofs.acks.oldest.Reads as waiting_oldest
 use Rattle.waiting.proofs.acks.push.Reads as waiting_push
@@ -27,7 +24,6 @@ use Rattle.timing.proofs.quiet.Reads as timing_quiet
 use Rattle.timing.proofs.later.Reads as timing_later
 use Rattle.timing.proofs.left.Reads as timing_left
 use Rattle.timing.proofs.soonest.Reads as timing_soonest
-use Rattle.timing.proofs.one_less.Reads as timing_one_less
 use Rattle.timing.proofs.pass.Reads as timing_pass
 use Rattle.timing.proofs.heed.Reads as timing_heed
 use Rattle.timing.proofs.rouse.Reads as timing_rouse
@@ -43,6 +39,7 @@ use Rattle.end_points.proofs.load_place.Reads as end_points_load_place
 use Rattle.end_points.proofs.load_state.Reads as end_points_load_state
 use Rattle.end_points.proofs.load_run.Reads as end_points_load_run
 use Rattle.end_points.proofs.load.Reads as end_points_load
+use Rattle.end_points.proofs.run_of.Reads as end_points_run_of
 use Rattle.end_points.proofs.save.Reads as end_points_save
 use Rattle.end_points.proofs.save_entry.Reads as end_points_save_entry
 use Rattle.end_points.proofs.states.is_sends.Reads as end_points_is_sends
@@ -60,7 +57,6 @@ use Rattle.slots.proofs.slot_for.Reads as slots_slot_for
 use Rattle.slots.proofs.cell_of.Reads as slots_cell_of
 use Rattle.slots.proofs.spot_of.Reads as slots_spot_of
 use Rattle.slots.proofs.number_in.Reads as slots_number_in
-use Rattle.slots.proofs.part.Reads as slots_part
 use Rattle.slots.proofs.waits.Reads as slots_waits
 use Rattle.slots.proofs.drop_slots.Reads as slots_drop_slots
 use Rattle.slots.proofs.idle.Reads as slots_idle
@@ -71,17 +67,8 @@ use Rattle.contracts.specs.Outcome.{OneAnswer, OneAfter}
 pub memory_word_at_one : OneAnswer memory_word_at.Post (λ r. r)
 memory_word_at_one u v a r₁ r₂ e₁ e₂ p q = cc
 
-pub memory_put_word_one : OneAfter memory_put_word.Post (λ e. e.0.now)
-memory_put_word_one u v a r₁ r₂ e₁ e₂ p q = cc
-
 pub memory_half_at_one : OneAnswer memory_half_at.Post (λ r. r)
 memory_half_at_one u v a r₁ r₂ e₁ e₂ p q = cc
-
-pub memory_put_half_one : OneAfter memory_put_half.Post (λ e. e.0.now)
-memory_put_half_one u v a r₁ r₂ e₁ e₂ p q = cc
-
-pub memory_put_words_one : OneAfter memory_put_words.Post (λ e. e.0.now)
-memory_put_words_one u v a r₁ r₂ e₁ e₂ p q = cc
 
 -- ---- waiting
 
@@ -153,9 +140,6 @@ timing_left_one u v a r₁ r₂ e₁ e₂ p q = cc
 pub timing_soonest_one : OneAnswer timing_soonest.Post (λ r. r)
 timing_soonest_one u v a r₁ r₂ e₁ e₂ p q = cc
 
-pub timing_one_less_one : OneAnswer timing_one_less.Post (λ r. r)
-timing_one_less_one u v a r₁ r₂ e₁ e₂ p q = cc
-
 pub timing_pass_one : OneAfter timing_pass.Post (λ e. e.0.now)
 timing_pass_one u v a r₁ r₂ e₁ e₂ p q = cc
 
@@ -199,6 +183,9 @@ end_points_load_state_one u v a r₁ r₂ e₁ e₂ p q = cc
 
 pub end_points_load_run_one : OneAnswer end_points_load_run.Post (λ r. r)
 end_points_load_run_one u v a r₁ r₂ e₁ e₂ p q = cc
+
+pub end_points_run_of_one : OneAnswer end_points_run_of.Post (λ r. r)
+end_points_run_of_one u v a r₁ r₂ e₁ e₂ p q = cc
 
 pub end_points_load_one : OneAnswer end_points_load.Post (λ r. r)
 end_points_load_one u v a r₁ r₂ e₁ e₂ p q = cc
@@ -255,9 +242,6 @@ slots_spot_of_one u v a r₁ r₂ e₁ e₂ p q = cc
 
 pub slots_number_in_one : OneAnswer slots_number_in.Post (λ r. r.0)
 slots_number_in_one u v a r₁ r₂ e₁ e₂ p q = cc
-
-pub slots_part_one : OneAnswer slots_part.Post (λ r. r.now)
-slots_part_one u v a r₁ r₂ e₁ e₂ p q = cc
 
 pub slots_waits_one : OneAnswer slots_waits.Post (λ r. r)
 slots_waits_one u v a r₁ r₂ e₁ e₂ p q = cc

@@ -41,7 +41,7 @@ pub struct Arrival {
     pub was: Was,
 }
 
-// A state's number: Closed, Enabled, Open, Failing.
+// A state's number: Closed, Enabled, Open, Failing. Not a `From`: a timer is not in it.
 pub fn state_number(s: State) -> u8
     ensures { result ≡ state_number s }
 {
@@ -53,7 +53,7 @@ pub fn state_number(s: State) -> u8
     }
 }
 
-// What a frame was, as a number: ignored, acknowledged, opened, Reset, Data, Urgent.
+// What a frame was, as a number: ignored, acknowledged, opened, Reset, Data, Urgent. Not a `From`: the value is not in it.
 pub fn what(w: Was) -> u8
     ensures { result ≡ what_of w }
 {

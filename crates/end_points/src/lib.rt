@@ -11,10 +11,11 @@ pub mod states; // states.rt: questions about kind and state, and a run begun an
 ghost use Rattle.std.specs.Prelude.{◌≡◌, ◌<◌, take, drop, [], ◌∷◌};
 ghost use Rattle.memory.specs.Layout.{entry_long, entry_at};
 ghost use Rattle.end_points.specs.Ends.{kind_of, state_of, load_entry, place_in, load_state, load_run, end_of};
-ghost use Rattle.end_points.specs.Ends.{state_words, kind_number, saved, saved_entry};
+ghost use Rattle.end_points.specs.Ends.{state_words, saved, saved_entry};
 
-use memory::{layout, put_words, word_at};
+use memory::{layout, word_at};
 use table::{Entry, Kind};
+use units::bytes::{part, put_all};
 use units::{Address, Channel, Seq, Unfolded};
 use window::{Marks, Window};
 
@@ -83,15 +84,11 @@ fn words_of(node: &[u64], i: usize) -> &[u64]
     requires { i < 4096 }
     ensures { result.now ≡ take entry_long (drop (entry_at i) node.now) }
 {
-    let at = layout::ENTRY_AT + layout::ENTRY_WORDS * i;
-    let end = at + layout::ENTRY_WORDS;
-    if end <= node.len() {
-        return &node[at..end];
-    }
-    if at <= node.len() {
-        return &node[at..];
-    }
-    &node[0..0]
+    part(
+        node,
+        layout::ENTRY_AT + layout::ENTRY_WORDS * i,
+        layout::ENTRY_WORDS,
+    )
 }
 
 // What the table says of entry i.
@@ -168,8 +165,19 @@ pub fn load_run(node: &[u64], i: usize, size: u8) -> Run
     }
 }
 
-// End point i.
+// The run of end point i.
 #[tactic(auto, unfolding(crate::specs::Ends::end_of))]
+pub fn run_of(node: &[u64], i: usize) -> Run
+    requires { i < 4096 }
+    ensures { result ≡ (end_of node.now i).run }
+{
+    load_run(node, i, (load_entry(node, i).window % 256) as u8)
+}
+
+// End point i. The compiler is told to take it in, so that it reads at each call what is used there and no more: else
+// the whole is handed over by way of memory.
+#[tactic(auto, unfolding(crate::specs::Ends::end_of))]
+#[inline(always)]
 pub fn load(node: &[u64], i: usize) -> EndPoint
     requires { i < 4096 }
     ensures { result ≡ end_of node.now i }
@@ -192,11 +200,11 @@ pub fn save(node: &mut [u64], i: usize, s: State, r: Run)
     requires { i < 4096 }
     ensures { node.new ≡ saved node.old i s r }
 {
-    let w = state_words(s);
+    let [tag, value, flag] = state_words(s);
     let words = [
-        w.0,
-        w.1,
-        w.2,
+        tag,
+        value,
+        flag,
         r.window.start.0 as u64,
         r.window.marks.0,
         r.window.marks.1,
@@ -206,39 +214,22 @@ pub fn save(node: &mut [u64], i: usize, s: State, r: Run)
         r.confirmed.0 as u64,
         r.urgent as u64,
     ];
-    put_words(
+    put_all(
         node,
         layout::ENTRY_AT + layout::ENTRY_WORDS * i + layout::STATE,
         &words,
     )
 }
 
-// A state in three words.
-#[derive(Clone, Copy)]
-struct Words(u64, u64, u64);
-
-fn state_words(s: State) -> Words
-    ensures { result.0 ∷ result.1 ∷ result.2 ∷ [] ≡ state_words s }
+// The three words of a state.
+fn state_words(s: State) -> [u64; 3]
+    ensures { result ≡ state_words s }
 {
     match s {
-        State::Closed => Words(0, 0, 0),
-        State::Enabled(t, sent) => {
-            if sent {
-                return Words(1, t as u64, 1);
-            }
-            Words(1, t as u64, 0)
-        }
-        State::Open => Words(2, 0, 0),
-        State::Failing(n) => Words(3, n as u64, 0),
-    }
-}
-
-fn kind_word(k: Kind) -> u64
-    ensures { result ≡ kind_number k }
-{
-    match k {
-        Kind::Sends => 0,
-        Kind::Receives => 1,
+        State::Closed => [0, 0, 0],
+        State::Enabled(t, sent) => [1, t as u64, sent as u64],
+        State::Open => [2, 0, 0],
+        State::Failing(n) => [3, n as u64, 0],
     }
 }
 
@@ -248,9 +239,8 @@ pub fn save_entry(node: &mut [u64], i: usize, e: Entry, place: u16)
     requires { i < 4096 }
     ensures { node.new ≡ saved_entry node.old i e place }
 {
-    let kind = e.kind;
     let words = [
-        kind_word(kind),
+        u8::from(e.kind) as u64,
         e.remote.0 as u64,
         e.channel.0 as u64,
         e.retries as u64,
@@ -259,5 +249,5 @@ pub fn save_entry(node: &mut [u64], i: usize, e: Entry, place: u16)
         e.timeout as u64,
         place as u64,
     ];
-    put_words(node, layout::ENTRY_AT + layout::ENTRY_WORDS * i, &words)
+    put_all(node, layout::ENTRY_AT + layout::ENTRY_WORDS * i, &words)
 }

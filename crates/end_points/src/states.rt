@@ -10,42 +10,25 @@ use window::Found;
 pub fn is_sends(k: Kind) -> bool
     ensures { result ≡ is_sends k }
 {
-    match k {
-        Kind::Sends => true,
-        Kind::Receives => false,
-    }
+    matches!(k, Kind::Sends)
 }
 
 pub fn is_closed(s: State) -> bool
     ensures { result ≡ is_closed s }
 {
-    match s {
-        State::Closed => true,
-        State::Enabled(_, _) => false,
-        State::Open => false,
-        State::Failing(_) => false,
-    }
+    matches!(s, State::Closed)
 }
 
 pub fn is_open(s: State) -> bool
     ensures { result ≡ is_open s }
 {
-    match s {
-        State::Closed => false,
-        State::Enabled(_, _) => false,
-        State::Open => true,
-        State::Failing(_) => false,
-    }
+    matches!(s, State::Open)
 }
 
 pub fn is_new(f: Found) -> bool
     ensures { result ≡ is_new f }
 {
-    match f {
-        Found::New => true,
-        Found::Held => false,
-        Found::Outside => false,
-    }
+    matches!(f, Found::New)
 }
 
 // The run of an end that becomes Closed or Enabled: start 1, nothing taken, handed out or held; the counts are kept.

@@ -14,7 +14,7 @@ ghost use Rattle.frame.specs.Writing.{write_answer, written_of};
 ghost use Rattle.firmware.specs.Firmware.{read_number, read_fields, fields_in, write_number, window_number};
 
 use frame::faults::fault_byte;
-use frame::{Fields, Header, type_number};
+use frame::{Fields, Header};
 use units::bytes::{byte_at, put_all};
 use units::sizes::{in_force, is_size};
 use units::{Address, Channel, Seq};
@@ -30,7 +30,7 @@ fn put_fields(fields: &mut [u8], h: Header)
         h.destination.0,
         h.protocol,
         h.source.0,
-        type_number(kind),
+        u8::from(kind),
         0,
         h.channel.0,
         h.seq.0,

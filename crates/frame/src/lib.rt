@@ -13,9 +13,7 @@ pub mod reading; // reading.rt: from bytes to a header
 pub mod writing; // writing.rt: from fields and payload to bytes
 mod types; // types.rt: the four types, and what each asks of payload and sequence
 
-pub use types::type_number;
-
-#[derive(Clone, Copy)]
+#[derive(Clone, Copy, Debug, PartialEq, Eq)]
 pub enum FrameType {
     Data,
     Acknowledge,
@@ -24,7 +22,7 @@ pub enum FrameType {
 }
 
 // What the reader gives: length is the payload's, in bytes, and an Urgent's sequence is 0.
-#[derive(Clone, Copy)]
+#[derive(Clone, Copy, Debug, PartialEq, Eq)]
 pub struct Header {
     pub destination: Address,
     pub protocol: u8,
@@ -36,7 +34,7 @@ pub struct Header {
 }
 
 // What the writer is given: type and user bits are numbers that it may refuse.
-#[derive(Clone, Copy)]
+#[derive(Clone, Copy, Debug, PartialEq, Eq)]
 pub struct Fields {
     pub destination: Address,
     pub protocol: u8,

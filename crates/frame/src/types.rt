@@ -1,20 +1,25 @@
 // The four types of frame, and what each asks of payload and sequence.
 ghost use Rattle.std.specs.Prelude.{◌≡◌};
-ghost use Rattle.frame.specs.Types.{type_number, suits, seq_reads, seq_writes, seq_given};
+ghost use Rattle.frame.specs.Types.{suits, seq_reads, seq_writes, seq_given};
 
 use crate::{FrameType, layout};
 use units::Seq;
 use units::refusals::Refusal;
 
 // A type's number.
-pub fn type_number(kind: FrameType) -> u8
-    ensures { result ≡ type_number kind }
-{
-    match kind {
-        FrameType::Data => 0,
-        FrameType::Acknowledge => 1,
-        FrameType::Reset => 2,
-        FrameType::Urgent => 3,
+impl From<FrameType> for u8 {
+    ghost use Rattle.std.specs.Prelude.{◌≡◌};
+    ghost use Rattle.frame.specs.Types.{type_number};
+
+    ghost from_gives = { λ kind number. number ≡ type_number kind };
+
+    fn from(kind: FrameType) -> u8 {
+        match kind {
+            FrameType::Data => 0,
+            FrameType::Acknowledge => 1,
+            FrameType::Reset => 2,
+            FrameType::Urgent => 3,
+        }
     }
 }
 

@@ -7,7 +7,7 @@ ghost use Rattle.frame.specs.Writing.{typed_tests, write_tests, write_answer, wr
 
 use crate::types::{payload_suits, seq_writes};
 use crate::{Fields, FrameType, layout};
-use units::bytes::{put_all, put8};
+use units::bytes::{put, put_all};
 use units::refusals::Refusal;
 
 // The tests of a known type, with a payload of n bytes.
@@ -65,7 +65,7 @@ pub fn emit(buffer: &mut [u8], fields: Fields, payload: &[u8])
     let end = payload.len() + layout::PAYLOAD;
     if end < buffer.len() {
         let c = check8::check(&buffer[..end]);
-        put8(buffer, end, c);
+        put(buffer, end, c);
     }
 }
 

@@ -1,14 +1,13 @@
 // What each kind of record prints after its number and kind.
 use crate::kinds::Kind;
 use crate::records;
-use crate::records::get32;
 use frame::reading::{payload, read};
 use frame::writing::write;
-use frame::{Fields, Header, type_number};
+use frame::{Fields, Header};
 use lines::sink::Sink;
 use lines::{numbers, refused, value, values};
 use std::io::Write;
-use units::bytes::byte_at;
+use units::bytes::{byte_at, get32};
 use units::refusals::Refusal;
 use units::{Address, Channel, Seq};
 
@@ -23,7 +22,7 @@ fn taken<W: Write>(to: &mut Sink<W>, out: &mut [u8], at: usize, h: Header, frame
         h.destination.0 as u64,
         h.protocol as u64,
         h.source.0 as u64,
-        type_number(kind) as u64,
+        u8::from(kind) as u64,
         h.channel.0 as u64,
         h.seq.0 as u64,
         h.length as u64,
@@ -106,7 +105,7 @@ fn writing<W: Write>(
     bytes: &[u8],
     buffer: &mut [u8],
 ) -> usize {
-    let asked = get32(bytes, records::ROOM);
+    let asked = get32(bytes, records::ROOM) as usize;
     if asked < buffer.len() {
         return writing_into(to, out, at, bytes, &mut buffer[0..asked]);
     }

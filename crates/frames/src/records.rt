@@ -3,7 +3,7 @@ ghost use Rattle.std.specs.Prelude.{length};
 ghost use Rattle.frames.specs.Records.{Lies};
 
 use crate::kinds::Kind;
-use units::bytes::{byte_at, get16};
+use units::bytes::{byte_at, get32};
 
 // How many bytes stand before a record's own.
 pub const HEAD: usize = 5;
@@ -28,16 +28,6 @@ pub enum Stop {
     Unknown,
 }
 
-// Four bytes from an index on, as a number.
-pub fn get32(s: &[u8], i: usize) -> usize {
-    if s.len() <= i {
-        return 0;
-    }
-    let high = get16(s, i);
-    let low = get16(s, i + 2);
-    (high as usize) * 65536 + (low as usize)
-}
-
 // The record at an index. One to write holds at least the fields.
 pub fn record_at(input: &[u8], i: usize) -> Result<Record, Stop>
     ensures { Lies i (length input.now) result }
@@ -49,7 +39,7 @@ pub fn record_at(input: &[u8], i: usize) -> Result<Record, Stop>
     if left < HEAD {
         return Err(Stop::Torn);
     }
-    let n = get32(input, i + 1);
+    let n = get32(input, i + 1) as usize;
     if left - HEAD < n {
         return Err(Stop::Torn);
     }

@@ -4,7 +4,7 @@
 
 pub mod cells; // cells.rt: what the book says of a cell
 
-ghost use Rattle.std.specs.Prelude.{◌≡◌, take, drop};
+ghost use Rattle.std.specs.Prelude.{◌≡◌};
 ghost use Rattle.slots.specs.Slots.{slot_for, cell, spot, waits_in, drop_slot, drop_slots, idled, number_in};
 
 use end_points::Run;
@@ -56,20 +56,6 @@ pub fn number_in(w: Window, slot: u8) -> Seq
     }
     let d = distance(start, least_in(slot));
     advance(start, d % size)
-}
-
-// As many of n bytes from an index on as there are.
-pub fn part(s: &[u8], at: usize, n: usize) -> &[u8]
-    ensures { result.now ≡ take n (drop at s.now) }
-{
-    if s.len() <= at {
-        return &s[0..0];
-    }
-    let rest = &s[at..];
-    if n <= rest.len() {
-        return &rest[..n];
-    }
-    rest
 }
 
 // Whether the number k past the start waits, as data or as a retransmission, at an open sender that has handed out

@@ -1,7 +1,7 @@
 // The table's bytes, high bytes first. A byte past the end counts as 0.
 ghost use Rattle.std.specs.Prelude.{◌≡◌, ◌+◌, ◌^◌, ◌<◌};
 ghost use Rattle.table.specs.Layout.{entry_size, count_of, first_of, own_of, protocol_of, head_zeros_of};
-ghost use Rattle.table.specs.Layout.{byte_of, kind_of};
+ghost use Rattle.table.specs.Layout.{kind_of};
 ghost use Rattle.table.specs.Layout.{window_from, zeros_from, entry_from, entry_of};
 
 use crate::{Entry, Kind};
@@ -50,12 +50,17 @@ pub fn head_zeros(table: &[u8]) -> u16
 }
 
 // The byte that stands for a kind.
-pub fn kind_byte(k: Kind) -> u8
-    ensures { result ≡ byte_of k }
-{
-    match k {
-        Kind::Sends => 0,
-        Kind::Receives => 1,
+impl From<Kind> for u8 {
+    ghost use Rattle.std.specs.Prelude.{◌≡◌};
+    ghost use Rattle.table.specs.Layout.{byte_of};
+
+    ghost from_gives = { λ kind byte. byte ≡ byte_of kind };
+
+    fn from(kind: Kind) -> u8 {
+        match kind {
+            Kind::Sends => 0,
+            Kind::Receives => 1,
+        }
     }
 }
 

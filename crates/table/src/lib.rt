@@ -15,14 +15,14 @@ pub use rules::is_good;
 use units::{Address, Channel};
 
 // What an entry's end point does.
-#[derive(Clone, Copy)]
+#[derive(Clone, Copy, Debug, PartialEq, Eq)]
 pub enum Kind {
     Sends,
     Receives,
 }
 
 // What a table says of one end point. The window is the one in force.
-#[derive(Clone, Copy)]
+#[derive(Clone, Copy, Debug, PartialEq, Eq)]
 pub struct Entry {
     pub kind: Kind,
     pub remote: Address,

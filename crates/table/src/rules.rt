@@ -7,7 +7,7 @@ ghost use Rattle.table.specs.Rules.{entry_good, agree as Rules·agree, apart as 
 
 use crate::areas::store_need;
 use crate::layout::{
-    ENTRY, HEAD, count, entry_at, entry_from, first, head_zeros, kind_byte, own, protocol,
+    ENTRY, HEAD, count, entry_at, entry_from, first, head_zeros, own, protocol,
     window_from, zeros_from,
 };
 use crate::{Entry, Kind};
@@ -125,7 +125,5 @@ fn apart(table: &[u8], i: usize) -> bool
 fn agree(a: Entry, b: Entry) -> bool
     ensures { result ≡ Rules·agree a b }
 {
-    let kind = a.kind;
-    let other = b.kind;
-    kind_byte(kind) == kind_byte(other) && a.remote.0 == b.remote.0 && a.channel.0 == b.channel.0
+    a.kind == b.kind && a.remote == b.remote && a.channel == b.channel
 }

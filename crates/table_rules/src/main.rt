@@ -4,7 +4,7 @@
 #![tactic(auto)]
 
 use std::io;
-use units::bytes::{put_all, put8, put16};
+use units::bytes::{put, put_all, put16};
 
 fn main(rt: HostRuntime) -> io::Result<()> {
     heads(&rt)?;
@@ -72,7 +72,7 @@ fn lengths(rt: &impl Print) -> io::Result<()> {
 fn counts(rt: &impl Print) -> io::Result<()> {
     show(rt, "no entries", &head(0))?;
     let mut none = head(0);
-    put8(&mut none, 5, 0);
+    put(&mut none, 5, 0);
     show(rt, "no entries, protocol ID 0", &none)?;
     let mut full = [0u8; 200];
     put_receivers(&mut full, 16);
@@ -140,7 +140,7 @@ fn stores(rt: &impl Print) -> io::Result<()> {
 // The paper's table with one byte altered.
 fn byte(rt: &impl Print, at: usize, b: u8) -> io::Result<()> {
     let mut table = paper();
-    put8(&mut table, at, b);
+    put(&mut table, at, b);
     altered(rt, "byte", at, b as u64, &table)
 }
 

@@ -3,11 +3,12 @@
 // what is left falls by one a tick, and a tick before the bound passes over none that is due.
 #![tactic(auto)]
 
-ghost use Rattle.std.specs.Prelude.{◌≡◌, ◌-◌, min};
+ghost use Rattle.std.specs.Prelude.{◌≡◌};
 ghost use Rattle.timing.specs.Timing.{clock_in, quiet_in, later as later_than, left_of, soonest as soonest_of};
 ghost use Rattle.timing.specs.Timing.{passed, heeded, roused};
 
-use memory::{layout, put_word, word_at};
+use memory::{layout, word_at};
+use units::bytes::put;
 
 // How many ticks a round of the clock has: it shows 1 to this, so that 0 can mean that a timer does not run.
 pub const ROUND: u16 = 65535;
@@ -57,51 +58,28 @@ pub fn left(c: u16, d: u16) -> u16
 pub fn soonest(least: u16, c: u16, d: u16) -> u16
     ensures { result ≡ soonest_of least c d }
 {
-    let n = left(c, d);
-    if least <= n {
-        return least;
-    }
-    n
-}
-
-// One less, and 0 where there is none.
-pub fn one_less(n: u16) -> u64
-    ensures { result ≡ n - 1 }
-{
-    if n == 0 {
-        return 0;
-    }
-    (n - 1) as u64
+    least.min(left(c, d))
 }
 
 // Tick c has passed; `quiet` more may pass before the entries have to be gone through.
 pub fn pass(node: &mut [u64], c: u16, quiet: u64)
     ensures { node.new ≡ passed node.old c quiet }
 {
-    put_word(node, layout::CLOCK_AT, c as u64);
-    put_word(node, layout::QUIET_AT, quiet)
-}
-
-// The less of two.
-fn less(a: u64, b: u64) -> u64
-    ensures { result ≡ min a b }
-{
-    if a <= b {
-        return a;
-    }
-    b
+    put(node, layout::CLOCK_AT, c as u64);
+    put(node, layout::QUIET_AT, quiet)
 }
 
 // A timer of t ticks starts: fewer than t may pass before the entries are gone through.
 pub fn heed(node: &mut [u64], t: u16)
     ensures { node.new ≡ heeded node.old t }
 {
-    put_word(node, layout::QUIET_AT, less(quiet(node), one_less(t)))
+    let fewer = t.saturating_sub(1) as u64;
+    put(node, layout::QUIET_AT, quiet(node).min(fewer))
 }
 
 // The next tick goes through the entries.
 pub fn rouse(node: &mut [u64])
     ensures { node.new ≡ roused node.old }
 {
-    put_word(node, layout::QUIET_AT, 0)
+    put(node, layout::QUIET_AT, 0)
 }

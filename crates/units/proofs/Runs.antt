@@ -1,4 +1,4 @@
--- Laws of bytes stored one after the other, `sets` of `lib.Seq`: past the end, end to end, and what stands where afterwards.
+-- Laws of items stored one after the other, `sets`: past the end, end to end, and what stands where afterwards.
 -- Assumes nothing.
 use mathlib.Core.Path.{◌≡◌, refl, sym, ap, ◌∙◌}
 use mathlib.Core.List.{List, [], ◌∷◌, ◌++◌}
@@ -24,23 +24,24 @@ unfolding get32_of
 far32 s i h = rw (far16 s i h, far16 s (i + 2) (omega arith))
 
 -- past the end nothing alters
-pub sets_out : (vs l : List ℕ) (i : ℕ) → length l ≤ i → sets l i vs ≡ l
+pub sets_out : {A : Type 0} (vs l : List A) (i : ℕ) → length l ≤ i → sets l i vs ≡ l
 sets_out [] l i h = refl
 sets_out (v ∷ vs) l i h = rw (set_out l i v h) (sets_out vs l (suc i) (omega arith))
 
 -- two runs, one after the other
-pub sets_append : (xs ys l : List ℕ) (i : ℕ) → sets l i (xs ++ ys) ≡ sets (sets l i xs) (i + length xs) ys
+pub sets_append : {A : Type 0} (xs ys l : List A) (i : ℕ) → sets l i (xs ++ ys) ≡ sets (sets l i xs) (i + length xs) ys
 sets_append [] ys l i = rw (add-zero i)
 sets_append (x ∷ xs) ys l i = sets_append xs ys (set l i x) (suc i) ∙ ap (λ (k : ℕ). sets (sets (set l i x) (suc i) xs) k ys) (suc-add i (length xs) ∙ sym (add-suc i (length xs)))
 
 -- one element more of a run
-pub sets_more : (vs l : List ℕ) (i k : ℕ) → k < length vs → set (sets l i (take k vs)) (i + k) (get_or vs k 0) ≡ sets l i (take (k + 1) vs)
-sets_more vs l i k h =
+pub sets_more : {A : Type 0} (vs l : List A) (i k : ℕ) (d : A) → k < length vs
+    → set (sets l i (take k vs)) (i + k) (get_or vs k d) ≡ sets l i (take (k + 1) vs)
+sets_more vs l i k d h =
     let e : length (take k vs) ≡ k = rw (length-take k vs) (omega arith) in
-    rw (add-one, take-suc vs k 0 h, sets_append (take k vs) (get_or vs k 0 ∷ []) l i, e)
+    rw (add-one, take-suc vs k d h, sets_append (take k vs) (get_or vs k d ∷ []) l i, e)
 
 -- what does not fit is not stored
-pub sets_clip : (vs l : List ℕ) (i n : ℕ) → length l ≤ i + n → sets l i (take n vs) ≡ sets l i vs
+pub sets_clip : {A : Type 0} (vs l : List A) (i n : ℕ) → length l ≤ i + n → sets l i (take n vs) ≡ sets l i vs
 sets_clip [] l i zero h = refl
 sets_clip [] l i (suc n) h = refl
 sets_clip (v ∷ vs) l i zero h = sym (sets_out (v ∷ vs) l i (omega arith))
@@ -64,7 +65,7 @@ get_d_sets_at (v ∷ vs) l i (suc k) d h f =
     ∙ get_d_sets_at vs (set l i v) (suc i) k d (omega arith) (rw (length-set l i v) (omega arith))
 
 -- a run that ends with the bytes or with the room is the whole
-pub sets_whole : (s bs : List ℕ) (i k : ℕ) → i ≤ length s → min (length s - i) (length bs) ≤ k → sets s i (take k bs) ≡ sets s i bs
+pub sets_whole : {A : Type 0} (s bs : List A) (i k : ℕ) → i ≤ length s → min (length s - i) (length bs) ≤ k → sets s i (take k bs) ≡ sets s i bs
 sets_whole s bs i k f h = sides (dec_le (length bs) k)
   where
     sides : Dec (length bs ≤ k) → sets s i (take k bs) ≡ sets s i bs

@@ -1,16 +1,22 @@
-// Reading and writing lent bytes, high bytes first. Past the end a read gives 0 and a store alters nothing.
+// Reading and writing what is lent: items of any type, and numbers in bytes, high bytes first. Past the end a read gives
+// 0, or what the caller says, and a store alters nothing.
 ghost use Rattle.std.specs.Prelude.{◌≡◌, ◌+◌, ◌*◌, min, get_or, set, take, drop};
 ghost use Rattle.std.proofs.lemmas.List.Edits.{sets};
 ghost use Rattle.units.specs.Bytes.{get16_of, get32_of, be16, be32};
 
-// The byte at an index.
+// The item at an index, or what stands for it past the end.
+pub fn get_or<T: Copy>(s: &[T], i: usize, none: T) -> T
+    ensures { result ≡ get_or s.now i none }
+{
+    s.get(i).copied().unwrap_or(none)
+}
+
+// The byte at an index. Kept beside `get_or`, as `word_at` and `half_at` (crates/memory) are: the 0 that a read past the
+// end gives is said once, and not at each of a hundred reads.
 pub fn byte_at(s: &[u8], i: usize) -> u8
     ensures { result ≡ get_or s.now i 0 }
 {
-    if i < s.len() {
-        return s[i];
-    }
-    0
+    get_or(s, i, 0)
 }
 
 // The two bytes from an index on, as a number.
@@ -52,23 +58,26 @@ pub fn get32(s: &[u8], i: usize) -> u32
     )
 }
 
-// n bytes from an index on, or as many of them as there are.
-pub fn part(s: &[u8], i: usize, n: usize) -> &[u8]
+// n items from an index on, or as many of them as there are. Where all are there the length is n itself, so that no read
+// of an item below n is tested again.
+pub fn part<T>(s: &[T], i: usize, n: usize) -> &[T]
     ensures { result.now ≡ take n (drop i s.now) }
 {
     if s.len() <= i {
         return &s[0..0];
     }
-    let end = i + least(s.len() - i, n);
-    &s[i..end]
+    if n <= s.len() - i {
+        return &s[i..i + n];
+    }
+    &s[i..]
 }
 
-// One byte stored.
-pub fn put8(s: &mut [u8], i: usize, b: u8)
-    ensures { s.new ≡ set s.old i b }
+// One item stored.
+pub fn put<T: Copy>(s: &mut [T], i: usize, item: T)
+    ensures { s.new ≡ set s.old i item }
 {
     if i < s.len() {
-        s[i] = b;
+        s[i] = item;
     }
 }
 
@@ -79,8 +88,8 @@ pub fn put16(s: &mut [u8], i: usize, v: u16)
     if s.len() <= i {
         return;
     }
-    put8(s, i, (v / 256) as u8);
-    put8(s, i + 1, (v % 256) as u8);
+    put(s, i, (v / 256) as u8);
+    put(s, i + 1, (v % 256) as u8);
 }
 
 // A number stored in four bytes.
@@ -98,18 +107,18 @@ pub fn put32(s: &mut [u8], i: usize, v: u32)
 pub fn least(a: usize, b: usize) -> usize
     ensures { result ≡ min a b }
 {
-    if a < b { a } else { b }
+    a.min(b)
 }
 
-// Bytes stored one after the other, as many as there is room for.
-pub fn put_all(s: &mut [u8], i: usize, bytes: &[u8])
-    ensures { s.new ≡ sets s.old i bytes.now }
+// Items stored one after the other, as many as there is room for.
+pub fn put_all<T: Copy>(s: &mut [T], i: usize, items: &[T])
+    ensures { s.new ≡ sets s.old i items.now }
 {
     if s.len() <= i {
         return;
     }
-    let n = least(s.len() - i, bytes.len());
+    let n = (s.len() - i).min(items.len());
     for k in 0..n {
-        s[i + k] = bytes[k];
+        s[i + k] = items[k];
     }
 }

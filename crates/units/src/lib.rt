@@ -12,15 +12,15 @@ pub mod refusals; // refusals.rt: why a call is refused, and what it answers the
 ghost use Rattle.std.specs.Prelude.{◌≡◌, eqb};
 
 // A sequence number, as a frame carries it. [U1, U2]
-#[derive(Clone, Copy)]
+#[derive(Clone, Copy, Debug, PartialEq, Eq)]
 pub struct Seq(pub u8);
 
 // A channel number. [U1]
-#[derive(Clone, Copy)]
+#[derive(Clone, Copy, Debug, PartialEq, Eq)]
 pub struct Channel(pub u8);
 
 // A SpaceWire logical address. [U1]
-#[derive(Clone, Copy)]
+#[derive(Clone, Copy, Debug, PartialEq, Eq)]
 pub struct Address(pub u8);
 
 impl Address {
@@ -28,10 +28,10 @@ impl Address {
     pub fn is(self, other: Address) -> bool
         ensures { result ≡ eqb self.0 other.0 }
     {
-        self.0 == other.0
+        self == other
     }
 }
 
 // A count of payloads from the start of a run on, which no byte folds. [U2]
-#[derive(Clone, Copy)]
+#[derive(Clone, Copy, Debug, PartialEq, Eq)]
 pub struct Unfolded(pub u32);

@@ -15,7 +15,7 @@ pub fn default_size() -> u16
 pub fn is_size(n: u16) -> bool
     ensures { result ≡ is_size n }
 {
-    u16::count_ones(n) == 1 && n <= limits::WINDOW
+    n.count_ones() == 1 && n <= limits::WINDOW
 }
 
 // The size that a table's number puts in force.

@@ -2,8 +2,9 @@
 ghost use Rattle.std.specs.Prelude.{◌≡◌, ◌+◌, ◌*◌};
 ghost use Rattle.waiting.specs.Acks.{waiting_of, oldest_of, ack_of, pushed, popped, turned, dropped};
 
-use memory::{layout, put_word, word_at};
+use memory::{layout, word_at};
 use units::Seq;
+use units::bytes::put;
 
 // The most that may wait: there are as many places.
 pub const MOST: u8 = 32;
@@ -52,12 +53,12 @@ fn push_word(node: &mut [u64], w: u64)
 {
     let k = word_at(node, layout::OLDEST_AT) % layout::ACK_PLACES;
     let n = word_at(node, layout::ACKS_AT) % COUNTS;
-    put_word(
+    put(
         node,
         layout::ACK_AT + ((k + n) % layout::ACK_PLACES) as usize,
         w,
     );
-    put_word(node, layout::ACKS_AT, n + 1);
+    put(node, layout::ACKS_AT, n + 1);
 }
 
 // An acknowledgement of s waits for entry i.
@@ -75,8 +76,8 @@ pub fn pop(node: &mut [u64])
 {
     let k = word_at(node, layout::OLDEST_AT) % layout::ACK_PLACES;
     let n = word_at(node, layout::ACKS_AT) % COUNTS;
-    put_word(node, layout::OLDEST_AT, (k + 1) % layout::ACK_PLACES);
-    put_word(node, layout::ACKS_AT, (n + ONE_FEWER) % COUNTS);
+    put(node, layout::OLDEST_AT, (k + 1) % layout::ACK_PLACES);
+    put(node, layout::ACKS_AT, (n + ONE_FEWER) % COUNTS);
 }
 
 // Takes the oldest out, and puts it back at the end unless it is entry i's.

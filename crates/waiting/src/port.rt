@@ -3,8 +3,9 @@ ghost use Rattle.std.specs.Prelude.{◌≡◌};
 ghost use Rattle.waiting.specs.Port.{under_in, out_word, out_entry, out_number, begun, ended, is_own, is_data};
 ghost use Rattle.waiting.specs.Port.{is_reset, data_out};
 
-use memory::{half_at, layout, put_half};
+use memory::{half_at, layout};
 use units::Seq;
+use units::bytes::put;
 
 // The parts of the half word: a sequence number takes 256 values, 16 entries come to this, and there are 4 types.
 const PER_ENTRY: u16 = 256;
@@ -42,14 +43,14 @@ fn out_word(t: u8, i: u8, s: Seq) -> u16
 pub fn begin(book: &mut [u16], t: u8, i: u8, s: Seq)
     ensures { book.new ≡ begun book.old t i s.0 }
 {
-    put_half(book, layout::UNDER_AT, out_word(t, i, s))
+    put(book, layout::UNDER_AT, out_word(t, i, s))
 }
 
 // None is under way any more.
 pub fn end(book: &mut [u16])
     ensures { book.new ≡ ended book.old }
 {
-    put_half(book, layout::UNDER_AT, 0)
+    put(book, layout::UNDER_AT, 0)
 }
 
 // Whether a frame of entry i is under way.
@@ -57,10 +58,7 @@ pub fn is_own(book: &[u16], i: u8) -> bool
     ensures { result ≡ is_own book.now i }
 {
     let u = under(book);
-    if u == 0 {
-        return false;
-    }
-    entry(u) == i
+    u != 0 && entry(u) == i
 }
 
 // Whose a frame under way is.

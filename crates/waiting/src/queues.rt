@@ -2,7 +2,8 @@
 ghost use Rattle.std.specs.Prelude.{◌≡◌};
 ghost use Rattle.waiting.specs.Queues.{next_of, appended, unlinked};
 
-use memory::{half_at, layout, put_half};
+use memory::{half_at, layout};
+use units::bytes::put;
 
 // What has waited longest in queue q; a number below `QUEUES` where nothing waits.
 pub fn first(book: &[u16], q: u16) -> u16
@@ -17,10 +18,10 @@ pub fn append(book: &mut [u16], q: u16, x: u16)
     ensures { book.new ≡ appended book.old q x }
 {
     let last = half_at(book, layout::PREV_AT + q as usize);
-    put_half(book, last as usize, x);
-    put_half(book, layout::PREV_AT + x as usize, last);
-    put_half(book, x as usize, q);
-    put_half(book, layout::PREV_AT + q as usize, x);
+    put(book, last as usize, x);
+    put(book, layout::PREV_AT + x as usize, last);
+    put(book, x as usize, q);
+    put(book, layout::PREV_AT + q as usize, x);
 }
 
 // x waits no more.
@@ -30,6 +31,6 @@ pub fn unlink(book: &mut [u16], x: u16)
 {
     let next = half_at(book, x as usize);
     let prev = half_at(book, layout::PREV_AT + x as usize);
-    put_half(book, prev as usize, next);
-    put_half(book, layout::PREV_AT + next as usize, prev);
+    put(book, prev as usize, next);
+    put(book, layout::PREV_AT + next as usize, prev);
 }

@@ -48,14 +48,14 @@ pub struct Passed {
 pub fn distance(start: Seq, s: Seq) -> u8
     ensures { result ≡ distance_of start.0 s.0 }
 {
-    std::num::wrapping_sub_u8(s.0, start.0)
+    s.0.wrapping_sub(start.0)
 }
 
 // The number n places after s.
 pub fn advance(s: Seq, n: u8) -> Seq
     ensures { result ≡ seq_of (s.0 + n) }
 {
-    Seq(std::num::wrapping_add_u8(s.0, n))
+    Seq(s.0.wrapping_add(n))
 }
 
 impl Window {

@@ -9,7 +9,7 @@ use super::Marks;
 fn trailing_ones(word: u64) -> u8
     ensures { result ≡ run_in 64 word }
 {
-    u64::trailing_zeros(!word) as u8
+    word.trailing_ones() as u8
 }
 
 // How many marks are set without a gap, from mark 0 on. [G3]
@@ -27,7 +27,7 @@ pub fn run(m: Marks) -> u8
 pub fn count(m: Marks) -> u8
     ensures { result ≡ count_ones (joined m) }
 {
-    (u64::count_ones(m.0) + u64::count_ones(m.1)) as u8
+    (m.0.count_ones() + m.1.count_ones()) as u8
 }
 
 // Whether mark k is set.

@@ -22,7 +22,7 @@ returns-then-end-buffer c =
     let e = body_put (goal.at.returns-then-end-buffer c).After-put_all-2 in
     let room : length a.payload.now + 8 ≤ length a.buffer.now = omega (arith, length-sets a.buffer.now 0 (body_bytes a.fields a.payload.now), ap length e) in
     rw (
-      c.put8.ensures,
+      c.put.ensures,
       c.check-c.ensures,
       e,
       body_front a.fields a.payload.now a.buffer.now room,

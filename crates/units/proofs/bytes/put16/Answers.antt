@@ -11,4 +11,4 @@ returns-then-s-i c = sym (sets_out (be16 c.args.v) c.args.s.now c.args.i c.if-s-
 
 pub returns : goal.returns
 unfolding be16
-returns c = rw (c.put8-2.ensures, c.put8.ensures, add-one)
+returns c = rw (c.put-2.ensures, c.put.ensures, add-one)

@@ -1,23 +1,17 @@
--- `units::bytes::put_all` meets its contract. The loop's invariant: the first k bytes are stored. Assumes nothing.
-use mathlib.Core.Path.{sym, ◌∙◌}
-use Prim.Native.Nat.{◌<◌}
+-- `units::bytes::put_all` meets its contract. The loop's invariant: the first k items are stored. Assumes nothing.
+use mathlib.Core.Path.{sym}
 use native.Mathlib.Omega.{arith}
-use lib.ListN.{length}
 use Rattle.units.proofs.Runs.{sets_out, sets_more, sets_whole}
 use Rattle.units.proofs.bytes.put_all.Goals as goal
 
 pub returns-then-s-i : goal.returns-then-s-i
-returns-then-s-i c = sym (sets_out c.args.bytes.now c.args.s.now c.args.i c.if-s-i.true)
+returns-then-s-i g c = sym (sets_out c.args.items.now c.args.s.now c.args.i c.if-s-i.true)
 
 pub loop-k-preserved : goal.loop-k-preserved
-loop-k-preserved c =
-    let l = c.loop-k in
-    let a = c.args in
-    let h : l.k < length a.bytes.now = omega arith in
-    rw l.invariant (sets_more a.bytes.now a.s.now a.i l.k h)
+loop-k-preserved g c = rw (c.loop-k.invariant, c.index-items-k.is) (sets_more c.args.items.now c.args.s.now c.args.i c.loop-k.k _ (omega arith))
 
 pub returns : goal.returns
-returns c =
+returns g c =
     let l = c.loop-k in
     let a = c.args in
-    l.invariant ∙ sets_whole a.s.now a.bytes.now a.i l.k (omega arith) (omega arith)
+    rw l.invariant (sets_whole a.s.now a.items.now a.i l.k (omega arith) (omega arith))
