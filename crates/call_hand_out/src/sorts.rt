@@ -116,12 +116,7 @@ fn put_sent(book: &mut [u16], x: u16, number: Seq)
 {
     queues::unlink(book, x);
     cells::put_timer(book, x.saturating_sub(layout::CELL_ID), STANDING);
-    port::begin(
-        book,
-        u8::from(FrameType::Data),
-        entry_of(x) as u8,
-        number,
-    )
+    port::begin(book, u8::from(FrameType::Data), entry_of(x) as u8, number)
 }
 
 // One number more is handed out: of the run's words one alters, and no other is written.
