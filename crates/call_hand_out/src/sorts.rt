@@ -115,12 +115,7 @@ fn put_sent(book: &mut [u16], x: u16, number: Seq)
 {
     queues::unlink(book, x);
     cells::put_timer(book, x.saturating_sub(layout::CELL_ID), STANDING);
-    port::begin(
-        book,
-        u8::from(FrameType::Data),
-        entry_of(x) as u8,
-        number,
-    )
+    port::begin(book, u8::from(FrameType::Data), entry_of(x) as u8, number)
 }
 
 // The retransmission that is x in its queue.

@@ -7,8 +7,8 @@ ghost use Rattle.table.specs.Rules.{entry_good, agree as Rules·agree, apart as 
 
 use crate::areas::store_need;
 use crate::layout::{
-    ENTRY, HEAD, count, entry_at, entry_from, first, head_zeros, own, protocol,
-    window_from, zeros_from,
+    ENTRY, HEAD, count, entry_at, entry_from, first, head_zeros, own, protocol, window_from,
+    zeros_from,
 };
 use crate::{Entry, Kind};
 use units::bytes::byte_at;
