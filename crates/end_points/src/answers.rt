@@ -53,7 +53,8 @@ pub fn state_number(s: State) -> u8
     }
 }
 
-// What a frame was, as a number: ignored, acknowledged, opened, Reset, Data, Urgent. Not a `From`: the value is not in it.
+// What a frame was, as a number: ignored, acknowledged, opened, Reset, Data, Urgent. Not a `From`: the value is not in
+// it.
 pub fn what(w: Was) -> u8
     ensures { result ≡ what_of w }
 {

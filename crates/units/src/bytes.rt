@@ -1,5 +1,5 @@
-// Reading and writing what is lent: items of any type, and numbers in bytes, high bytes first. Past the end a read gives
-// 0, or what the caller says, and a store alters nothing.
+// Reading and writing what is lent: items of any type, and numbers in bytes, high bytes first. Past the end a read
+// gives 0, or what the caller says, and a store alters nothing.
 ghost use Rattle.std.specs.Prelude.{◌≡◌, ◌+◌, ◌*◌, min, get_or, set, take, drop};
 ghost use Rattle.std.proofs.lemmas.List.Edits.{sets};
 ghost use Rattle.units.specs.Bytes.{get16_of, get32_of, be16, be32};
@@ -11,8 +11,8 @@ pub fn get_or<T: Copy>(s: &[T], i: usize, none: T) -> T
     s.get(i).copied().unwrap_or(none)
 }
 
-// The byte at an index. Kept beside `get_or`, as `word_at` and `half_at` (crates/memory) are: the 0 that a read past the
-// end gives is said once, and not at each of a hundred reads.
+// The byte at an index. Kept beside `get_or`, as `word_at` and `half_at` (crates/memory) are: the 0 that a read past
+// the end gives is said once, and not at each of a hundred reads.
 pub fn byte_at(s: &[u8], i: usize) -> u8
     ensures { result ≡ get_or s.now i 0 }
 {
@@ -58,8 +58,8 @@ pub fn get32(s: &[u8], i: usize) -> u32
     )
 }
 
-// n items from an index on, or as many of them as there are. Where all are there the length is n itself, so that no read
-// of an item below n is tested again.
+// n items from an index on, or as many of them as there are. Where all are there the length is n itself, so that no
+// read of an item below n is tested again.
 pub fn part<T>(s: &[T], i: usize, n: usize) -> &[T]
     ensures { result.now ≡ take n (drop i s.now) }
 {
