@@ -1,5 +1,9 @@
 -- One outcome: the base: units, the check byte, the window, the table, frames. A theorem a function, over its
 -- contract's own text. Assumes nothing.
+use denote.RattleType.{RattleType}
+use denote.Param.Laws.{Laws, IsCopy}
+use mir.Syntax.{Dict}
+use Rattle.std.specs.declared.clone.Clone as Clone
 use Rattle.units.proofs.bytes.get_or.Reads as units_get_or
 use Rattle.units.proofs.bytes.byte_at.Reads as units_byte_at
 use Rattle.units.proofs.bytes.part.Reads as units_part
@@ -46,6 +50,22 @@ use Rattle.frame.proofs.writing.write.Reads as frame_write
 use Rattle.contracts.specs.Outcome.{One, OneAnswer, OneAfter}
 
 -- ---- units
+
+-- of items of any type
+module _ (T : RattleType) (L : Laws T) where
+  pub units_part_one : OneAnswer (units_part.Post T L) (λ r. r.now)
+  units_part_one u v a r₁ r₂ e₁ e₂ p q = cc
+
+-- of items of any type that is copied
+module _ (T : RattleType) (L : Laws T) (C : IsCopy T) (W : Clone.Ghosts T.Denot) (D : Dict) where
+  pub units_get_or_one : OneAnswer (units_get_or.Post T L C W D) (λ r. r)
+  units_get_or_one u v a r₁ r₂ e₁ e₂ p q = cc
+
+  pub units_put_one : OneAfter (units_put.Post T L C W D) (λ e. e.0.now)
+  units_put_one u v a r₁ r₂ e₁ e₂ p q = cc
+
+  pub units_put_all_one : OneAfter (units_put_all.Post T L C W D) (λ e. e.0.now)
+  units_put_all_one u v a r₁ r₂ e₁ e₂ p q = cc
 
 pub units_byte_at_one : OneAnswer units_byte_at.Post (λ r. r)
 units_byte_at_one u v a r₁ r₂ e₁ e₂ p q = cc

@@ -1,14 +1,23 @@
 // The line of a record, with the bytes of the block or the frame that its call wrote.
 use crate::kinds;
 use crate::kinds::Kind;
+use crate::records::Record;
 use end_points::answers::Was;
-use lines::answers::{counted, planned};
+use lines::Page;
 use lines::sink::Sink;
-use lines::{number, text, value, values};
 use node::{Book, Node};
 use std::io::Write;
 use trace_step::Told;
 use units::bytes::part;
+
+// What a call is lent: the node, its book, the store, and the buffer for a block or a frame.
+#[derive(Drop)]
+pub struct Station<'a> {
+    pub node: &'a mut Node,
+    pub book: &'a mut Book,
+    pub store: &'a mut [u8],
+    pub buffer: &'a mut [u8],
+}
 
 // How long a block a frame left.
 fn delivered(was: Was) -> usize {
@@ -35,83 +44,77 @@ fn written(t: Told) -> usize {
 
 // Counts: accepted and confirmed, which no trace records.
 fn counts_line<W: Write>(
+    page: &mut Page<'_>,
     to: &mut Sink<W>,
-    out: &mut [u8],
-    at: usize,
     count: u64,
     node: &Node,
     index: u8,
-) -> usize {
-    let mut next = number(to, out, at, count);
-    next = value(to, out, next, kinds::COUNTS as u64);
-    next = counted(to, out, next, node::counts(node, index as usize));
-    text(to, out, next, b"\n")
+) {
+    page.number(to, count);
+    page.value(to, kinds::COUNTS as u64);
+    page.counted(to, node::counts(node, index as usize));
+    page.text(to, b"\n");
 }
 
 // A plan: how many payloads were accepted, and what refused the next.
 fn plan_line<W: Write>(
+    page: &mut Page<'_>,
     to: &mut Sink<W>,
-    out: &mut [u8],
-    at: usize,
     count: u64,
-    node: &mut Node,
-    book: &mut Book,
-    store: &mut [u8],
+    station: &mut Station<'_>,
     index: u8,
     block: &[u8],
-) -> usize {
-    let mut next = number(to, out, at, count);
-    next = value(to, out, next, kinds::PLAN as u64);
-    next = planned(
-        to,
-        out,
-        next,
-        node::plan(node, book, store, index as usize, block),
+) {
+    page.number(to, count);
+    page.value(to, kinds::PLAN as u64);
+    let plan = node::plan(
+        station.node,
+        station.book,
+        station.store,
+        index as usize,
+        block,
     );
-    text(to, out, next, b"\n")
+    page.planned(to, plan);
+    page.text(to, b"\n");
 }
 
 // A call that a trace records too.
 fn traced_line<W: Write>(
+    page: &mut Page<'_>,
     to: &mut Sink<W>,
-    out: &mut [u8],
-    at: usize,
     count: u64,
+    station: &mut Station<'_>,
     number: u8,
     index: u8,
     bytes: &[u8],
-    node: &mut Node,
-    book: &mut Book,
-    store: &mut [u8],
-    buffer: &mut [u8],
-) -> usize {
-    let t = trace_step::call(node, book, store, buffer, number, index, bytes);
-    let mut next = trace_lines::begun(to, out, at, count, number, t);
-    next = values(to, out, next, part(buffer, 0, written(t)));
-    text(to, out, next, b"\n")
+) {
+    let t = trace_step::call(
+        station.node,
+        station.book,
+        station.store,
+        station.buffer,
+        number,
+        index,
+        bytes,
+    );
+    trace_lines::begun(page, to, count, number, t);
+    page.values(to, part(station.buffer, 0, written(t)));
+    page.text(to, b"\n");
 }
 
 // A record's line.
 pub fn line<W: Write>(
+    page: &mut Page<'_>,
     to: &mut Sink<W>,
-    out: &mut [u8],
-    at: usize,
     count: u64,
-    kind: Kind,
-    index: u8,
+    station: &mut Station<'_>,
+    record: Record,
     bytes: &[u8],
-    node: &mut Node,
-    book: &mut Book,
-    store: &mut [u8],
-    buffer: &mut [u8],
-) -> usize {
-    match kind {
-        Kind::Traced(number) => {
-            traced_line(
-                to, out, at, count, number, index, bytes, node, book, store, buffer,
-            )
-        }
-        Kind::Plan => plan_line(to, out, at, count, node, book, store, index, bytes),
-        Kind::Counts => counts_line(to, out, at, count, node, index),
+) {
+    let index = record.index;
+    match record.kind {
+        Kind::Traced(number) => traced_line(page, to, count, station, number, index, bytes),
+        Kind::Plan => plan_line(page, to, count, station, index, bytes),
+        Kind::Counts => counts_line(page, to, count, station.node, index),
     }
 }

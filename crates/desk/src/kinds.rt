@@ -1,5 +1,5 @@
 // The kinds of record: those of a trace, and two more.
-use crate::records::Stop;
+use lines::Stop;
 use trace::kinds;
 
 // The number of a plan, and that of a sender's counts.

@@ -11,84 +11,63 @@ mod kinds; // kinds.rt: which kinds there are
 mod records; // records.rt: where the records lie
 mod answers; // answers.rt: what each call prints
 
+use answers::Station;
 use intake::read_full;
+use lines::Page;
 use lines::sink::Sink;
-use lines::{flush, text, torn, unknown};
-use node::{Book, Node};
-use records::{Stop, record_at};
+use records::record_at;
 use std::io;
 use std::io::Write;
 use trace::layout;
 use trace_step::{BUFFER, STORE};
 
-// The most bytes of input. One more is read, to see that it is longer.
+// The most bytes of input. One more is read, to see that it is longer: the buffer is a fixed bound on what is read, and
+// a longer input is refused.
 const INPUT: usize = 65536;
 
 // How much text is put together before it is written out.
 const TEXT: usize = 65536;
 
 // The lines of all records, or of those up to the first that is torn or unknown.
-fn run<W: Write>(
-    to: &mut Sink<W>,
-    input: &[u8],
-    out: &mut [u8],
-    node: &mut Node,
-    book: &mut Book,
-    store: &mut [u8],
-    buffer: &mut [u8],
-) -> usize {
-    let mut at = 0;
+fn run<W: Write>(page: &mut Page<'_>, to: &mut Sink<W>, input: &[u8], station: &mut Station<'_>) {
     let mut i = 0;
     let mut count: u64 = 0;
     while i < input.len() {
         count += 1;
         let record = match record_at(input, i) {
             Ok(record) => record,
-            Err(Stop::Torn) => return torn(to, out, at, count),
-            Err(Stop::Unknown) => return unknown(to, out, at, count),
+            Err(why) => return page.stopped(to, why, count),
         };
         let bytes = &input[i + layout::HEAD..record.end];
-        at = answers::line(
-            to,
-            out,
-            at,
-            count,
-            record.kind,
-            record.index,
-            bytes,
-            node,
-            book,
-            store,
-            buffer,
-        );
+        answers::line(page, to, count, station, record, bytes);
         i = record.end;
     }
-    at
 }
 
 fn main(rt: HostRuntime) -> io::Result<()> {
     let mut input = [0u8; INPUT + 1];
     let mut out = [0u8; TEXT];
-    let mut to = Sink::new(io::writer(&rt));
-    let n = read_full(&mut rt.reader(), &mut input)?;
-    if INPUT < n {
-        let at = text(&mut to, &mut out, 0, b"too long\n");
-        flush(&mut to, &out, at);
-        return to.finish();
-    }
     let mut node = [0u64; memory::layout::NODE_WORDS];
     let mut book = [0u16; memory::layout::BOOK_HALVES];
     let mut store = [0u8; STORE];
     let mut buffer = [0u8; BUFFER];
-    let at = run(
-        &mut to,
-        &input[..n],
-        &mut out,
-        &mut node,
-        &mut book,
-        &mut store,
-        &mut buffer,
-    );
-    flush(&mut to, &out, at);
+    let mut to = Sink::new(io::writer(&rt));
+    let mut page = Page {
+        bytes: &mut out,
+        taken: 0,
+    };
+    let n = read_full(&mut rt.reader(), &mut input)?;
+    if INPUT < n {
+        page.text(&mut to, b"too long\n");
+    } else {
+        let mut station = Station {
+            node: &mut node,
+            book: &mut book,
+            store: &mut store,
+            buffer: &mut buffer,
+        };
+        run(&mut page, &mut to, &input[..n], &mut station);
+    }
+    page.flush(&mut to);
     to.finish()
 }

@@ -3,6 +3,7 @@ ghost use Rattle.std.specs.Prelude.{length};
 ghost use Rattle.desk.specs.Records.{Lies};
 
 use crate::kinds::Kind;
+use lines::Stop;
 use trace::layout;
 
 // A record: its kind, its index byte, and the end of its bytes, which begin right behind its head.
@@ -11,13 +12,6 @@ pub struct Record {
     pub kind: Kind,
     pub index: u8,
     pub end: usize,
-}
-
-// Why no record lies at an index: it is cut short, or whole but of no kind that there is.
-#[derive(Clone, Copy)]
-pub enum Stop {
-    Torn,
-    Unknown,
 }
 
 // The record at an index.

@@ -4,8 +4,8 @@ use crate::records;
 use frame::reading::{payload, read};
 use frame::writing::write;
 use frame::{Fields, Header};
+use lines::Page;
 use lines::sink::Sink;
-use lines::{numbers, refused, value, values};
 use std::io::Write;
 use units::bytes::{byte_at, get32};
 use units::refusals::Refusal;
@@ -15,7 +15,7 @@ use units::{Address, Channel, Seq};
 const FILLER: u8 = 165;
 
 // A frame that the reader takes: 0, its fields, its payload.
-fn taken<W: Write>(to: &mut Sink<W>, out: &mut [u8], at: usize, h: Header, frame: &[u8]) -> usize {
+fn taken<W: Write>(page: &mut Page<'_>, to: &mut Sink<W>, h: Header, frame: &[u8]) {
     let kind = h.kind;
     let fields = [
         0,
@@ -27,15 +27,15 @@ fn taken<W: Write>(to: &mut Sink<W>, out: &mut [u8], at: usize, h: Header, frame
         h.seq.0 as u64,
         h.length as u64,
     ];
-    let next = numbers(to, out, at, &fields);
-    values(to, out, next, payload(frame))
+    page.values(to, &fields);
+    page.values(to, payload(frame));
 }
 
 // The reader.
-fn reading<W: Write>(to: &mut Sink<W>, out: &mut [u8], at: usize, bytes: &[u8]) -> usize {
+fn reading<W: Write>(page: &mut Page<'_>, to: &mut Sink<W>, bytes: &[u8]) {
     match read(bytes) {
-        Ok(h) => taken(to, out, at, h, bytes),
-        Err(why) => refused(to, out, at, why),
+        Ok(h) => taken(page, to, h, bytes),
+        Err(why) => page.refused(to, why),
     }
 }
 
@@ -68,68 +68,47 @@ fn fields_of(bytes: &[u8]) -> Fields {
 }
 
 // What the writer answers: 0 and the frame's length, or the refusal, which names no byte: there is no frame yet.
-fn written<W: Write>(
-    to: &mut Sink<W>,
-    out: &mut [u8],
-    at: usize,
-    answer: Result<usize, Refusal>,
-) -> usize {
+fn written<W: Write>(page: &mut Page<'_>, to: &mut Sink<W>, answer: Result<usize, Refusal>) {
     match answer {
-        Ok(n) => {
-            let next = value(to, out, at, 0);
-            value(to, out, next, n as u64)
-        }
-        Err(why) => value(to, out, at, u8::from(why) as u64),
+        Ok(n) => page.done(to, n as u64),
+        Err(why) => page.value(to, u8::from(why) as u64),
     }
 }
 
 // The writer's answer with a buffer, and the buffer afterwards.
-fn writing_into<W: Write>(
-    to: &mut Sink<W>,
-    out: &mut [u8],
-    at: usize,
-    bytes: &[u8],
-    buffer: &mut [u8],
-) -> usize {
+fn writing_into<W: Write>(page: &mut Page<'_>, to: &mut Sink<W>, bytes: &[u8], buffer: &mut [u8]) {
     fill(buffer);
     let answer = write(buffer, fields_of(bytes), rest(bytes, records::PAYLOAD));
-    let next = written(to, out, at, answer);
-    values(to, out, next, buffer)
+    written(page, to, answer);
+    page.values(to, buffer);
 }
 
 // The writer, with as much of the buffer as the record asks for.
-fn writing<W: Write>(
-    to: &mut Sink<W>,
-    out: &mut [u8],
-    at: usize,
-    bytes: &[u8],
-    buffer: &mut [u8],
-) -> usize {
+fn writing<W: Write>(page: &mut Page<'_>, to: &mut Sink<W>, bytes: &[u8], buffer: &mut [u8]) {
     let asked = get32(bytes, records::ROOM) as usize;
     if asked < buffer.len() {
-        return writing_into(to, out, at, bytes, &mut buffer[0..asked]);
+        writing_into(page, to, bytes, &mut buffer[0..asked]);
+    } else {
+        writing_into(page, to, bytes, buffer);
     }
-    writing_into(to, out, at, bytes, buffer)
 }
 
 // The check byte.
-fn checking<W: Write>(to: &mut Sink<W>, out: &mut [u8], at: usize, bytes: &[u8]) -> usize {
-    let next = value(to, out, at, 0);
-    value(to, out, next, check8::check(bytes) as u64)
+fn checking<W: Write>(page: &mut Page<'_>, to: &mut Sink<W>, bytes: &[u8]) {
+    page.done(to, check8::check(bytes) as u64);
 }
 
 // The record's line from the refusal on.
 pub fn answer<W: Write>(
+    page: &mut Page<'_>,
     to: &mut Sink<W>,
-    out: &mut [u8],
-    at: usize,
     kind: Kind,
     bytes: &[u8],
     buffer: &mut [u8],
-) -> usize {
+) {
     match kind {
-        Kind::Read => reading(to, out, at, bytes),
-        Kind::Write => writing(to, out, at, bytes, buffer),
-        Kind::Check => checking(to, out, at, bytes),
+        Kind::Read => reading(page, to, bytes),
+        Kind::Write => writing(page, to, bytes, buffer),
+        Kind::Check => checking(page, to, bytes),
     }
 }

@@ -1,5 +1,5 @@
 // The kinds of record: what is done with its bytes.
-use crate::records::Stop;
+use lines::Stop;
 
 // A kind with its number.
 #[derive(Clone, Copy)]

@@ -14,13 +14,14 @@ mod answers; // answers.rt: what each kind prints
 
 use intake::read_full;
 use kinds::Kind;
+use lines::Page;
 use lines::sink::Sink;
-use lines::{flush, number, text, torn, unknown, value};
-use records::{Stop, record_at};
+use records::record_at;
 use std::io;
 use std::io::Write;
 
-// The most bytes of input. One more is read, to see that it is longer.
+// The most bytes of input. One more is read, to see that it is longer: the buffer is a fixed bound on what is read, and
+// a longer input is refused.
 const INPUT: usize = 262144;
 
 // How much text is put together before it is written out.
@@ -31,37 +32,33 @@ const BUFFER: usize = 70000;
 
 // A record's line.
 fn line<W: Write>(
+    page: &mut Page<'_>,
     to: &mut Sink<W>,
-    out: &mut [u8],
-    at: usize,
     count: u64,
     kind: Kind,
     bytes: &[u8],
     buffer: &mut [u8],
-) -> usize {
-    let mut next = number(to, out, at, count);
-    next = value(to, out, next, kind as u64);
-    next = answers::answer(to, out, next, kind, bytes, buffer);
-    text(to, out, next, b"\n")
+) {
+    page.number(to, count);
+    page.value(to, kind as u64);
+    answers::answer(page, to, kind, bytes, buffer);
+    page.text(to, b"\n");
 }
 
 // The lines of all records, or of those up to the first that is torn or unknown.
-fn run<W: Write>(to: &mut Sink<W>, input: &[u8], out: &mut [u8], buffer: &mut [u8]) -> usize {
-    let mut at = 0;
+fn run<W: Write>(page: &mut Page<'_>, to: &mut Sink<W>, input: &[u8], buffer: &mut [u8]) {
     let mut i = 0;
     let mut count: u64 = 0;
     while i < input.len() {
         count += 1;
         let record = match record_at(input, i) {
             Ok(record) => record,
-            Err(Stop::Torn) => return torn(to, out, at, count),
-            Err(Stop::Unknown) => return unknown(to, out, at, count),
+            Err(why) => return page.stopped(to, why, count),
         };
         let bytes = &input[record.start..record.end];
-        at = line(to, out, at, count, record.kind, bytes, buffer);
+        line(page, to, count, record.kind, bytes, buffer);
         i = record.end;
     }
-    at
 }
 
 fn main(rt: HostRuntime) -> io::Result<()> {
@@ -69,12 +66,16 @@ fn main(rt: HostRuntime) -> io::Result<()> {
     let mut out = [0u8; TEXT];
     let mut buffer = [0u8; BUFFER];
     let mut to = Sink::new(io::writer(&rt));
-    let n = read_full(&mut rt.reader(), &mut input)?;
-    let at = if INPUT < n {
-        text(&mut to, &mut out, 0, b"too long\n")
-    } else {
-        run(&mut to, &input[..n], &mut out, &mut buffer)
+    let mut page = Page {
+        bytes: &mut out,
+        taken: 0,
     };
-    flush(&mut to, &out, at);
+    let n = read_full(&mut rt.reader(), &mut input)?;
+    if INPUT < n {
+        page.text(&mut to, b"too long\n");
+    } else {
+        run(&mut page, &mut to, &input[..n], &mut buffer);
+    }
+    page.flush(&mut to);
     to.finish()
 }

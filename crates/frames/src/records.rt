@@ -3,6 +3,7 @@ ghost use Rattle.std.specs.Prelude.{length};
 ghost use Rattle.frames.specs.Records.{Lies};
 
 use crate::kinds::Kind;
+use lines::Stop;
 use units::bytes::{byte_at, get32};
 
 // How many bytes stand before a record's own.
@@ -19,13 +20,6 @@ pub struct Record {
     pub kind: Kind,
     pub start: usize,
     pub end: usize,
-}
-
-// Why no record lies at an index: it is cut short, or whole but of no listed kind.
-#[derive(Clone, Copy)]
-pub enum Stop {
-    Torn,
-    Unknown,
 }
 
 // The record at an index. One to write holds at least the fields.

@@ -7,13 +7,14 @@
 #![tactic(auto)]
 
 use intake::read_full;
-use lines::flush;
+use lines::Page;
 use lines::sink::Sink;
 use memory::layout;
 use std::io;
 use trace_step::{BUFFER, STORE};
 
-// One byte more than the longest file is read, to see that a longer one is against the rules.
+// One byte more than the longest file is read, to see that a longer one is against the rules: the buffer is a fixed
+// bound on what is read.
 const INPUT: usize = trace::layout::FILE + 1;
 
 // How much text is put together before it is written out.
@@ -27,17 +28,20 @@ fn main(rt: HostRuntime) -> io::Result<()> {
     let mut store = [0u8; STORE];
     let mut buffer = [0u8; BUFFER];
     let mut to = Sink::new(io::writer(&rt));
+    let mut page = Page {
+        bytes: &mut text,
+        taken: 0,
+    };
     let n = read_full(&mut rt.reader(), &mut file)?;
-    let at = trace_lines::replay(
+    trace_lines::replay(
+        &mut page,
         &mut to,
-        &mut text,
-        0,
         &file[..n],
         &mut node,
         &mut book,
         &mut store,
         &mut buffer,
     );
-    flush(&mut to, &text, at);
+    page.flush(&mut to);
     to.finish()
 }

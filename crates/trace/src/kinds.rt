@@ -18,7 +18,6 @@ pub enum Kind {
     Report,
 }
 
-// The kind that a number stands for. [L6]
 impl TryFrom<u8> for Kind {
     ghost use Rattle.std.specs.Prelude.{◌≡◌};
     ghost use Rattle.trace.specs.Kinds.{kind_of};
@@ -27,6 +26,7 @@ impl TryFrom<u8> for Kind {
 
     ghost try_from_gives = { λ number kind. kind ≡ kind_of number };
 
+    // The kind that a number stands for. [L6]
     fn try_from(number: u8) -> Result<Kind, Refusal> {
         match number {
             1 => Ok(Kind::Table),
