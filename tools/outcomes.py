@@ -5,8 +5,9 @@ docs/CONTRACTS.md.
 Goes through crates/*/src, programs left out, and looks in crates/contracts/proofs for `pub NAME_one`, where NAME is the
 crate and the function (`node_send`; a function for C by its own name): only one outcome is possible. The theorem has to
 be over the reading of the contract (`use Rattle.node.proofs.send.Reads as NAME` in its file), and has to speak of
-everything that is lent to be altered: of each `&mut` parameter, by its place among the arguments. A function that is
-lent such memory and may refuse also needs `pub NAME_refused`: refused, all is as it was. Of a function that is lent a
+everything that is lent to be altered: of each `&mut` parameter, by its place among the arguments. A conversion (`impl From`, `TryFrom`)
+counts as a function, gives its answer by one equation, and has its name from the definition there: `number_of` of units
+is `units_number`. A function that is lent such memory and may refuse also needs `pub NAME_refused`: refused, all is as it was. Of a function that is lent a
 sink the theorem speaks of any two sinks, whatever writers they have (`OneBehind`). The contract of what is lent a
 struct has to be one record of specs/, which the theorem names. A symbol of the archive has no theorem of its own, since
 nothing can stand on an archive: it has to promise, word for word, what firmware's function of its name does, and to do
@@ -39,6 +40,8 @@ BEHIND_SINK = (r"OneBehind(?: \{[^}]*\})?\s+\(([^\s.()]+)\.Post T L W D\)\s+\(\1
 REFUSES = re.compile(r"Result<.*, Refusal>|Told")  # and for C a number
 NO_REFUSAL = {"shelugvar_tick"}
 FUNCTION = re.compile(r'( *)pub (?:const |unsafe |extern "C" )*fn (\w+)(?:<[^>]*>)?\(')
+CONVERSION = re.compile(r"^impl (?:Try)?From<.*?^\}", re.M | re.S)
+GIVES = re.compile(r"^    ghost (?:try_)?from_gives = \{ λ (\w+) (\w+)\. \2 ≡ (\w+) \1 \};$", re.M)
 
 
 class Function(NamedTuple):
@@ -88,6 +91,16 @@ def functions(text: str) -> list[Function]:
     return found
 
 
+def conversions(text: str) -> list[tuple[str, Function]]:
+    """The conversions of a file that is laid out, each with the definition that it gives; none where no equation does."""
+    found = []
+    for impl in CONVERSION.findall(text):
+        gives = GIVES.search(impl)
+        called = re.search(r"^    fn (\w+)", impl, re.M)
+        found.append((gives[3] if gives else "", Function(called[1] if called else "", [], "", "", "")))
+    return found
+
+
 def exported(crate: pathlib.Path) -> list[tuple[str, Function]]:
     """The functions that other crates can call, each with what its theorems are named by."""
     root = (crate / "src/lib.rt").read_text()
@@ -99,6 +112,7 @@ def exported(crate: pathlib.Path) -> list[tuple[str, Function]]:
         for one in functions(path.read_text()):
             if public or one.name in inside:
                 found.append((one.name if crate.name == BEHIND else f"{crate.name}_{one.name}", one))
+        found += [(f"{crate.name}_{gives.removesuffix('_of')}", one) for gives, one in conversions(path.read_text())]
     return found
 
 

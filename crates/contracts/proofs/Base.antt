@@ -37,6 +37,7 @@ use Rattle.frame.proofs.reading.is_sound.Reads as frame_is_sound
 use Rattle.frame.proofs.reading.header.Reads as frame_header
 use Rattle.frame.proofs.reading.read.Reads as frame_read
 use Rattle.frame.proofs.reading.payload.Reads as frame_payload
+use Rattle.frame.proofs.types.FrameTypeTryFromU8.try_from.Reads as frame_known
 use Rattle.frame.proofs.type_number.Reads as frame_type_number
 use Rattle.frame.proofs.writing.emit.Reads as frame_emit
 use Rattle.frame.proofs.writing.write.Reads as frame_write
@@ -162,6 +163,9 @@ frame_payload_one u v a r₁ r₂ e₁ e₂ p q = cc
 
 pub frame_fault_byte_one : OneAnswer frame_fault_byte.Post (λ r. r)
 frame_fault_byte_one u v a r₁ r₂ e₁ e₂ p q = cc
+
+pub frame_known_one : OneAnswer frame_known.Post (λ r. r)
+frame_known_one u v a r₁ r₂ e₁ e₂ p q = cc
 
 pub frame_type_number_one : OneAnswer frame_type_number.Post (λ r. r)
 frame_type_number_one u v a r₁ r₂ e₁ e₂ p q = cc
