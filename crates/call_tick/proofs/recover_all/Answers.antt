@@ -1,9 +1,8 @@
 -- `call_tick::recover_all` meets its contract. The loop's invariant: the first i entries have had their turn, and their bits come to less than 2 ^ i.
 -- Assumes nothing.
-use mathlib.Core.Path.{◌≡◌, ◌∙◌}
+use mathlib.Core.Path.{◌≡◌}
 use Prim.Native.Nat.{ℕ, ◌+◌, ◌^◌, ◌<◌}
 use native.Mathlib.Numerals.{add-one}
-use native.Mathlib.Omega.{arith}
 use Rattle.call_tick.specs.Ticking.{Recovered, recover, recover_all}
 use Rattle.call_tick.proofs.Answering.{bits_lt}
 use Rattle.call_tick.proofs.recover_all.Goals as goal

@@ -2,7 +2,6 @@
 -- tell, and `last` is that offset. Assumes nothing.
 use mathlib.Core.Path.{◌∙◌}
 use Prim.Native.Nat.{◌+◌}
-use native.Mathlib.Omega.{arith}
 use borrow.Author.Tests.{le-leb}
 use Rattle.blocks.specs.Reading.{offset_in}
 use Rattle.blocks.proofs.lent.never_fall.Invariants.{one}

@@ -1,6 +1,6 @@
 -- `call_tick::timers::tick_slots` meets its contract. The loop's invariant: the first k timers have ticked. Assumes nothing.
 -- after k turns
-use mathlib.Core.Path.{◌≡◌, ◌∙◌}
+use mathlib.Core.Path.{◌≡◌}
 use Prim.Native.Nat.{ℕ, ◌+◌, ◌≤◌}
 use native.Mathlib.Numerals.{add-one}
 use native.Mathlib.Omega.{arith}
