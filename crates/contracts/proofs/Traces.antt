@@ -28,6 +28,7 @@ use Rattle.trace_lines.specs.Lines.{replay_lent}
 use Rattle.replayed.specs.Replayed.{table_in}
 use Rattle.replayed.proofs.Made.{made}
 use Rattle.replayed.proofs.Replaying.{first_is, step_made, step_sets_up}
+use Rattle.trace.proofs.kinds.KindTryFromU8.try_from.Reads as trace_kind
 use Rattle.trace.proofs.kinds.is_kind.Reads as trace_is_kind
 use Rattle.trace.proofs.kinds.takes_index.Reads as trace_takes_index
 use Rattle.trace.proofs.kinds.takes_bytes.Reads as trace_takes_bytes
@@ -46,6 +47,9 @@ use Rattle.contracts.proofs.Refused.{arrival_spared}
 use Rattle.std.specs.Prelude.{Ok}
 
 -- ---- one outcome: the file
+
+pub trace_kind_one : OneAnswer trace_kind.Post (λ r. r)
+trace_kind_one u v a r₁ r₂ e₁ e₂ p q = cc
 
 pub trace_is_kind_one : OneAnswer trace_is_kind.Post (λ r. r)
 trace_is_kind_one u v a r₁ r₂ e₁ e₂ p q = cc

@@ -38,7 +38,7 @@ impl AsNumber for u8 {
     ghost number = { λ v. v };
 
     fn as_number(self) -> u64 {
-        self as u64
+        u64::from(self)
     }
 }
 
@@ -46,7 +46,7 @@ impl AsNumber for u64 {
     ghost number = { λ v. v };
 
     fn as_number(self) -> u64 {
-        self
+        self // one already
     }
 }
 
