@@ -67,7 +67,13 @@ fn plan_line<W: Write>(
 ) {
     page.number(to, count);
     page.value(to, kinds::PLAN as u64);
-    let plan = node::plan(station.node, station.book, station.store, index as usize, block);
+    let plan = node::plan(
+        station.node,
+        station.book,
+        station.store,
+        index as usize,
+        block,
+    );
     page.planned(to, plan);
     page.text(to, b"\n");
 }

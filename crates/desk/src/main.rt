@@ -29,12 +29,7 @@ const INPUT: usize = 65536;
 const TEXT: usize = 65536;
 
 // The lines of all records, or of those up to the first that is torn or unknown.
-fn run<W: Write>(
-    page: &mut Page<'_>,
-    to: &mut Sink<W>,
-    input: &[u8],
-    station: &mut Station<'_>,
-) {
+fn run<W: Write>(page: &mut Page<'_>, to: &mut Sink<W>, input: &[u8], station: &mut Station<'_>) {
     let mut i = 0;
     let mut count: u64 = 0;
     while i < input.len() {
