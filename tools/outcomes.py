@@ -5,13 +5,14 @@ docs/CONTRACTS.md.
 Goes through crates/*/src, programs left out, and looks in crates/contracts/proofs for `pub NAME_one`, where NAME is the
 crate and the function (`node_send`; a function for C by its own name): only one outcome is possible. The theorem has to
 be over the reading of the contract (`use Rattle.node.proofs.send.Reads as NAME` in its file), and has to speak of
-everything that is lent to be altered: of each `&mut` parameter, by its place among the arguments. A conversion (`impl From`, `TryFrom`)
-counts as a function, gives its answer by one equation, and has its name from the definition there: `number_of` of units
-is `units_number`. A function that is lent such memory and may refuse also needs `pub NAME_refused`: refused, all is as it was. Of a function that is lent a
-sink the theorem speaks of any two sinks, whatever writers they have (`OneBehind`). The contract of what is lent a
-struct has to be one record of specs/, which the theorem names. A symbol of the archive has no theorem of its own, since
-nothing can stand on an archive: it has to promise, word for word, what firmware's function of its name does, and to do
-nothing but call that. The exceptions stand below with their reasons, and in docs/CONTRACTS.md.
+everything that is lent to be altered: of each `&mut` parameter, by its place among the arguments. A conversion (`impl
+From`, `TryFrom`) counts as a function, gives its answer by one equation, and has its name from the definition there:
+`number_of` of units is `units_number`. A function that is lent such memory and may refuse also needs `pub
+NAME_refused`: refused, all is as it was. Of a function that is lent a sink the theorem speaks of any two sinks,
+whatever writers they have (`OneBehind`), and of a function over any type it is over every type. The contract of what is
+lent a struct has to be one record of specs/, which the theorem names. A symbol of the archive has no theorem of its
+own, since nothing can stand on an archive: it has to promise, word for word, what firmware's function of its name does,
+and to do nothing but call that. The exceptions stand below with their reasons, and in docs/CONTRACTS.md.
 """
 import pathlib
 import re
@@ -32,11 +33,21 @@ EXCEPT = {
     "intake_read_full": "how much a reader gives at a time is the reader's to say",
 }
 OUTSIDE = ": &mut Sink<"  # where text goes: a writer, and no lent memory
+PAGE = ": &mut Page<"  # where text is put together; `lines`' own functions are its methods
 # every two types of writers: a theorem in such a module is of any two sinks
 WRITERS = ("module _ (T T' : RattleType) (L : Laws T) (L' : Laws T') (W : Write.Ghosts T.Denot)"
-           " (W' : Write.Ghosts T'.Denot) (D D' : Dict) where")
-BEHIND_SINK = (r"OneBehind(?: \{[^}]*\})?\s+\(([^\s.()]+)\.Post T L W D\)\s+\(\1\.Post T' L' W' D'\)"
+           " (W' : Write.Ghosts T'.Denot) (D D' : Dict)")
+# and every type of numbers
+NUMBERS = ("(X : RattleType) (M : Laws X) (C : IsCopy X) (N : AsNumber.Ghosts X.Denot) (K : Clone.Ghosts X.Denot)"
+           " (G H : Dict)")
+BEHIND_SINK = (r"\s+OneBehind(?: \{[^}]*\})?\s+\(([^\s.()]+)\.Post %s\)\s+\(\1\.Post %s\)"
                r"(?:\s+\(λ e\. [^λ→⊎]*\)){2}\s*")
+ANY_SINKS = {f"{WRITERS} where": BEHIND_SINK % ("T L W D", "T' L' W' D'"),
+             f"{WRITERS} {NUMBERS} where": BEHIND_SINK % ("T X L M C W D N G K H", "T' X L' M C W' D' N G K H")}
+# every type of items, and every one that is copied
+ITEMS = "module _ (T : RattleType) (L : Laws T)"
+ANY_ITEMS = {f"{ITEMS} where": "T L",
+             f"{ITEMS} (C : IsCopy T) (W : Clone.Ghosts T.Denot) (D : Dict) where": "T L C W D"}
 REFUSES = re.compile(r"Result<.*, Refusal>|Told")  # and for C a number
 NO_REFUSAL = {"shelugvar_tick"}
 FUNCTION = re.compile(r'( *)pub (?:const |unsafe |extern "C" )*fn (\w+)(?:<[^>]*>)?\(')
@@ -56,6 +67,13 @@ class Function(NamedTuple):
         """The places among the arguments of what is lent to be altered."""
         return [place for place, text in enumerate(self.parameters)
                 if (": &mut " in text or text == "&mut self") and OUTSIDE not in text]
+
+    @property
+    def pages(self) -> list[int]:
+        """The places among them of a page: what is lent beside a sink, as `self` or by its type."""
+        with_sink = any(OUTSIDE in text for text in self.parameters)
+        return [place for place, text in enumerate(self.parameters)
+                if PAGE in text or text == "&mut self" and with_sink]
 
 
 def function(name: str, head: str, body: str) -> Function:
@@ -92,7 +110,7 @@ def functions(text: str) -> list[Function]:
 
 
 def conversions(text: str) -> list[tuple[str, Function]]:
-    """The conversions of a file that is laid out, each with the definition that it gives; none where no equation does."""
+    """The conversions of a file that is laid out, each with the definition that it gives, if an equation says one."""
     found = []
     for impl in CONVERSION.findall(text):
         gives = GIVES.search(impl)
@@ -130,25 +148,30 @@ def statements(proofs: list[str], name: str) -> list[Theorem]:
             for text in proofs for found in pattern.finditer(text)]
 
 
-def leaves_out(theorem: Theorem, altered: list[int]) -> bool:
-    """Whether a statement projects not all of these arguments at exit, each time that it says what is left: `e.1.1.0`
-    is the third."""
+def leaves_out(theorem: Theorem, one: Function) -> bool:
+    """Whether a statement projects not all that the function may alter at exit, each time that it says what is left:
+    `e.1.1.0` is the third argument, and of a page all is said that it holds (`left_in`)."""
     said = theorem.stated.split("(λ e. ")[1:] or [""]
-    return any(set(altered) - {steps.count(".1") for steps in re.findall(r"(?<![\w.])e((?:\.1)*)\.0\b", text)}
+    return any(set(one.altered) - {steps.count(".1") for steps in re.findall(r"(?<![\w.])e((?:\.1)*)\.0\b", text)}
+               or any(f"left_in e{'.1' * place}.0.now" not in text for place in one.pages)
                for text in said)
 
 
 def over_contract(crate: str, name: str, theorem: Theorem, kind: str) -> bool:
     """Whether a theorem is of a kind and over the reading of the function's contract, which its file names. One that is
-    indented is of a function that is lent a sink: over every two types of writers, and it assumes nothing else."""
+    indented is of a function that is lent a page and a sink, over every two types of writers and every type of numbers,
+    or of a function over any type of items, over every such type; and it assumes nothing else."""
+    post = r"([^\s.()]+)\.Post\b"
     if theorem.indent:
         # what stands at the margin last, with the lines that go on with it, up to its `where`
         opened = re.split(r"^(?=[^\s-])", theorem.before, flags=re.M)[-1]
-        if kind == "Spares" or " ".join(re.split(r"(?<= where)\n", opened)[0].split()) != WRITERS:
+        module = " ".join(re.split(r"(?<= where)\n", opened)[0].split())
+        if kind == "Spares" or module not in {*ANY_SINKS, *ANY_ITEMS}:
             return False
-        found = re.fullmatch(rf"\s+{BEHIND_SINK}", theorem.stated)
+        form = ANY_SINKS.get(module) or rf"\s+{kind}\s+\({post} {ANY_ITEMS[module]}\)[^→⊎×]*"
     else:
-        found = re.fullmatch(rf"\s+{kind}(?: \{{[^}}]*\}})?\s+([^\s.()]+)\.Post\b[^→⊎×]*", theorem.stated)
+        form = rf"\s+{kind}(?: \{{[^}}]*\}})?\s+{post}[^→⊎×]*"
+    found = re.fullmatch(form, theorem.stated)
     reading = rf"^use Rattle\.{crate}\.proofs\.(?:\w+\.)*{name}\.Reads as (\S+)$"
     return bool(found) and found[1] in re.findall(reading, theorem.file, re.M)
 
@@ -162,7 +185,7 @@ def lacks(crate: str, one: Function, name: str, proofs: list[str]) -> list[str]:
         found = [it for it in statements(proofs, theorem) if over_contract(crate, one.name, it, kind)]
         if len(found) != 1:
             wrong.append(f"has no theorem {theorem} over its contract")
-        elif leaves_out(found[0], one.altered):
+        elif leaves_out(found[0], one):
             wrong.append(f"{theorem} does not speak of all that it may alter")
     return wrong
 

@@ -147,7 +147,9 @@ module _ (T T' : RattleType) (L : Laws T) (L' : Laws T') (W : Write.Ghosts T.Den
   pub lines_arrived_one : OneBehind (lines_arrived.Post T L W D) (lines_arrived.Post T' L' W' D') (λ e. left_in e.0.now) (λ e. left_in e.0.now)
   lines_arrived_one u v page s t a r₁ r₂ e₁ e₂ p q = (refl, cc (p.0.name, q.0.name, p.1.0, q.1.0))
 
-  -- of numbers of any type that is told as such
-  module _ (X : RattleType) (M : Laws X) (C : IsCopy X) (N : AsNumber.Ghosts X.Denot) (K : Clone.Ghosts X.Denot) (G H : Dict) where
-    pub lines_values_one : OneBehind (lines_values.Post T X L M C W D N G K H) (lines_values.Post T' X L' M C W' D' N G K H) (λ e. left_in e.0.now) (λ e. left_in e.0.now)
-    lines_values_one u v page s t a r₁ r₂ e₁ e₂ p q = (refl, cc (p.0.name, q.0.name, p.1.0, q.1.0))
+-- and over every type of numbers: of bytes and of numbers of 64 bits, as of any that is told as a number
+module _ (T T' : RattleType) (L : Laws T) (L' : Laws T') (W : Write.Ghosts T.Denot) (W' : Write.Ghosts T'.Denot)
+    (D D' : Dict) (X : RattleType) (M : Laws X) (C : IsCopy X) (N : AsNumber.Ghosts X.Denot) (K : Clone.Ghosts X.Denot)
+    (G H : Dict) where
+  pub lines_values_one : OneBehind (lines_values.Post T X L M C W D N G K H) (lines_values.Post T' X L' M C W' D' N G K H) (λ e. left_in e.0.now) (λ e. left_in e.0.now)
+  lines_values_one u v page s t a r₁ r₂ e₁ e₂ p q = (refl, cc (p.0.name, q.0.name, p.1.0, q.1.0))
