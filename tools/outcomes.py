@@ -8,11 +8,12 @@ be over the reading of the contract (`use Rattle.node.proofs.send.Reads as NAME`
 everything that is lent to be altered: of each `&mut` parameter, by its place among the arguments. A conversion (`impl
 From`, `TryFrom`) counts as a function, gives its answer by one equation, and has its name from the definition there:
 `number_of` of units is `units_number`. A function that is lent such memory and may refuse also needs `pub
-NAME_refused`: refused, all is as it was. Of a function that is lent a sink the theorem speaks of any two sinks,
-whatever writers they have (`OneBehind`). The contract of what is lent a struct has to be one record of specs/, which
-the theorem names. A symbol of the archive has no theorem of its own, since nothing can stand on an archive: it has to
-promise, word for word, what firmware's function of its name does, and to do nothing but call that. The exceptions stand
-below with their reasons, and in docs/CONTRACTS.md.
+NAME_refused`: refused, all is as it was. Of a function that is lent a page and a sink the theorem speaks of any two
+sinks, whatever writers they have (`OneBehind`), of every type of numbers where it takes them, and of all that the page
+holds afterwards (`left_in`). The contract of what is lent a struct has to be one record of specs/, which the theorem
+names. A symbol of the archive has no theorem of its own, since nothing can stand on an archive: it has to promise, word
+for word, what firmware's function of its name does, and to do nothing but call that. The exceptions stand below with
+their reasons, and in docs/CONTRACTS.md.
 """
 import pathlib
 import re
@@ -109,7 +110,7 @@ def functions(text: str) -> list[Function]:
 
 
 def conversions(text: str) -> list[tuple[str, Function]]:
-    """The conversions of a file that is laid out, each with the definition that it gives; none where no equation does."""
+    """The conversions of a file that is laid out, each with the definition that it gives, or with none."""
     found = []
     for impl in CONVERSION.findall(text):
         gives = GIVES.search(impl)
