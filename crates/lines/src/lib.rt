@@ -7,7 +7,8 @@ pub mod sink; // sink.rt: where text goes, and the error that ends it
 mod answers; // answers.rt: what the calls answered, in the paper's numbers
 
 ghost use Rattle.std.specs.Prelude.{◌≡◌, ◌≤◌, ℕ, [], map, take, length};
-ghost use Rattle.lines.specs.Lines.{SameBuffer, page, seen, place_of, appended, ascii, decimal_of, valued, valued_all, word_of, last_line};
+ghost use Rattle.lines.specs.Lines.{SameBuffer, page, seen, place_of, appended, ascii, decimal_of, valued, valued_all};
+ghost use Rattle.lines.specs.Lines.{word_of, last_line};
 ghost use Rattle.lines.specs.Sink.{Puts, Says, HasRoom, value_text, values_text, last_text};
 ghost use Rattle.units.specs.Refusals.{number_of};
 ghost use Rattle.frame.specs.Faults.{refused_of};

@@ -1,7 +1,8 @@
 // The lines of a replay: a trace file's records made one after the other on a node that is lent, and a line for each.
 // Text is put together in a page, as in the crate `lines`.
-// Proved, for every file and every content of the memory: what the page and all that was lent hold afterwards, by the definitions of specs/Lines.antt, whether or not a write fails; of a writer whose
-// bytes are known, that what it holds and what waits in the page have grown by the lines, unless a write failed.
+// Proved, for every file and every content of the memory: what the page and all that was lent hold afterwards, by the
+// definitions of specs/Lines.antt, whether or not a write fails; of a writer whose bytes are known, that what it holds
+// and what waits in the page have grown by the lines, unless a write failed.
 #![tactic(auto)]
 
 ghost use Rattle.std.specs.Prelude.{◌≡◌, ◌<◌};
