@@ -8,8 +8,9 @@ be over the reading of the contract (`use Rattle.node.proofs.send.Reads as NAME`
 everything that is lent to be altered: of each `&mut` parameter, by its place among the arguments. A conversion (`impl
 From`, `TryFrom`) counts as a function, gives its answer by one equation, and has its name from the definition there:
 `number_of` of units is `units_number`. A function that is lent such memory and may refuse also needs `pub
-NAME_refused`: refused, all is as it was. Of a function that is lent a sink the theorem speaks of any two sinks,
-whatever writers they have (`OneBehind`), and of a function over any type it is over every type. The contract of what is
+NAME_refused`: refused, all is as it was. Of a function that is lent a page and a sink the theorem speaks of any two
+sinks, whatever writers they have (`OneBehind`), of every type of numbers where it takes them, and of all that the page
+holds afterwards (`left_in`); of a function over any type of items it speaks of every such type. The contract of what is
 lent a struct has to be one record of specs/, which the theorem names. A symbol of the archive has no theorem of its
 own, since nothing can stand on an archive: it has to promise, word for word, what firmware's function of its name does,
 and to do nothing but call that. The exceptions stand below with their reasons, and in docs/CONTRACTS.md.
@@ -51,12 +52,14 @@ ANY_ITEMS = {f"{ITEMS} where": "T L",
 REFUSES = re.compile(r"Result<.*, Refusal>|Told")  # and for C a number
 NO_REFUSAL = {"shelugvar_tick"}
 FUNCTION = re.compile(r'( *)pub (?:const |unsafe |extern "C" )*fn (\w+)(?:<[^>]*>)?\(')
+IMPL = re.compile(r"impl(?:<[^>]*>)? (?:.* for )?(\w+)")  # and the type
 CONVERSION = re.compile(r"^impl (?:Try)?From<.*?^\}", re.M | re.S)
 GIVES = re.compile(r"^    ghost (?:try_)?from_gives = \{ λ (\w+) (\w+)\. \2 ≡ (\w+) \1 \};$", re.M)
 
 
 class Function(NamedTuple):
     name: str
+    of: str  # the type whose method it is, or nothing
     parameters: list[str]
     answer: str
     contract: str  # from its answer to its body
@@ -76,7 +79,7 @@ class Function(NamedTuple):
                 if PAGE in text or text == "&mut self" and with_sink]
 
 
-def function(name: str, head: str, body: str) -> Function:
+def function(name: str, of: str, head: str, body: str) -> Function:
     """A function, by its head from its first parameter on."""
     depth = end = 0
     while depth >= 0:
@@ -85,7 +88,7 @@ def function(name: str, head: str, body: str) -> Function:
     parameters = re.split(r",(?![^(\[<]*[)\]>])", " ".join(head[:end - 1].split()))
     answer = re.match(r" -> ([^\n]+?)(?: \{)?\n", head[end:])
     contract = head[end:].split("\n", 1)[1]
-    return Function(name, [text.strip() for text in parameters if text.strip()], answer[1] if answer else "",
+    return Function(name, of, [text.strip() for text in parameters if text.strip()], answer[1] if answer else "",
                     contract, body)
 
 
@@ -104,18 +107,19 @@ def functions(text: str) -> list[Function]:
         ends = opens
         while not re.match(rf"{inner}(?! ).*\}}$", lines[ends]):
             ends += 1
-        found.append(function(begun[2], line[begun.end():] + "".join(lines[k + 1:opens + 1]),
-                              "".join(lines[opens + 1:ends])))
+        impls = [it[1] for it in map(IMPL.match, lines[:k]) if it] if inner else []
+        head = line[begun.end():] + "".join(lines[k + 1:opens + 1])
+        found.append(function(begun[2], impls[-1] if impls else "", head, "".join(lines[opens + 1:ends])))
     return found
 
 
 def conversions(text: str) -> list[tuple[str, Function]]:
-    """The conversions of a file that is laid out, each with the definition that it gives, if an equation says one."""
+    """The conversions of a file that is laid out, each with the definition that it gives, or with none."""
     found = []
     for impl in CONVERSION.findall(text):
         gives = GIVES.search(impl)
         called = re.search(r"^    fn (\w+)", impl, re.M)
-        found.append((gives[3] if gives else "", Function(called[1] if called else "", [], "", "", "")))
+        found.append((gives[3] if gives else "", Function(called[1] if called else "", "", [], "", "", "")))
     return found
 
 
@@ -124,11 +128,13 @@ def exported(crate: pathlib.Path) -> list[tuple[str, Function]]:
     root = (crate / "src/lib.rt").read_text()
     uses = re.findall(r"^pub use (?:\w+::)+(?:(\w+)|\{([^}]*)\});", root, re.M)
     inside = {name for one, several in uses for name in [one, *re.findall(r"\w+", several)]}
+    # with their methods, whichever file has these
+    types = {*inside, *re.findall(r"^pub (?:struct|enum) (\w+)", root, re.M)} - {""}
     found = []
     for path in sorted((crate / "src").glob("*.rt")):
         public = path.stem == "lib" or re.search(rf"^pub mod {path.stem};", root, re.M)
         for one in functions(path.read_text()):
-            if public or one.name in inside:
+            if public or one.name in inside or one.of in types:
                 found.append((one.name if crate.name == BEHIND else f"{crate.name}_{one.name}", one))
         found += [(f"{crate.name}_{gives.removesuffix('_of')}", one) for gives, one in conversions(path.read_text())]
     return found
@@ -206,7 +212,7 @@ def lacks_record(one: Function, name: str, proofs: list[str]) -> list[str]:
 def lacks_symbol(one: Function, behind: dict[str, Function]) -> list[str]:
     """What a symbol of the archive promises or does but to call the function of its name."""
     other = behind.get(one.name)
-    if not other or one[1:4] != other[1:4]:
+    if not other or one[2:5] != other[2:5]:
         return [f"does not promise what the function of {BEHIND} does"]
     given = ", ".join(text.split(":")[0] for text in one.parameters)
     called = re.fullmatch(rf"\s*{BEHIND}::(?:\w+::)?{one.name}\((.*?),?\s*\)\s*", one.body, re.S)
