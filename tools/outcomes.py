@@ -13,7 +13,8 @@ sinks, whatever writers they have (`OneBehind`), of every type of numbers where 
 holds afterwards (`left_in`); of a function over any type of items it speaks of every such type. The contract of what is
 lent a struct has to be one record of specs/, which the theorem names. A symbol of the archive has no theorem of its
 own, since nothing can stand on an archive: it has to promise, word for word, what firmware's function of its name does,
-and to do nothing but call that. The exceptions stand below with their reasons, and in docs/CONTRACTS.md.
+and to do nothing but call that. Nor has a trait's method, but an equation in the trait that fixes its answer. The
+exceptions stand below with their reasons, and in docs/CONTRACTS.md.
 """
 import pathlib
 import re
@@ -54,6 +55,7 @@ NO_REFUSAL = {"shelugvar_tick"}
 FUNCTION = re.compile(r'( *)pub (?:const |unsafe |extern "C" )*fn (\w+)(?:<[^>]*>)?\(')
 IMPL = re.compile(r"impl(?:<[^>]*>)? (?:.* for )?(\w+)")  # and the type
 CONVERSION = re.compile(r"^impl (?:Try)?From<.*?^\}", re.M | re.S)
+TRAIT = re.compile(r"^pub trait .*?^\}", re.M | re.S)
 GIVES = re.compile(r"^    ghost (?:try_)?from_gives = \{ λ (\w+) (\w+)\. \2 ≡ (\w+) \1 \};$", re.M)
 
 
@@ -114,13 +116,22 @@ def functions(text: str) -> list[Function]:
 
 
 def conversions(text: str) -> list[tuple[str, Function]]:
-    """The conversions of a file that is laid out, each with the definition that it gives, or with none."""
+    """The conversions of a file that is laid out, each with the definition that it gives, or with none. The definition
+    stands in the contract's place: by it docs/CONTRACTS.md has a conversion."""
     found = []
     for impl in CONVERSION.findall(text):
         gives = GIVES.search(impl)
         called = re.search(r"^    fn (\w+)", impl, re.M)
-        found.append((gives[3] if gives else "", Function(called[1] if called else "", "", [], "", "", "")))
+        name = gives[3] if gives else ""
+        found.append((name, Function(called[1] if called else "", "", [], "", name, "")))
     return found
+
+
+def unfixed(crate: pathlib.Path) -> list[str]:
+    """The methods of a crate's public traits whose answer no equation fixes, whichever the impl."""
+    traits = [trait for path in sorted((crate / "src").glob("*.rt")) for trait in TRAIT.findall(path.read_text())]
+    return [found[1] for trait in traits for found in re.finditer(r"^    fn (\w+)[^;]*;", trait, re.M)
+            if not re.search(r"^ *ensures \{ result ≡ .* \};$", found[0], re.M)]
 
 
 def exported(crate: pathlib.Path) -> list[tuple[str, Function]]:
@@ -230,9 +241,10 @@ def main() -> int:
     count, missing = 0, []
     for crate, its in found.items():
         for name, one in its:
-            short = one.name.removeprefix("shelugvar_")
+            said = one.contract if one.name in ("from", "try_from") else one.name
+            short = said.removeprefix("shelugvar_")
             wrong = []
-            if crate in PUBLIC and not re.search(rf"`(?:[\w:]*::)?(?:{one.name}|{short})`", listed):
+            if crate in PUBLIC and not re.search(rf"`(?:[\w:]*::)?(?:{said}|{short})`", listed):
                 wrong.append("has no line in docs/CONTRACTS.md")
             if name not in EXCEPT:
                 count += 1
@@ -240,6 +252,8 @@ def main() -> int:
                 wrong += (lacks_symbol(one, behind) if crate == ARCHIVE
                           else lacks_record(one, name, proofs) if by_record else lacks(crate, one, name, proofs))
             missing += [f"crates/{crate}: {one.name}: {text}" for text in wrong]
+    missing += [f"crates/{crate.name}: {name}: no equation fixes its answer"
+                for crate in libraries for name in unfixed(crate)]
     symbols = {one.name for _, one in found[ARCHIVE]}
     missing += [f"crates/{ARCHIVE}: {name}: is no symbol" for name in sorted(behind.keys() - symbols)]
     names = {name for its in found.values() for name, _ in its}

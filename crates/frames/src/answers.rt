@@ -39,13 +39,6 @@ fn reading<W: Write>(page: &mut Page<'_>, to: &mut Sink<W>, bytes: &[u8]) {
     }
 }
 
-// All of a slice set to the filler.
-fn fill(buffer: &mut [u8]) {
-    for b in buffer.iter_mut() {
-        *b = FILLER;
-    }
-}
-
 // The bytes of a slice from an index on.
 fn rest(bytes: &[u8], from: usize) -> &[u8] {
     if bytes.len() < from {
@@ -77,7 +70,7 @@ fn written<W: Write>(page: &mut Page<'_>, to: &mut Sink<W>, answer: Result<usize
 
 // The writer's answer with a buffer, and the buffer afterwards.
 fn writing_into<W: Write>(page: &mut Page<'_>, to: &mut Sink<W>, bytes: &[u8], buffer: &mut [u8]) {
-    fill(buffer);
+    buffer.fill(FILLER);
     let answer = write(buffer, fields_of(bytes), rest(bytes, records::PAYLOAD));
     written(page, to, answer);
     page.values(to, buffer);
