@@ -1,3 +1,4 @@
+pub mod Cut
 pub mod Every
 mod Past
 pub mod Places

@@ -1,11 +1,11 @@
 // The table's bytes, high bytes first. A byte past the end counts as 0.
-ghost use Rattle.std.specs.Prelude.{◌≡◌, ◌+◌, ◌^◌, ◌<◌};
+ghost use Rattle.std.specs.Prelude.{◌≡◌, take, drop};
 ghost use Rattle.table.specs.Layout.{entry_size, count_of, first_of, own_of, protocol_of, head_zeros_of};
 ghost use Rattle.table.specs.Layout.{kind_of};
 ghost use Rattle.table.specs.Layout.{window_from, zeros_from, entry_from, entry_of};
 
 use crate::{Entry, Kind};
-use units::bytes::{byte_at, get16};
+use units::bytes::{byte_at, get16, part};
 use units::sizes::in_force;
 use units::{Address, Channel};
 
@@ -74,35 +74,42 @@ fn kind_of(b: u8) -> Kind
     Kind::Receives
 }
 
+// The bytes of the entry that begins at a byte, as many of its 12 as there are.
+fn bytes_from(table: &[u8], at: usize) -> &[u8]
+    ensures { result.now ≡ take entry_size (drop at table.now) }
+{
+    part(table, at, ENTRY)
+}
+
 // The window as it is written in the entry that begins at a byte.
+#[tactic(auto, using(crate::proofs::Cut::cut16))]
 pub fn window_from(table: &[u8], at: usize) -> u16
-    requires { at + entry_size < 2 ^ 64 }
     ensures { result ≡ window_from table.now at }
 {
-    get16(table, at + 4)
+    get16(bytes_from(table, at), 4)
 }
 
 // The last two bytes of the entry that begins at a byte, which are to be zero.
+#[tactic(auto, using(crate::proofs::Cut::cut16))]
 pub fn zeros_from(table: &[u8], at: usize) -> u16
-    requires { at + entry_size < 2 ^ 64 }
     ensures { result ≡ zeros_from table.now at }
 {
-    get16(table, at + 10)
+    get16(bytes_from(table, at), 10)
 }
 
 // The entry that begins at a byte.
 pub fn entry_from(table: &[u8], at: usize) -> Entry
-    requires { at + entry_size < 2 ^ 64 }
     ensures { result ≡ entry_from table.now at }
 {
+    let bytes = bytes_from(table, at);
     Entry {
-        kind: kind_of(byte_at(table, at)),
-        remote: Address(byte_at(table, at + 1)),
-        channel: Channel(byte_at(table, at + 2)),
-        retries: byte_at(table, at + 3),
+        kind: kind_of(byte_at(bytes, 0)),
+        remote: Address(byte_at(bytes, 1)),
+        channel: Channel(byte_at(bytes, 2)),
+        retries: byte_at(bytes, 3),
         window: in_force(window_from(table, at)),
-        largest: get16(table, at + 6),
-        timeout: get16(table, at + 8),
+        largest: get16(bytes, 6),
+        timeout: get16(bytes, 8),
     }
 }
 
