@@ -88,47 +88,39 @@ impl Window {
     pub fn accept(self, s: Seq) -> Accepted
         ensures { result ≡ accept_of self s.0 }
     {
-        let start = self.start;
-        let size = self.size;
-        let marks = self.marks;
-        let offset = distance(start, s);
-        if size <= offset {
+        let offset = distance(self.start, s);
+        if self.size <= offset {
             return Accepted {
                 window: self,
                 found: Found::Outside,
             };
         }
-        if words::is_set(marks, offset) {
+        if words::is_set(self.marks, offset) {
             return Accepted {
                 window: self,
                 found: Found::Held,
             };
         }
-        let more = words::with_set(marks, offset);
+        let marks = words::with_set(self.marks, offset);
         Accepted {
-            window: Window {
-                start,
-                size,
-                marks: more,
-            },
+            window: Window { marks, ..self },
             found: Found::New,
         }
     }
 
     // The window past all that is held from its start on without a gap, and how many those are. [W5, W8, G6]
+    #[tactic(auto, unfolding(crate::specs::Windows::pass_of))]
     pub fn pass(self) -> Passed
         ensures { result ≡ pass_of self }
     {
-        let size = self.size;
-        let marks = self.marks;
-        let run = words::run(marks);
+        let run = words::run(self.marks);
         let start = advance(self.start, run);
-        let rest = words::shift_down(marks, run);
+        let marks = words::shift_down(self.marks, run);
         Passed {
             window: Window {
                 start,
-                size,
-                marks: rest,
+                marks,
+                ..self
             },
             run,
         }

@@ -3,9 +3,9 @@ use Rattle.std.proofs.Common.{arith, le-ltb, lt-ltb}
 use Rattle.window.specs.Windows.{offset_of, held, accept_of}
 use Rattle.window.proofs.Window.accept.Goals as goal
 
-pub returns-then-size-offset : goal.returns-then-size-offset
+pub returns-then-self-offset : goal.returns-then-self-offset
 unfolding accept_of
-returns-then-size-offset c =
+returns-then-self-offset c =
     let a = c.args in
     rw (le-ltb (offset_of a.self a.s.0) a.self.size (omega arith))
 
@@ -21,4 +21,4 @@ unfolding accept_of held
 returns c =
     let a = c.args in
     let d = c.distance-offset.ensures in
-    rw (lt-ltb (offset_of a.self a.s.0) a.self.size (omega arith), ← d, ← c.is_set.ensures, c.if-is_set.false, c.with_set-more.ensures)
+    rw (lt-ltb (offset_of a.self a.s.0) a.self.size (omega arith), ← d, ← c.is_set.ensures, c.if-is_set.false, c.with_set-marks.ensures)
