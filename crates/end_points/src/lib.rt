@@ -8,7 +8,7 @@ pub mod answers; // answers.rt: what the calls answer
 pub mod heads; // heads.rt: the node's head
 pub mod states; // states.rt: questions about kind and state, and a run begun anew
 
-ghost use Rattle.std.specs.Prelude.{◌≡◌, ◌<◌, take, drop, [], ◌∷◌};
+ghost use Rattle.std.specs.Prelude.{◌≡◌, take, drop, [], ◌∷◌};
 ghost use Rattle.memory.specs.Layout.{entry_long, entry_at};
 ghost use Rattle.end_points.specs.Ends.{kind_of, state_of, load_entry, place_in, load_state, load_run, end_of};
 ghost use Rattle.end_points.specs.Ends.{state_words, saved, saved_entry};
@@ -81,9 +81,11 @@ fn state_of(tag: u64, value: u64, flag: u64) -> State
 // The words of entry i, as many of its 32 as there are. The length is tested once here: where it is known, as in every
 // call of the node, no read of a word below tests it again.
 fn words_of(node: &[u64], i: usize) -> &[u64]
-    requires { i < 4096 }
     ensures { result.now ≡ take entry_long (drop (entry_at i) node.now) }
 {
+    if node.len() / layout::ENTRY_WORDS < i {
+        return &node[0..0];
+    }
     part(
         node,
         layout::ENTRY_AT + layout::ENTRY_WORDS * i,
@@ -94,7 +96,6 @@ fn words_of(node: &[u64], i: usize) -> &[u64]
 // What the table says of entry i.
 #[tactic(auto, unfolding(crate::specs::Ends::load_entry))]
 pub fn load_entry(node: &[u64], i: usize) -> Entry
-    requires { i < 4096 }
     ensures { result ≡ load_entry node.now i }
 {
     let ws = words_of(node, i);
@@ -118,7 +119,6 @@ pub fn load_entry(node: &[u64], i: usize) -> Entry
 
 // Where the area of the store begins that is entry i's.
 pub fn load_place(node: &[u64], i: usize) -> u16
-    requires { i < 4096 }
     ensures { result ≡ place_in node.now i }
 {
     (word_at(words_of(node, i), layout::PLACE) % 65536) as u16
@@ -126,7 +126,6 @@ pub fn load_place(node: &[u64], i: usize) -> u16
 
 // The state of entry i.
 pub fn load_state(node: &[u64], i: usize) -> State
-    requires { i < 4096 }
     ensures { result ≡ load_state node.now i }
 {
     let ws = words_of(node, i);
@@ -139,7 +138,6 @@ pub fn load_state(node: &[u64], i: usize) -> State
 // The run of entry i, whose window has a size.
 #[tactic(auto, unfolding(crate::specs::Ends::load_run))]
 pub fn load_run(node: &[u64], i: usize, size: u8) -> Run
-    requires { i < 4096 }
     ensures { result ≡ load_run node.now i size }
 {
     let ws = words_of(node, i);
@@ -168,7 +166,6 @@ pub fn load_run(node: &[u64], i: usize, size: u8) -> Run
 // The run of end point i.
 #[tactic(auto, unfolding(crate::specs::Ends::end_of))]
 pub fn run_of(node: &[u64], i: usize) -> Run
-    requires { i < 4096 }
     ensures { result ≡ (end_of node.now i).run }
 {
     load_run(node, i, (load_entry(node, i).window % 256) as u8)
@@ -179,7 +176,6 @@ pub fn run_of(node: &[u64], i: usize) -> Run
 #[tactic(auto, unfolding(crate::specs::Ends::end_of))]
 #[inline(always)]
 pub fn load(node: &[u64], i: usize) -> EndPoint
-    requires { i < 4096 }
     ensures { result ≡ end_of node.now i }
 {
     let entry = load_entry(node, i);
@@ -197,9 +193,11 @@ pub fn load(node: &[u64], i: usize) -> EndPoint
 // End point i is put back with a state and a run; what the table says of it stays.
 #[tactic(auto, unfolding(crate::specs::Ends::saved))]
 pub fn save(node: &mut [u64], i: usize, s: State, r: Run)
-    requires { i < 4096 }
     ensures { node.new ≡ saved node.old i s r }
 {
+    if node.len() / layout::ENTRY_WORDS < i {
+        return;
+    }
     let [tag, value, flag] = state_words(s);
     let words = [
         tag,
@@ -236,9 +234,11 @@ fn state_words(s: State) -> [u64; 3]
 // Entry i as the table has it, at its place in the store.
 #[tactic(auto, unfolding(crate::specs::Ends::saved_entry))]
 pub fn save_entry(node: &mut [u64], i: usize, e: Entry, place: u16)
-    requires { i < 4096 }
     ensures { node.new ≡ saved_entry node.old i e place }
 {
+    if node.len() / layout::ENTRY_WORDS < i {
+        return;
+    }
     let words = [
         u8::from(e.kind) as u64,
         e.remote.0 as u64,

@@ -37,15 +37,12 @@ pub fn anew_run(r: Run) -> Run
     ensures { result ≡ anew r }
 {
     let window = r.window.reset();
-    let accepted = r.accepted;
-    let confirmed = r.confirmed;
     Run {
         window,
         taken: 0,
         handed: 0,
-        accepted,
-        confirmed,
         urgent: 0,
+        ..r
     }
 }
 
