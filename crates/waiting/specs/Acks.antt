@@ -1,6 +1,6 @@
 -- The waiting acknowledgements: a ring of 32 words in the node, each an entry and a sequence number. Cited by arrival,
 -- handing out and close. Assumes nothing.
-use Rattle.std.specs.Prelude.{ℕ, zero, suc, ◌+◌, ◌%◌, List, get_or, set, eqb}
+use Rattle.std.specs.Prelude.{ℕ, zero, suc, ◌+◌, ◌*◌, ◌%◌, List, get_or, set, eqb}
 use Rattle.units.specs.Refusals.{pick}
 use Rattle.memory.specs.Layout.{oldest_at, acks_at, ack_at, ack_places, ack_entry, ack_number}
 use Rattle.waiting.specs.declared.acks.Ack.{Ack}
@@ -17,6 +17,10 @@ oldest_of ws = get_or ws (ack_at (place_of ws)) 0
 
 abbrev pub ack_of : ℕ → Ack
 ack_of w = record { entry = ack_entry w; seq = record { 0 = ack_number w } }
+
+-- and the word of an acknowledgement
+abbrev pub word_of : Ack → ℕ
+word_of a = a.entry * 256 + a.seq.0
 
 -- one more, the last [H3, I2]
 unfoldable pub pushed : List ℕ → ℕ → List ℕ

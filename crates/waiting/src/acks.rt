@@ -20,6 +20,34 @@ pub struct Ack {
     pub seq: Seq,
 }
 
+// The word that stands for an acknowledgement: its entry above, its number below.
+impl From<Ack> for u64 {
+    ghost use Rattle.std.specs.Prelude.{◌≡◌};
+    ghost use Rattle.waiting.specs.Acks.{word_of};
+
+    ghost from_gives = { λ ack word. word ≡ word_of ack };
+
+    fn from(ack: Ack) -> u64 {
+        let seq = ack.seq.0;
+        ack.entry as u64 * 256 + seq as u64
+    }
+}
+
+// The acknowledgement that a word stands for; what lies above is not read.
+impl From<u64> for Ack {
+    ghost use Rattle.std.specs.Prelude.{◌≡◌};
+    ghost use Rattle.waiting.specs.Acks.{ack_of};
+
+    ghost from_gives = { λ word ack. ack ≡ ack_of word };
+
+    fn from(word: u64) -> Ack {
+        Ack {
+            entry: (word / 256 % 256) as u8,
+            seq: Seq((word % 256) as u8),
+        }
+    }
+}
+
 // How many wait.
 pub fn waiting(node: &[u64]) -> u8
     ensures { result ≡ waiting_of node.now }
@@ -39,11 +67,7 @@ fn oldest_word(node: &[u64]) -> u64
 pub fn oldest(node: &[u64]) -> Ack
     ensures { result ≡ ack_of (oldest_of node.now) }
 {
-    let w = oldest_word(node);
-    Ack {
-        entry: (w / 256 % 256) as u8,
-        seq: Seq((w % 256) as u8),
-    }
+    Ack::from(oldest_word(node))
 }
 
 // One more waits.
@@ -65,8 +89,7 @@ fn push_word(node: &mut [u64], w: u64)
 pub fn push(node: &mut [u64], i: u8, s: Seq)
     ensures { node.new ≡ pushed node.old (i * 256 + s.0) }
 {
-    let seq = s.0;
-    push_word(node, i as u64 * 256 + seq as u64)
+    push_word(node, u64::from(Ack { entry: i, seq: s }))
 }
 
 // The oldest waits no more.
@@ -87,7 +110,7 @@ fn turn(node: &mut [u64], i: u8)
 {
     let w = oldest_word(node);
     pop(node);
-    if w / 256 % 256 == i as u64 {
+    if Ack::from(w).entry == i {
         return;
     }
     push_word(node, w)
