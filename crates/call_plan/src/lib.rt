@@ -18,7 +18,7 @@ use blocks::lent;
 use call_send::judging::judge_send;
 use call_send::lay;
 use end_points::answers::Plan;
-use end_points::{EndPoint, heads, load};
+use end_points::{EndPoint, Run, heads, load};
 use memory::{layout, word_at};
 use units::Unfolded;
 use units::bytes::put;
@@ -56,7 +56,7 @@ pub fn plan(
         });
     }
     let plan = send_all(node, book, store, index as u8, block, k);
-    put_accepted(node, index, plan.accepted);
+    put_accepted(node, index as u8, plan.accepted);
     Ok(plan)
 }
 
@@ -125,32 +125,25 @@ fn more(e: EndPoint, n: u8) -> EndPoint
     requires { (e.run.taken + n < 256) × (e.run.accepted.0 + n < 4294967296) }
     ensures { result ≡ advanced e n }
 {
-    let entry = e.entry;
-    let state = e.state;
-    let mut run = e.run;
-    let accepted = Unfolded(run.accepted.0 + n as u32);
-    run.taken = run.taken + n;
-    run.accepted = accepted;
-    EndPoint {
-        entry,
-        place: e.place,
-        state,
-        run,
-    }
+    let run = Run {
+        taken: e.run.taken + n,
+        accepted: Unfolded(e.run.accepted.0 + n as u32),
+        ..e.run
+    };
+    EndPoint { run, ..e }
 }
 
 // Entry i has taken and accepted n payloads more: of its words two alter, and none where n is 0.
 #[tactic(auto, unfolding(end_points::specs::Ends::end_of, end_points::specs::Ends::load_run))]
-fn put_accepted(node: &mut [u64], i: usize, n: u8)
-    requires { (i < 256)
-        × ((end_of node.old i).run.taken + n < 256)
+fn put_accepted(node: &mut [u64], i: u8, n: u8)
+    requires { ((end_of node.old i).run.taken + n < 256)
         × ((end_of node.old i).run.accepted.0 + n < 4294967296) }
     ensures { node.new ≡ accepted_node node.old i (end_of node.old i).run n }
 {
     if n == 0 {
         return;
     }
-    let at = layout::ENTRY_AT + layout::ENTRY_WORDS * i;
+    let at = layout::ENTRY_AT + layout::ENTRY_WORDS * i as usize;
     let taken = word_at(node, at + layout::TAKEN) % 256;
     let accepted = word_at(node, at + layout::ACCEPTED) % 4294967296;
     put(node, at + layout::TAKEN, taken + n as u64);

@@ -43,7 +43,7 @@ pub fn send(
     let e = load(node, index);
     judge_send(e, payload.len(), store.len(), heads::need(node))?;
     lay(book, store, index as u8, e, payload);
-    put_sent(node, index, e.run);
+    put_sent(node, index as u8, e.run);
     Ok(())
 }
 
@@ -94,11 +94,11 @@ pub fn lay(book: &mut [u16], store: &mut [u8], i: u8, e: EndPoint, payload: &[u8
 }
 
 // One payload more is taken and accepted: of the run's words two alter, and no other is written.
-fn put_sent(node: &mut [u64], i: usize, r: Run)
-    requires { (i < 4096) × (r.taken < 255) × (r.accepted.0 < 4294967295) }
+fn put_sent(node: &mut [u64], i: u8, r: Run)
+    requires { (r.taken < 255) × (r.accepted.0 < 4294967295) }
     ensures { node.new ≡ sent_node node.old i r }
 {
-    let at = layout::ENTRY_AT + layout::ENTRY_WORDS * i;
+    let at = layout::ENTRY_AT + layout::ENTRY_WORDS * i as usize;
     put(node, at + layout::TAKEN, (r.taken + 1) as u64);
     put(node, at + layout::ACCEPTED, (r.accepted.0 + 1) as u64)
 }
