@@ -9,7 +9,7 @@ ghost use Rattle.arrive_ack.specs.Acking.{fewer, moved, opened_run, tallied, res
 ghost use Rattle.arrive_ack.specs.Acking.{counted_node, ack_node, ack_book};
 
 use end_points::answers::Was;
-use end_points::states::is_new;
+use end_points::states::{anew_run, is_new};
 use end_points::{EndPoint, Run, State, save};
 use memory::layout;
 use slots::{cell_of, cells};
@@ -30,14 +30,12 @@ fn moved_run(r: Run, p: Passed) -> Run
     ensures { result ≡ moved r p }
 {
     let window = p.window;
-    let accepted = r.accepted;
     Run {
         window,
         taken: r.taken.saturating_sub(p.run),
         handed: r.handed.saturating_sub(p.run),
-        accepted,
         confirmed: Unfolded(r.confirmed.0.wrapping_add(p.run as u32)),
-        urgent: r.urgent,
+        ..r
     }
 }
 
@@ -64,18 +62,14 @@ fn tally_of(r: Run, s: Seq) -> Option<Tally>
 }
 
 // The run at its opening.
-#[tactic(auto, unfolding(crate::specs::Acking::opened_run))]
+#[tactic(auto, unfolding(crate::specs::Acking::opened_run, end_points::specs::Runs::anew))]
 fn opened_run(r: Run) -> Run
     ensures { result ≡ opened_run r }
 {
-    let window = r.window.reset();
     Run {
-        window,
-        taken: 0,
-        handed: 0,
         accepted: Unfolded(0),
         confirmed: Unfolded(0),
-        urgent: 0,
+        ..anew_run(r)
     }
 }
 
@@ -131,11 +125,10 @@ fn stop(book: &mut [u16], g: u16)
 }
 
 // A number counts: of the run's words six alter, and no other is written.
-fn put_counted(node: &mut [u64], i: usize, r: Run)
-    requires { i < 4096 }
+fn put_counted(node: &mut [u64], i: u8, r: Run)
     ensures { node.new ≡ counted_node node.old i r }
 {
-    let at = layout::ENTRY_AT + layout::ENTRY_WORDS * i;
+    let at = layout::ENTRY_AT + layout::ENTRY_WORDS * i as usize;
     put(node, at + layout::START, r.window.start.0 as u64);
     put(node, at + layout::LOW_MARKS, r.window.marks.0);
     put(node, at + layout::HIGH_MARKS, r.window.marks.1);
@@ -156,7 +149,7 @@ fn at_open(node: &mut [u64], book: &mut [u16], i: u8, e: EndPoint, s: Seq) -> Wa
         return Was::Ignored;
     };
     stop(book, cell_of(i, e.run.window, s));
-    put_counted(node, i as usize, tally.next);
+    put_counted(node, i, tally.next);
     Was::Acknowledged(tally.passed)
 }
 

@@ -67,7 +67,7 @@ pub fn take_data(
             window,
         };
         let n = put_block(out, store, book, owner, passed.run);
-        put_window(node, i as usize, passed.window);
+        put_window(node, i, passed.window);
         return Was::Data(n);
     }
     Was::Data(put_none(out))
@@ -89,11 +89,10 @@ fn keep(book: &mut [u16], store: &mut [u8], i: u8, e: EndPoint, s: Seq, payload:
 }
 
 // Another window: of the run's words three alter, and no other is written.
-fn put_window(node: &mut [u64], i: usize, w: Window)
-    requires { i < 4096 }
+fn put_window(node: &mut [u64], i: u8, w: Window)
     ensures { node.new ≡ window_node node.old i w }
 {
-    let at = layout::ENTRY_AT + layout::ENTRY_WORDS * i;
+    let at = layout::ENTRY_AT + layout::ENTRY_WORDS * i as usize;
     put(node, at + layout::START, w.start.0 as u64);
     put(node, at + layout::LOW_MARKS, w.marks.0);
     put(node, at + layout::HIGH_MARKS, w.marks.1)
