@@ -1,5 +1,5 @@
 // Each sort of what waits, handed out: its frame into the buffer, and what that leaves of node and book.
-ghost use Rattle.std.specs.Prelude.{◌≡◌, ◌<◌};
+ghost use Rattle.std.specs.Prelude.{◌≡◌};
 ghost use Rattle.std.proofs.lemmas.List.Edits.{sets};
 ghost use Rattle.units.specs.Refusals.{pick};
 ghost use Rattle.waiting.specs.Queues.{unlinked};
@@ -104,10 +104,10 @@ pub fn put_urgent(
 }
 
 // The entry of the slot that is x in its queue.
-fn entry_of(x: u16) -> usize
+fn entry_of(x: u16) -> u8
     ensures { result ≡ id_entry x }
 {
-    (x.saturating_sub(layout::CELL_ID) / layout::CELLS % 256) as usize
+    (x.saturating_sub(layout::CELL_ID) / layout::CELLS % 256) as u8
 }
 
 // The slot that is x in its queue waits no more: its timer stands, and its frame, with this number, is under way.
@@ -116,15 +116,14 @@ fn put_sent(book: &mut [u16], x: u16, number: Seq)
 {
     queues::unlink(book, x);
     cells::put_timer(book, x.saturating_sub(layout::CELL_ID), STANDING);
-    port::begin(book, u8::from(FrameType::Data), entry_of(x) as u8, number)
+    port::begin(book, u8::from(FrameType::Data), entry_of(x), number)
 }
 
 // One number more is handed out: of the run's words one alters, and no other is written.
-fn put_handed(node: &mut [u64], i: usize, r: Run)
-    requires { i < 4096 }
+fn put_handed(node: &mut [u64], i: u8, r: Run)
     ensures { node.new ≡ handed_node node.old i r }
 {
-    let at = layout::ENTRY_AT + layout::ENTRY_WORDS * i;
+    let at = layout::ENTRY_AT + layout::ENTRY_WORDS * i as usize;
     put(node, at + layout::HANDED, r.handed.wrapping_add(1) as u64)
 }
 
@@ -149,12 +148,12 @@ pub fn put_number<const FIRST: bool>(
     let i = entry_of(x);
     let g = x.saturating_sub(layout::CELL_ID);
     let slot = (g % layout::CELLS) as u8;
-    let entry = load_entry(node, i);
-    let run = run_of(node, i);
+    let entry = load_entry(node, i as usize);
+    let run = run_of(node, i as usize);
     let number = number_in(run.window, slot);
     let fields = fields_to(node, entry, FrameType::Data, number);
     let length = cells::length(book, g);
-    let spot = spot_of(load_place(node, i), entry.largest, slot);
+    let spot = spot_of(load_place(node, i as usize), entry.largest, slot);
     let n = put_frame(frame, fields, part(store, spot, length as usize))?;
     put_sent(book, x, number);
     if FIRST {
