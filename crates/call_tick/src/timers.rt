@@ -36,35 +36,21 @@ fn expire(book: &mut [u16], i: u8, e: EndPoint, g: usize, t: Timers) -> Timers
         ≡ expired i e g
         (record { book = book.old; failing = t.failing; running = t.running; least = t.least }) }
 {
-    let running = t.running;
-    let least = t.least;
     if t.failing {
         stop(book, g);
-        return Timers {
-            failing: true,
-            running,
-            least,
-        };
+        return t;
     }
     let retries = half_at(book, layout::RETRIES_AT + g);
     if retries < e.entry.retries as u16 {
         stop(book, g);
         put(book, layout::RETRIES_AT + g, retries + 1);
         queues::append(book, layout::RESENDS, layout::CELL_ID + g as u16);
-        return Timers {
-            failing: false,
-            running,
-            least,
-        };
+        return t;
     }
     let run = e.run;
     idle(book, i, run);
     stop(book, g);
-    Timers {
-        failing: true,
-        running,
-        least,
-    }
+    Timers { failing: true, ..t }
 }
 
 // In tick c the timer of cell g, which runs out at tick d. That it runs on is tested before that it is due, since most
@@ -80,9 +66,9 @@ fn tick_cell(book: &mut [u16], i: u8, e: EndPoint, c: u16, g: usize, d: u16, t: 
     }
     if d != c {
         return Timers {
-            failing: t.failing,
             running: t.running + 1,
             least: timing::soonest(t.least, c, d),
+            ..t
         };
     }
     expire(book, i, e, g, t)
@@ -99,9 +85,8 @@ fn stand(book: &[u16], d: u16, t: Timers) -> Timers
         return t;
     }
     Timers {
-        failing: t.failing,
         running: t.running + 1,
-        least: t.least,
+        ..t
     }
 }
 
