@@ -82,7 +82,8 @@ fn drop_reset(book: &mut [u16], i: u8, t: u16)
     }
 }
 
-// At Enabled, with a Reset's timer and whether one went out.
+// At Enabled, with a Reset's timer and whether one went out. This and its like for Open and for Failing have the call's
+// own three definitions, each at its state.
 #[tactic(auto, unfolding(crate::specs::Acking::ack_answer, crate::specs::Acking::ack_node, crate::specs::Acking::ack_book))]
 fn at_enabled(
     node: &mut [u64],

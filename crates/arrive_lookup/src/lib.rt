@@ -23,7 +23,8 @@ fn for_sender(t: FrameType) -> bool
     matches!(t, FrameType::Acknowledge)
 }
 
-// A row of the index: there is one for each byte, which is a channel in one place and an address in another.
+// A row of the index: there is one for each byte, which is a channel in one place and an address in another. The rows
+// are words of the node, and no map, which would need a heap.
 #[derive(Clone, Copy)]
 struct Row(u8);
 
@@ -34,14 +35,15 @@ fn sets_in(node: &[u64], v: Row) -> u64
     word_at(node, layout::ROW_AT + v.0 as usize)
 }
 
-// The lowest of 16 binary digits that is 1; 16 where none is.
+// The lowest of 16 binary digits that is 1; 16 where none is, as `entry_for` answers it.
 fn lowest(set: u64) -> u8
     ensures { result ≡ first_from (bit set) 0 16 }
 {
     (set | 65536).trailing_zeros() as u8
 }
 
-// The entry that a frame of a type from a source on a channel is for; 16 where there is none.
+// The entry that a frame of a type from a source on a channel is for; 16 where there is none. A number and no `Option`:
+// by the contract of an arrival entry 16 is judged as any other, whatever the count in the node is.
 #[tactic(auto, unfolding(crate::specs::Lookup::entry_for))]
 pub fn entry_for(node: &[u64], t: FrameType, source: Address, channel: Channel) -> u8
     ensures { result ≡ entry_for node.now t source.0 channel.0 }

@@ -43,7 +43,8 @@ fn payload<'a>(store: &'a [u8], book: &[u16], o: Owner, k: u8) -> &'a [u8]
     )
 }
 
-// Offset j of a block stored, with one test of the room where all of it fits.
+// Offset j of a block stored, with one test of the room where all of it fits: four stores of `be32`'s bytes, as by
+// `to_be_bytes`.
 #[tactic(auto, unfolding(units::specs::Bytes::be32, units::specs::Bytes::be16))]
 fn put_offset(out: &mut [u8], j: u8, offset: usize)
     requires { offset < 4294967296 }
@@ -61,7 +62,7 @@ fn put_offset(out: &mut [u8], j: u8, offset: usize)
 }
 
 // The block of an entry's first k payloads from the start of its window on, as store and book have them;
-// answers how much of it the lent block took.
+// answers how much of it the lent block took: no `Vec` is made, since nothing is allocated.
 #[tactic(auto, unfolding(crate::specs::Payloads::payloads, crate::specs::Blocks::joined_up, crate::specs::Blocks::offsets))]
 pub fn put_block(out: &mut [u8], store: &[u8], book: &[u16], o: Owner, k: u8) -> usize
     ensures length { let ps = payloads store.now book.now o.entry o.place o.largest o.window k in

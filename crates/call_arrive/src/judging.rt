@@ -99,7 +99,8 @@ fn judge_bare(node: &[u64], t: FrameType, store: usize) -> Result<(), Refusal>
 }
 
 // The verdict on a frame of type t with a payload of n bytes, for entry i; with a store and a block of so many bytes.
-// What it asks of the end point it reads itself, a word or two: the whole is read once the frame is to be taken in.
+// What it asks of the end point it reads itself, a word or two: the whole is read once the frame is to be taken in. The
+// numbers are those of the paper's tests, one by one.
 #[tactic(auto, unfolding(end_points::specs::Ends::end_of))]
 pub fn judge(
     node: &[u64],

@@ -65,7 +65,8 @@ fn next_out(node: &[u64], book: &[u16]) -> Next
     Next::Nothing
 }
 
-// One frame is handed out into the buffer: its length, 0 where nothing waits, or refusal 19 or 6.
+// One frame is handed out into the buffer: its length, 0 where nothing waits, as C has it too (`handed_of`), or refusal
+// 19 or 6.
 #[tactic(auto, unfolding(crate::specs::Handing::hand_out_answer, crate::specs::Handing::hand_out_after, crate::specs::Handing::frame_out, crate::specs::Handing::out_node, crate::specs::Handing::out_book))]
 pub fn hand_out(
     node: &mut [u64],

@@ -1,4 +1,5 @@
-// Each sort of what waits, handed out: its frame into the buffer, and what that leaves of node and book.
+// Each sort of what waits, handed out: its frame into the buffer, and what that leaves of node and book. `once` and
+// `fitted` are what their contracts have in common.
 ghost use Rattle.std.specs.Prelude.{◌≡◌};
 ghost use Rattle.std.proofs.lemmas.List.Edits.{sets};
 ghost use Rattle.units.specs.Refusals.{pick};

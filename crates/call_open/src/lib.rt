@@ -45,7 +45,7 @@ pub fn open(node: &mut [u64], book: &mut [u16], index: usize) -> Result<(), Refu
     Ok(())
 }
 
-// The host closes an end point: what of it waits, waits no more.
+// The host closes an end point: what of it waits, waits no more. It begins as `open` does and goes on otherwise.
 #[tactic(auto, unfolding(crate::specs::Opening::close_answer, crate::specs::Opening::close_after))]
 pub fn close(node: &mut [u64], book: &mut [u16], index: usize) -> Result<(), Refusal>
     ensures answer { result ≡ close_answer (bare node.old book.old) index }

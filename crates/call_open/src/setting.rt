@@ -106,7 +106,7 @@ fn put_entry(node: &mut [u64], k: usize, e: Entry, place: u16)
     put_in_index(node, k as u8, e)
 }
 
-// A run with nothing taken and the counts 0.
+// A run with nothing taken and the counts 0. It is made from no other run, so each field is named.
 fn first_run() -> Run
     ensures { result ≡ first_run }
 {

@@ -52,7 +52,8 @@ fn start_data(node: &[u64], book: &mut [u16], i: u8, g: u16) -> u16
     timeout
 }
 
-// At Enabled the timer of the Reset starts, where one went out since Enabled began.
+// At Enabled the timer of the Reset starts, where one went out since Enabled began. This and its like for Open and for
+// Failing have the same two definitions, each at its state.
 #[tactic(auto, unfolding(crate::specs::Reporting::started_node, end_points::specs::Ends::end_of))]
 fn at_enabled(node: &mut [u64], book: &[u16], i: u8, d: u16, sent: bool, u: u16)
     ensures { node.new ≡ started_node node.old book.now i

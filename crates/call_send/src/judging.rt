@@ -30,7 +30,7 @@ fn judge_sender(e: EndPoint, n: usize) -> Result<(), Refusal>
     Ok(())
 }
 
-// What send asks, with a store of room bytes where need are in use.
+// What send asks, with a store of room bytes where need are in use: the numbers of the paper's tests, one by one.
 pub fn judge_send(e: EndPoint, n: usize, room: usize, need: usize) -> Result<(), Refusal>
     ensures { result ≡ verdict (send_tests e n room need) }
 {

@@ -47,7 +47,8 @@ pub fn send(
     Ok(())
 }
 
-// The host sends an Urgent: it lies in the sender's last slot and waits.
+// The host sends an Urgent: it lies in the sender's last slot and waits. What is tested and what is stored are not
+// send's (`urgent_tests`, `urgent_run`), so the two share `judge_sender` alone.
 #[tactic(auto, unfolding(crate::specs::Sending::urgent_answer, crate::specs::Sending::urgent_after))]
 pub fn urgent(
     node: &mut [u64],

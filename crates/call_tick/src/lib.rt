@@ -24,7 +24,8 @@ use units::limits;
 use waiting::{port, queues};
 
 // In tick c entry i at Enabled, with its Reset's timer running out at tick d: then the Reset waits again. While it is
-// under way its timer stands. Answers the least that is left of a timer, as each of these does.
+// under way its timer stands. Answers the least that is left of a timer, as each of these does; `scan_of` is node, book
+// and that number.
 fn tick_enabled(
     node: &mut [u64],
     book: &mut [u16],
@@ -115,7 +116,7 @@ fn is_over(s: State) -> bool
 }
 
 // Entry i becomes Enabled with a Reset waiting, and its bit is set, where it is Failing with no timer running and no
-// frame of its own under way.
+// frame of its own under way. The record of its contract is the definition's own.
 #[tactic(auto, unfolding(crate::specs::Ticking::recover, end_points::specs::Ends::end_of))]
 fn recover(node: &mut [u64], book: &mut [u16], i: u8, bits: u16) -> u16
     requires { (i < 16) × (bits < 2 ^ i) }

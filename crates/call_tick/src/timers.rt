@@ -29,7 +29,7 @@ fn stop(book: &mut [u16], g: usize)
     put(book, layout::TIMER_AT + g, 0)
 }
 
-// The timer of cell g comes to zero.
+// The timer of cell g comes to zero. Whether the end is Failing is asked here, at each: the loop may have made it so.
 fn expire(book: &mut [u16], i: u8, e: EndPoint, g: usize, t: Timers) -> Timers
     requires { g < 33024 }
     ensures { record { book = book.new; failing = result.failing; running = result.running; least = result.least }

@@ -68,7 +68,8 @@ pub fn what(w: Was) -> u8
     }
 }
 
-// Its value, 0 where it has none.
+// Its value, 0 where it has none: that is C's number, and what asks for it is C's call alone (`lines` takes a `Was`
+// apart).
 pub fn value(w: Was) -> usize
     ensures { result ≡ get_or (value_of w) 0 0 }
 {

@@ -1,4 +1,5 @@
-// The node's head: how many entries there are, who we are, and how much of a store they take.
+// The node's head: how many entries there are, who we are, and how much of a store they take. Each is one read, under
+// its own name.
 ghost use Rattle.std.specs.Prelude.{◌≡◌};
 ghost use Rattle.end_points.specs.Heads.{count_in, own_in, protocol_in, need_in};
 

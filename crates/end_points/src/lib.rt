@@ -23,7 +23,7 @@ use window::{Marks, Window};
 #[derive(Clone, Copy)]
 pub enum State {
     Closed,
-    // A Reset's timer, 0 while the Reset waits, and whether one went out since Enabled began.
+    // A Reset's timer, 0 while the Reset waits, and whether one went out since Enabled began: rule G7 has both here.
     Enabled(u16, bool),
     Open,
     // How many timers still run.
@@ -40,10 +40,11 @@ pub struct Run {
     pub handed: u8,
     pub accepted: Unfolded,
     pub confirmed: Unfolded,
-    // The length of the Urgent that waits, 0 where none does.
+    // The length of the Urgent that waits, 0 where none does: it is its word in the node, and no Urgent has length 0.
     pub urgent: u16,
 }
 
+// Its index is not in it: no word of the entry has that, and every call has it at hand.
 #[derive(Clone, Copy)]
 pub struct EndPoint {
     pub entry: Entry,

@@ -20,7 +20,7 @@ use units::sizes::{in_force, is_size};
 use units::{Address, Channel, Seq};
 use window::distance;
 
-// The fields of a frame that was read, stored as C has them.
+// The fields of a frame that was read, stored as C has them: bytes of an array.
 #[tactic(auto, unfolding(crate::specs::Firmware::read_fields))]
 fn put_fields(fields: &mut [u8], h: Header)
     ensures { fields.new ≡ read_fields (Ok h) fields.old }

@@ -22,7 +22,7 @@ use end_points::answers::{Arrival, Counts, Plan};
 use node::{Book, Node};
 use units::refusals::Refusal;
 
-// A verdict's number.
+// A verdict's number: C has no `Result`.
 fn told(v: Result<(), Refusal>) -> u8
     ensures { result ≡ refusal_in (answer_of v) }
 {
@@ -270,7 +270,7 @@ const MINOR: u32 = 4;
 
 const PATCH: u32 = 1;
 
-// The version of this archive, a byte a number.
+// The version of this archive, a byte a number: `from_be_bytes` would need a fourth.
 pub fn shelugvar_version() -> u32
     ensures { result ≡ version_of 0 4 1 }
 {

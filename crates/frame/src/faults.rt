@@ -5,10 +5,10 @@ ghost use Rattle.frame.specs.Faults.{byte_number};
 use crate::layout;
 use units::refusals;
 
-// What stands for the byte's number where there is none.
+// What stands for the byte's number where there is none: C's number too, as the contract has it (`byte_number`).
 pub const NO_BYTE: u8 = 255;
 
-// The number of the byte, by the refusal's number. [R47]
+// The number of the byte, by the refusal's number: C asks by that, and of any number `byte_number` says it. [R47]
 #[tactic(auto, unfolding(crate::specs::Faults::byte_number))]
 pub fn fault_byte(refusal: u8) -> u8
     ensures { result ≡ byte_number refusal }

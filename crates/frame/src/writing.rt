@@ -37,7 +37,8 @@ fn judge(fields: Fields, n: usize, room: usize) -> Result<(), Refusal>
     judge_typed(fields, kind, n, room)
 }
 
-// Bytes 0 to 7, before a payload of n bytes.
+// Bytes 0 to 7, before a payload of n bytes. The length by quotient and rest, as `be16` has it: `to_be_bytes` would be
+// an array to take apart again.
 #[tactic(auto, unfolding(crate::specs::Layout::head_bytes, units::specs::Bytes::be16))]
 fn head(fields: Fields, n: usize) -> [u8; layout::PAYLOAD]
     ensures { result ≡ head_bytes fields n }

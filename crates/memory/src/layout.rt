@@ -1,5 +1,6 @@
 // What lies where in the node and in the book: the numbers of specs/Layout.antt, under the same names. A change of the
-// layout is a change of these two files.
+// layout is a change of these two files. Places in lent words, and no structs, lists or maps: nothing is allocated, and
+// the contracts speak of every content of the words.
 
 // ---- the node
 

@@ -1,4 +1,5 @@
-// What the book says of a cell: the length of its payload, its timer and its retries.
+// What the book says of a cell: the length of its payload, its timer and its retries. Each is one line: by a field's
+// number one function would do, and say less.
 ghost use Rattle.std.specs.Prelude.{◌≡◌, set};
 ghost use Rattle.memory.specs.Layout.{length_at, timer_at, retries_at};
 ghost use Rattle.slots.specs.Slots.{length_in, timer_in};
@@ -20,7 +21,8 @@ pub fn put_length(book: &mut [u16], g: u16, n: u16)
     put(book, layout::LENGTH_AT + g as usize, n)
 }
 
-// The tick at which the timer of cell g runs out, 0 where it does not run; a mark while its frame is under way.
+// The tick at which the timer of cell g runs out, 0 where it does not run; a mark while its frame is under way. No
+// enum: the mark is also a tick's number (`timing::STANDING`).
 pub fn timer(book: &[u16], g: u16) -> u16
     ensures { result ≡ timer_in book.now g }
 {

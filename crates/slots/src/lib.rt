@@ -24,14 +24,16 @@ pub fn slot_for(w: Window, s: Seq) -> u8
     s.0 % size
 }
 
-// The book's cell of a sequence number of entry i.
+// The book's cell of a sequence number of entry i. Book, entry and window go side by side in this file: a struct of
+// them would be made anew for one line each time.
 pub fn cell_of(i: u8, w: Window, s: Seq) -> u16
     ensures { result ≡ cell i w s.0 }
 {
     layout::CELLS * i as u16 + slot_for(w, s) as u16
 }
 
-// The first byte of a slot in the store, for an entry whose part begins at place and whose largest payload is P.
+// The first byte of a slot in the store, for an entry whose part begins at place and whose largest payload is P: no
+// struct of two of the three, which would be made for this sum alone.
 pub fn spot_of(place: u16, largest: u16, slot: u8) -> usize
     ensures { result ≡ spot place largest slot }
 {

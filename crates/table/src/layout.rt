@@ -14,7 +14,7 @@ pub const HEAD: usize = 8;
 
 pub const ENTRY: usize = 12;
 
-// How many entries the table says that it has.
+// How many entries the table says that it has. Like `first` and `head_zeros` one read, under the paper's name.
 pub fn count(table: &[u8]) -> u16
     ensures { result ≡ count_of table.now }
 {

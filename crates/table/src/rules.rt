@@ -43,7 +43,8 @@ fn is_address(a: Address) -> bool
     32 <= a.0 && a.0 <= 254
 }
 
-// Whether every entry keeps its rules.
+// Whether every entry keeps its rules. Its like in crates/trace tests something else: a closure for the test would
+// need the bound on i in its contract, and be no shorter.
 fn entries_good(table: &[u8]) -> bool
     ensures { result ≡ every_below (count_of table.now) (entry_good table.now) }
 {
@@ -106,7 +107,7 @@ fn timed(kind: Kind, timeout: u16, retries: u8) -> bool
     }
 }
 
-// Whether entry i agrees with none before it.
+// Whether entry i agrees with none before it. Each pair is looked at: a map would need a heap, for 16 entries at most.
 #[tactic(auto, unfolding(crate::specs::Rules::apart))]
 fn apart(table: &[u8], i: usize) -> bool
     ensures { result ≡ Rules·apart table.now i }

@@ -13,7 +13,8 @@ use units::bytes::put;
 // How many ticks a round of the clock has: it shows 1 to this, so that 0 can mean that a timer does not run.
 pub const ROUND: u16 = 65535;
 
-// A timer's place while its frame is under way: it does not run yet, and is not 0, since nothing of it waits.
+// A timer's place while its frame is under way: it does not run yet, and is not 0, since nothing of it waits. Tick 1
+// has the same number, so the place alone does not say which it is, and no enum can be read from it.
 pub const STANDING: u16 = 1;
 
 // The number of the last tick, 0 before the first.
@@ -41,7 +42,7 @@ pub fn later(c: u16, n: u16) -> u16
     (s - ROUND as u32) as u16
 }
 
-// What is left after tick c of a timer that runs out at tick d.
+// What is left after tick c of a timer that runs out at tick d: of one that does not run it is 0 (`left_of`).
 pub fn left(c: u16, d: u16) -> u16
     ensures { result ≡ left_of c d }
 {
@@ -54,7 +55,8 @@ pub fn left(c: u16, d: u16) -> u16
     d + (ROUND - c)
 }
 
-// The smaller of `least` and what is left, after tick c, of a timer that runs out at tick d.
+// The smaller of `least` and what is left, after tick c, of a timer that runs out at tick d: three numbers of one line,
+// and no struct.
 pub fn soonest(least: u16, c: u16, d: u16) -> u16
     ensures { result ≡ soonest_of least c d }
 {

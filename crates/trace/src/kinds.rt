@@ -43,7 +43,7 @@ impl TryFrom<u8> for Kind {
     }
 }
 
-// Whether there is such a kind.
+// Whether there is such a kind. This and the next two are asked of any byte: of a file, before it is known to be good.
 pub fn is_kind(kind: u8) -> bool
     ensures { result ≡ is_kind kind }
 {

@@ -10,7 +10,8 @@ mod rules; // rules.rt: which files are good
 
 pub use rules::is_good;
 
-// What stands before a record's bytes: its kind, its index, and how many bytes follow.
+// What stands before a record's bytes: its kind, its index, and how many bytes follow. The kind is a byte, since a file
+// that breaks the rules may have any (`good_trace` says which do not).
 #[derive(Clone, Copy)]
 pub struct Head {
     pub kind: u8,

@@ -32,7 +32,8 @@ fn header_good(file: &[u8]) -> bool
         && begin(file, n) as usize == file.len()
 }
 
-// Whether every record keeps its rules.
+// Whether every record keeps its rules. Its like in crates/table tests something else: a closure for the test would
+// need the bound on k in its contract, and be no shorter.
 fn records_good(file: &[u8]) -> bool
     ensures { result ≡ every_below (count_of file.now) (record_good file.now) }
 {

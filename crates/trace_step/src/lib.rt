@@ -35,7 +35,8 @@ pub enum Told {
     HandOut(Result<usize, Refusal>),
 }
 
-// The call of a kind, with an index and bytes. Refuses 21 where there is no such kind, and as the call does. [L9]
+// The call of a kind, with an index and bytes, as a record has them. The kind is any byte (`call_of`): refuses 21 where
+// there is no such kind, and as the call does. [L9]
 #[tactic(auto, unfolding(crate::specs::Steps::call_of))]
 pub fn call(
     node: &mut Node,

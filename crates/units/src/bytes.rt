@@ -19,7 +19,8 @@ pub fn byte_at(s: &[u8], i: usize) -> u8
     get_or(s, i, 0)
 }
 
-// The two bytes from an index on, as a number.
+// The two bytes from an index on, as a number. `from_be_bytes` asks for both; here one past the end counts as 0, as
+// `get16_of` says. `get32` is no second size of it: its result is of another type.
 pub fn get16(s: &[u8], i: usize) -> u16
     ensures { result ≡ get16_of s.now i }
 {
@@ -81,7 +82,8 @@ pub fn put<T: Copy>(s: &mut [T], i: usize, item: T)
     }
 }
 
-// A number stored in two bytes.
+// A number stored in two bytes. Not by `to_be_bytes` at once: where there is room for one of the two, that one is
+// stored (`be16`).
 pub fn put16(s: &mut [u8], i: usize, v: u16)
     ensures { s.new ≡ sets s.old i (be16 v) }
 {
@@ -92,7 +94,7 @@ pub fn put16(s: &mut [u8], i: usize, v: u16)
     put(s, i + 1, (v % 256) as u8);
 }
 
-// A number stored in four bytes.
+// A number stored in four bytes, as many as there is room for: with `put16` two functions, as there are two types.
 pub fn put32(s: &mut [u8], i: usize, v: u32)
     ensures { s.new ≡ sets s.old i (be32 v) }
 {

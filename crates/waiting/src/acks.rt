@@ -1,4 +1,5 @@
-// The waiting acknowledgements, oldest first: each is its entry and the number it acknowledges.
+// The waiting acknowledgements, oldest first: each is its entry and the number it acknowledges. They are a ring of the
+// node's words, since nothing is allocated.
 ghost use Rattle.std.specs.Prelude.{◌≡◌, ◌+◌, ◌*◌};
 ghost use Rattle.waiting.specs.Acks.{waiting_of, oldest_of, ack_of, pushed, popped, turned, dropped};
 

@@ -39,7 +39,7 @@ fn out_word(t: u8, i: u8, s: Seq) -> u16
     ((t % TYPES) as u16 + 1) * PER_TYPE + (i % ENTRIES) as u16 * PER_ENTRY + seq as u16
 }
 
-// That frame goes under way.
+// That frame goes under way. By its type's number, since the contract holds of every number (`begun`).
 pub fn begin(book: &mut [u16], t: u8, i: u8, s: Seq)
     ensures { book.new ≡ begun book.old t i s.0 }
 {

@@ -1,4 +1,5 @@
-// The four queues. Each is a ring of links through the number that stands for the queue itself.
+// The four queues. Each is a ring of links through the number that stands for the queue itself: it is one of the
+// numbers of what can wait (crates/memory), and so no enum. The links are numbers in the lent book; there is no heap.
 ghost use Rattle.std.specs.Prelude.{◌≡◌};
 ghost use Rattle.waiting.specs.Queues.{next_of, appended, unlinked};
 

@@ -12,7 +12,8 @@ use units::Seq;
 
 mod words; // words.rt: marks in two words
 
-// Marks for 128 offsets from a window's start, the low word first.
+// Marks for 128 offsets from a window's start, the low word first. Two words and no `u128`: the window law is over both
+// (`joined`, `parted`), and a driver lends the record as it is.
 #[derive(Clone, Copy)]
 pub struct Marks(pub u64, pub u64);
 
