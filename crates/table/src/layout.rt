@@ -107,7 +107,7 @@ pub fn entry_from(table: &[u8], at: usize) -> Entry
         remote: Address(byte_at(bytes, 1)),
         channel: Channel(byte_at(bytes, 2)),
         retries: byte_at(bytes, 3),
-        window: in_force(window_from(table, at)),
+        window: in_force(get16(bytes, 4)),
         largest: get16(bytes, 6),
         timeout: get16(bytes, 8),
     }

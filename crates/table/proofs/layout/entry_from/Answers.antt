@@ -15,6 +15,7 @@ returns c =
     let b1 = cut t bytes at 1 is (omega arith) in
     let b2 = cut t bytes at 2 is (omega arith) in
     let b3 = cut t bytes at 3 is (omega arith) in
+    let w4 = cut16 t bytes at 4 is (omega arith) in
     let w6 = cut16 t bytes at 6 is (omega arith) in
     let w8 = cut16 t bytes at 8 is (omega arith) in
     cc
