@@ -12,7 +12,8 @@ use end_points::answers::Was;
 use end_points::states::{anew_run, is_new};
 use end_points::{EndPoint, Run, State, save};
 use memory::layout;
-use slots::{cell_of, cells};
+use slots::cell_of;
+use slots::cells::Cell;
 use units::bytes::put;
 use units::{Seq, Unfolded};
 use waiting::queues;
@@ -113,16 +114,15 @@ fn at_enabled(
 
 // The timer of cell g stops, and a waiting retransmission goes: at Open one waits where the timer's place is 0.
 #[tactic(auto, unfolding(crate::specs::Acking::stopped))]
-fn stop(book: &mut [u16], g: u16)
-    requires { g < 33024 }
+fn stop(book: &mut [u16], g: Cell)
     ensures { book.new ≡ stopped book.old g }
 {
-    if cells::timer(book, g) == 0 {
-        queues::unlink(book, layout::CELL_ID + g);
-        cells::put_timer(book, g, 0);
+    if g.timer(book) == 0 {
+        queues::unlink(book, g.id());
+        g.put_timer(book, 0);
         return;
     }
-    cells::put_timer(book, g, 0)
+    g.put_timer(book, 0)
 }
 
 // A number counts: of the run's words six alter, and no other is written.
@@ -177,8 +177,8 @@ fn at_failing(node: &mut [u64], book: &mut [u16], i: u8, e: EndPoint, n: u16, s:
         return Was::Ignored;
     };
     let g = cell_of(i, e.run.window, s);
-    let running = fewer_of(cells::timer(book, g), n);
-    cells::put_timer(book, g, 0);
+    let running = fewer_of(g.timer(book), n);
+    g.put_timer(book, 0);
     save(node, i as usize, State::Failing(running), tally.next);
     timing::rouse(node);
     Was::Acknowledged(tally.passed)

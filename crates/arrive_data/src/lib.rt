@@ -1,6 +1,6 @@
 // A Reset, Data or an Urgent taken in by a receiver.
 // Proved: the answer, and the node, the book, the store and the host's block afterwards, are those of
-// specs/Receiving.antt, for every memory and every number; a payload has at most 65,535 bytes, as in any frame.
+// specs/Receiving.antt, for every memory, every number and every payload that a frame can carry.
 #![tactic(auto)]
 
 ghost use Rattle.std.specs.Prelude.{◌≡◌, [], ◌∷◌, ◌<◌, length};
@@ -10,12 +10,13 @@ ghost use Rattle.end_points.specs.Lent.{whole};
 ghost use Rattle.arrive_data.specs.Receiving.{reset_answer, reset_node, window_node, put_store, put_book, data_answer};
 ghost use Rattle.arrive_data.specs.Receiving.{data_after, urgent_answer};
 
+use blocks::carried::Payload;
 use blocks::{Owner, put_block, put_none, put_one};
 use end_points::answers::Was;
 use end_points::states::{anew_run, is_new};
 use end_points::{EndPoint, State, save};
 use memory::layout;
-use slots::{cell_of, cells, slot_for, spot_of};
+use slots::{cell_of, slot_for, spot_of};
 use units::Seq;
 use units::bytes::{put, put_all};
 use waiting::acks;
@@ -44,14 +45,13 @@ pub fn take_data(
     i: u8,
     e: EndPoint,
     s: Seq,
-    payload: &[u8],
+    payload: Payload,
 ) -> Was
-    requires { length payload.now < 65536 }
     ensures answer { let x = whole node.old book.old store.old out.old in
-        result ≡ data_answer x i e s.0 payload.now }
+        result ≡ data_answer x i e s.0 payload.entry.bytes.now }
     ensures after { let x = whole node.old book.old store.old out.old in
         whole node.new book.new store.new out.new
-        ≡ data_after x i e s.0 payload.now }
+        ≡ data_after x i e s.0 payload.entry.bytes.now }
 {
     let window = e.run.window;
     acks::push(node, i, s);
@@ -74,17 +74,16 @@ pub fn take_data(
 }
 
 // A payload lies in the slot of its number.
-fn keep(book: &mut [u16], store: &mut [u8], i: u8, e: EndPoint, s: Seq, payload: &[u8])
-    requires { length payload.now < 65536 }
-    ensures length { book.new ≡ put_book book.old i e s.0 payload.now }
-    ensures bytes { store.new ≡ put_store store.old e s.0 payload.now }
+fn keep(book: &mut [u16], store: &mut [u8], i: u8, e: EndPoint, s: Seq, payload: Payload)
+    ensures length { book.new ≡ put_book book.old i e s.0 payload.entry.bytes.now }
+    ensures bytes { store.new ≡ put_store store.old e s.0 payload.entry.bytes.now }
 {
     let window = e.run.window;
-    cells::put_length(book, cell_of(i, window, s), payload.len() as u16);
+    cell_of(i, window, s).put_length(book, payload.bytes.len() as u16);
     put_all(
         store,
         spot_of(e.place, e.entry.largest, slot_for(window, s)),
-        payload,
+        payload.bytes,
     )
 }
 
@@ -100,10 +99,9 @@ fn put_window(node: &mut [u64], i: u8, w: Window)
 
 // An Urgent, at Open: it is delivered, and not acknowledged.
 #[tactic(auto, unfolding(crate::specs::Receiving::urgent_answer))]
-pub fn take_urgent(out: &mut [u8], payload: &[u8]) -> Was
-    requires { length payload.now < 65536 }
-    ensures answer { result ≡ urgent_answer out.old payload.now }
-    ensures after { out.new ≡ sets out.old 0 (block_of (payload.now ∷ [])) }
+pub fn take_urgent(out: &mut [u8], payload: Payload) -> Was
+    ensures answer { result ≡ urgent_answer out.old payload.entry.bytes.now }
+    ensures after { out.new ≡ sets out.old 0 (block_of (payload.entry.bytes.now ∷ [])) }
 {
     Was::Urgent(put_one(out, payload))
 }

@@ -2,9 +2,10 @@
 // Proved: what is written is `block_of` of specs/Blocks.antt, from the first byte on, and the answer how many of its
 // bytes the lent block took: all of them, where it is long enough. Beyond its end nothing alters. specs/Reading.antt:
 // the payloads can be read out of the block again; which bytes are a block, and which of those a plan.
-// `put_one` asks a payload of at most 65,535 bytes, which is more than any frame carries.
+// `put_one` takes a payload as a frame carries it (carried.rt), of at most 65,535 bytes.
 #![tactic(auto)]
 
+pub mod carried; // carried.rt: a payload as a frame carries it
 pub mod layout; // layout.rt: its numbers
 pub mod lent; // lent.rt: a block that was lent, read
 
@@ -14,7 +15,7 @@ ghost use Rattle.units.specs.Bytes.{be32};
 ghost use Rattle.blocks.specs.Blocks.{offsets_at, offset_bytes, block_of, takes};
 ghost use Rattle.blocks.specs.Payloads.{payload_at, payloads};
 
-use slots::{cell_of, cells, slot_for, spot_of};
+use slots::{cell_of, slot_for, spot_of};
 use units::bytes::{part, put_all, put16, put32};
 use window::{Window, advance};
 
@@ -35,7 +36,7 @@ fn payload<'a>(store: &'a [u8], book: &[u16], o: Owner, k: u8) -> &'a [u8]
 {
     let w = o.window;
     let s = advance(w.start, k);
-    let n = cells::length(book, cell_of(o.entry, w, s));
+    let n = cell_of(o.entry, w, s).length(book);
     part(
         store,
         spot_of(o.place, o.largest, slot_for(w, s)),
@@ -94,15 +95,14 @@ pub fn put_none(out: &mut [u8]) -> usize
 }
 
 // The block of one payload; answers how much of it the lent block took.
-pub fn put_one(out: &mut [u8], payload: &[u8]) -> usize
-    requires { length payload.now < 65536 }
-    ensures length { result ≡ takes out.old (payload.now ∷ []) }
-    ensures written { out.new ≡ sets out.old 0 (block_of (payload.now ∷ [])) }
+pub fn put_one(out: &mut [u8], payload: carried::Payload) -> usize
+    ensures length { result ≡ takes out.old (payload.entry.bytes.now ∷ []) }
+    ensures written { out.new ≡ sets out.old 0 (block_of (payload.entry.bytes.now ∷ [])) }
 {
-    let end = layout::ONLY + payload.len();
+    let end = layout::ONLY + payload.bytes.len();
     put16(out, 0, 1);
     put_offset(out, 0, layout::ONLY);
     put_offset(out, 1, end);
-    put_all(out, layout::ONLY, payload);
+    put_all(out, layout::ONLY, payload.bytes);
     end.min(out.len())
 }

@@ -5,7 +5,7 @@
 
 mod judging; // judging.rt: the tests at an entry
 
-ghost use Rattle.std.specs.Prelude.{◌≡◌, ◌<◌, length};
+ghost use Rattle.std.specs.Prelude.{◌≡◌, length};
 ghost use Rattle.units.specs.Refusals.{verdict};
 ghost use Rattle.end_points.specs.Ends.{end_of};
 ghost use Rattle.end_points.specs.Lent.{whole};
@@ -15,6 +15,7 @@ ghost use Rattle.call_arrive.specs.Arriving.{arrival_answer, arrival_after};
 use arrive_ack::acknowledge;
 use arrive_data::{take_data, take_reset, take_urgent};
 use arrive_lookup::entry_for;
+use blocks::carried::Payload;
 use end_points::answers::{Arrival, Was};
 use end_points::{EndPoint, heads, load};
 use frame::reading::{header, is_sound, payload};
@@ -43,14 +44,13 @@ fn take(
     e: EndPoint,
     t: FrameType,
     s: Seq,
-    payload: &[u8],
+    payload: Payload,
 ) -> Was
-    requires { length payload.now < 65536 }
     ensures answer { let x = whole node.old book.old store.old out.old in
-        result ≡ taken_in_answer x i e t s.0 payload.now }
+        result ≡ taken_in_answer x i e t s.0 payload.entry.bytes.now }
     ensures after { let x = whole node.old book.old store.old out.old in
         whole node.new book.new store.new out.new
-        ≡ taken_in_after x i e t s.0 payload.now }
+        ≡ taken_in_after x i e t s.0 payload.entry.bytes.now }
 {
     match t {
         FrameType::Data => take_data(node, book, store, out, i, e, s, payload),
@@ -71,18 +71,17 @@ fn come(
     t: FrameType,
     n: u16,
     s: Seq,
-    payload: &[u8],
+    payload: Payload,
 ) -> Result<Arrival, Refusal>
-    requires { length payload.now < 65536 }
     ensures answer { let x = whole node.old book.old store.old out.old in
         let e = end_of x.node i in
         let v = verdict (entry_tests x.node i e t n (length x.store) (length x.out)) in
-        result ≡ answer_as v (Ok (record { entry = i; was = taken_in_answer x i e t s.0 payload.now })) }
+        result ≡ answer_as v (Ok (record { entry = i; was = taken_in_answer x i e t s.0 payload.entry.bytes.now })) }
     ensures after { let x = whole node.old book.old store.old out.old in
         let e = end_of x.node i in
         let v = verdict (entry_tests x.node i e t n (length x.store) (length x.out)) in
         whole node.new book.new store.new out.new
-        ≡ after_as v x (taken_in_after x i e t s.0 payload.now) }
+        ≡ after_as v x (taken_in_after x i e t s.0 payload.entry.bytes.now) }
 {
     judge(node, i, t, n, store.len(), out.len())?;
     let e = load(node, i as usize);
@@ -117,17 +116,10 @@ pub fn arrive(
         Ok(h) => {
             let t = h.kind;
             let i = entry_for(node, t, h.source, h.channel);
-            come(
-                node,
-                book,
-                store,
-                out,
-                i,
-                t,
-                h.length,
-                h.seq,
-                payload(frame),
-            )
+            let carried = Payload {
+                bytes: payload(frame),
+            };
+            come(node, book, store, out, i, t, h.length, h.seq, carried)
         }
     }
 }

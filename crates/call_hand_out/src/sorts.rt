@@ -17,7 +17,8 @@ use end_points::states::without_urgent;
 use end_points::{Run, State, load, load_entry, load_place, run_of, save};
 use frame::FrameType;
 use memory::layout;
-use slots::{cells, number_in, spot_of};
+use slots::cells::Cell;
+use slots::{number_in, spot_of};
 use timing::STANDING;
 use units::Seq;
 use units::bytes::{part, put};
@@ -116,7 +117,7 @@ fn put_sent(book: &mut [u16], x: u16, number: Seq)
     ensures { book.new ≡ sent (stood book.old x) type.Data (id_entry x) number.0 }
 {
     queues::unlink(book, x);
-    cells::put_timer(book, x.saturating_sub(layout::CELL_ID), STANDING);
+    Cell::with_id(x).put_timer(book, STANDING);
     port::begin(book, u8::from(FrameType::Data), entry_of(x), number)
 }
 
@@ -153,7 +154,7 @@ pub fn put_number<const FIRST: bool>(
     let run = run_of(node, i as usize);
     let number = number_in(run.window, slot);
     let fields = fields_to(node, entry, FrameType::Data, number);
-    let length = cells::length(book, g);
+    let length = Cell::with_id(x).length(book);
     let spot = spot_of(load_place(node, i as usize), entry.largest, slot);
     let n = put_frame(frame, fields, part(store, spot, length as usize))?;
     put_sent(book, x, number);

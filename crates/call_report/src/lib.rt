@@ -16,13 +16,14 @@ ghost use Rattle.end_points.specs.declared.State.TheVariants as state;
 ghost use Rattle.call_report.specs.Reporting.{report_answer, report_after, data_starts, started_node, started_book};
 
 use end_points::{Run, State, load_entry, load_state, run_of, save};
-use slots::{cell_of, cells};
+use slots::cell_of;
+use slots::cells::Cell;
 use units::refusals::Refusal;
 use waiting::port;
 use window::distance;
 
 // The cell whose timer of Data starts at its end: where its number is still handed out and its timer stands.
-fn data_start(book: &[u16], i: u8, r: Run, u: u16) -> Option<u16>
+fn data_start(book: &[u16], i: u8, r: Run, u: u16) -> Option<Cell>
     ensures { result ≡ pick (data_starts book.now i r u)
         (Some (cell i r.window (out_number u))) None }
 {
@@ -35,7 +36,7 @@ fn data_start(book: &[u16], i: u8, r: Run, u: u16) -> Option<u16>
         return None;
     }
     let g = cell_of(i, window, s);
-    if cells::timer(book, g) == 0 {
+    if g.timer(book) == 0 {
         return None;
     }
     Some(g)
@@ -43,12 +44,12 @@ fn data_start(book: &[u16], i: u8, r: Run, u: u16) -> Option<u16>
 
 // The timer in cell g of entry i starts at T, which is answered.
 #[tactic(auto, unfolding(end_points::specs::Ends::end_of))]
-fn start_data(node: &[u64], book: &mut [u16], i: u8, g: u16) -> u16
+fn start_data(node: &[u64], book: &mut [u16], i: u8, g: Cell) -> u16
     ensures answer { result ≡ (end_of node.now i).entry.timeout }
     ensures after { book.new ≡ set book.old (timer_at g) (later (clock_in node.now) result) }
 {
     let timeout = load_entry(node, i as usize).timeout;
-    cells::put_timer(book, g, timing::later(timing::clock(node), timeout));
+    g.put_timer(book, timing::later(timing::clock(node), timeout));
     timeout
 }
 

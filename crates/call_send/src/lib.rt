@@ -15,7 +15,7 @@ ghost use Rattle.call_send.specs.Sending.{laid_book, laid_store, urgent_run};
 use end_points::{EndPoint, Run, State, heads, load, save};
 use judging::{judge_send, judge_urgent};
 use memory::layout;
-use slots::{cell_of, cells, slot_for, spot_of};
+use slots::{cell_of, slot_for, spot_of};
 use units::Seq;
 use units::bytes::{put, put_all};
 use units::refusals::Refusal;
@@ -119,7 +119,7 @@ fn wait_as_data(book: &mut [u16], i: u8, w: Window, s: Seq, n: u16)
     ensures { book.new ≡ sent_book book.old (cell i w s.0) n }
 {
     let g = cell_of(i, w, s);
-    cells::put_length(book, g, n);
-    cells::put_retries(book, g, 0);
-    queues::append(book, layout::DATAS, layout::CELL_ID + g)
+    g.put_length(book, n);
+    g.put_retries(book, 0);
+    queues::append(book, layout::DATAS, g.id())
 }

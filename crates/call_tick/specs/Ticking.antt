@@ -17,6 +17,7 @@ use Rattle.end_points.specs.Lent.{Lent}
 use Rattle.end_points.specs.declared.EndPoint.{EndPoint}
 use Rattle.end_points.specs.declared.State.{State}
 use Rattle.end_points.specs.declared.State.TheVariants.{Closed, Enabled, Open, Failing}
+use Rattle.call_tick.specs.declared.timers.Timers.{Timers}
 use Rattle.slots.specs.Slots.{cell, past, timer_in, retries_in, idled}
 
 -- ---- an entry's timers
@@ -28,6 +29,10 @@ pub record Ticked : Type 0 where
   pub failing : Bool
   pub running : ℕ
   pub least : ℕ
+
+-- the same of the book and of what the code has of it, as the contracts say it
+abbrev pub timers_of : List ℕ → Timers → Ticked
+timers_of b t = record { book = b; failing = t.failing; running = t.running; least = t.least }
 
 -- the timer of cell g comes to zero: a Failing end resends nothing; data with fewer than M retries waits as a
 -- retransmission; else the end is Failing at once, and what of it waits goes [D5, D6, D8, D9]

@@ -1,14 +1,11 @@
-// An entry's timers in the book, and what comes of one that runs out. A cell's number is a `usize` here, and what the
-// book says of it is read at its place: by way of `slots::cells`, which takes 16 bits, a timer costs four instructions
-// more (./bench, a tick through all).
-ghost use Rattle.std.specs.Prelude.{◌≡◌, ◌<◌, set};
-ghost use Rattle.memory.specs.Layout.{timer_at};
-ghost use Rattle.call_tick.specs.Ticking.{expired, tick_cell, stood_cell, tick_slot, ticked};
+// An entry's timers in the book, and what comes of one that runs out.
+ghost use Rattle.std.specs.Prelude.{◌≡◌, ◌<◌};
+ghost use Rattle.call_tick.specs.Ticking.{timers_of, expired, tick_cell, stood_cell, tick_slot, ticked};
 
 use end_points::EndPoint;
-use memory::{half_at, layout};
-use slots::{idle, slot_for};
-use units::bytes::put;
+use memory::layout;
+use slots::cells::Cell;
+use slots::{cell_of, idle};
 use waiting::{port, queues};
 use window::advance;
 
@@ -21,45 +18,32 @@ pub struct Timers {
     pub least: u16,
 }
 
-// The timer of cell g runs no more.
-fn stop(book: &mut [u16], g: usize)
-    requires { g < 33024 }
-    ensures { book.new ≡ set book.old (timer_at g) 0 }
-{
-    put(book, layout::TIMER_AT + g, 0)
-}
-
 // The timer of cell g comes to zero. Whether the end is Failing is asked here, at each: the loop may have made it so.
-fn expire(book: &mut [u16], i: u8, e: EndPoint, g: usize, t: Timers) -> Timers
-    requires { g < 33024 }
-    ensures { record { book = book.new; failing = result.failing; running = result.running; least = result.least }
-        ≡ expired i e g
-        (record { book = book.old; failing = t.failing; running = t.running; least = t.least }) }
+fn expire(book: &mut [u16], i: u8, e: EndPoint, g: Cell, t: Timers) -> Timers
+    ensures { timers_of book.new result ≡ expired i e g (timers_of book.old t) }
 {
     if t.failing {
-        stop(book, g);
+        g.put_timer(book, 0);
         return t;
     }
-    let retries = half_at(book, layout::RETRIES_AT + g);
+    let retries = g.retries(book);
     if retries < e.entry.retries as u16 {
-        stop(book, g);
-        put(book, layout::RETRIES_AT + g, retries + 1);
-        queues::append(book, layout::RESENDS, layout::CELL_ID + g as u16);
+        g.put_timer(book, 0);
+        g.put_retries(book, retries + 1);
+        queues::append(book, layout::RESENDS, g.id());
         return t;
     }
     let run = e.run;
     idle(book, i, run);
-    stop(book, g);
+    g.put_timer(book, 0);
     Timers { failing: true, ..t }
 }
 
 // In tick c the timer of cell g, which runs out at tick d. That it runs on is tested before that it is due, since most
 // do.
-fn tick_cell(book: &mut [u16], i: u8, e: EndPoint, c: u16, g: usize, d: u16, t: Timers) -> Timers
-    requires { (g < 33024) × (t.running < 256) }
-    ensures { record { book = book.new; failing = result.failing; running = result.running; least = result.least }
-        ≡ tick_cell c i e g d
-        (record { book = book.old; failing = t.failing; running = t.running; least = t.least }) }
+fn tick_cell(book: &mut [u16], i: u8, e: EndPoint, c: u16, g: Cell, d: u16, t: Timers) -> Timers
+    requires { t.running < 256 }
+    ensures { timers_of book.new result ≡ tick_cell c i e g d (timers_of book.old t) }
 {
     if d == 0 {
         return t;
@@ -77,9 +61,7 @@ fn tick_cell(book: &mut [u16], i: u8, e: EndPoint, c: u16, g: usize, d: u16, t: 
 // The timer of Data that is under way, with d in its place: it stands, and the end waits for it.
 fn stand(book: &[u16], d: u16, t: Timers) -> Timers
     requires { t.running < 256 }
-    ensures { record { book = book.now; failing = result.failing; running = result.running; least = result.least }
-        ≡ stood_cell d
-        (record { book = book.now; failing = t.failing; running = t.running; least = t.least }) }
+    ensures { timers_of book.now result ≡ stood_cell d (timers_of book.now t) }
 {
     if d == 0 {
         return t;
@@ -94,14 +76,12 @@ fn stand(book: &[u16], d: u16, t: Timers) -> Timers
 #[tactic(auto, unfolding(crate::specs::Ticking::tick_slot))]
 fn tick_slot(book: &mut [u16], i: u8, e: EndPoint, c: u16, out: u16, k: u8, t: Timers) -> Timers
     requires { t.running < 256 }
-    ensures { record { book = book.new; failing = result.failing; running = result.running; least = result.least }
-        ≡ tick_slot c i e out k
-        (record { book = book.old; failing = t.failing; running = t.running; least = t.least }) }
+    ensures { timers_of book.new result ≡ tick_slot c i e out k (timers_of book.old t) }
 {
     let window = e.run.window;
     let s = advance(window.start, k);
-    let g = (layout::CELLS * i as u16) as usize + slot_for(window, s) as usize;
-    let d = half_at(book, layout::TIMER_AT + g);
+    let g = cell_of(i, window, s);
+    let d = g.timer(book);
     if s.0 as u16 == out {
         return stand(book, d, t);
     }
@@ -119,9 +99,7 @@ pub fn tick_slots(
     mut failing: bool,
     mut least: u16,
 ) -> Timers
-    ensures after { let t = result in
-        record { book = book.new; failing = t.failing; running = t.running; least = t.least }
-        ≡ ticked c i e failing book.old least }
+    ensures after { timers_of book.new result ≡ ticked c i e failing book.old least }
     ensures running_bound { result.running < 256 }
 {
     let handed = e.run.handed;

@@ -48,11 +48,15 @@ use Rattle.end_points.proofs.states.is_open.Reads as end_points_is_open
 use Rattle.end_points.proofs.states.is_new.Reads as end_points_is_new
 use Rattle.end_points.proofs.states.anew_run.Reads as end_points_anew_run
 use Rattle.end_points.proofs.states.without_urgent.Reads as end_points_without_urgent
-use Rattle.slots.proofs.cells.length.Reads as slots_length
-use Rattle.slots.proofs.cells.put_length.Reads as slots_put_length
-use Rattle.slots.proofs.cells.timer.Reads as slots_timer
-use Rattle.slots.proofs.cells.put_timer.Reads as slots_put_timer
-use Rattle.slots.proofs.cells.put_retries.Reads as slots_put_retries
+use Rattle.slots.proofs.cells.Cell.of_slot.Reads as slots_of_slot
+use Rattle.slots.proofs.cells.Cell.with_id.Reads as slots_with_id
+use Rattle.slots.proofs.cells.Cell.id.Reads as slots_id
+use Rattle.slots.proofs.cells.Cell.length.Reads as slots_length
+use Rattle.slots.proofs.cells.Cell.put_length.Reads as slots_put_length
+use Rattle.slots.proofs.cells.Cell.timer.Reads as slots_timer
+use Rattle.slots.proofs.cells.Cell.put_timer.Reads as slots_put_timer
+use Rattle.slots.proofs.cells.Cell.retries.Reads as slots_retries
+use Rattle.slots.proofs.cells.Cell.put_retries.Reads as slots_put_retries
 use Rattle.slots.proofs.slot_for.Reads as slots_slot_for
 use Rattle.slots.proofs.cell_of.Reads as slots_cell_of
 use Rattle.slots.proofs.spot_of.Reads as slots_spot_of
@@ -216,19 +220,31 @@ end_points_without_urgent_one u v a r₁ r₂ e₁ e₂ p q = cc
 
 -- ---- slots
 
+pub slots_of_slot_one : OneAnswer slots_of_slot.Post (λ r. r)
+slots_of_slot_one u v a r₁ r₂ e₁ e₂ p q = cc
+
+pub slots_with_id_one : OneAnswer slots_with_id.Post (λ r. r)
+slots_with_id_one u v a r₁ r₂ e₁ e₂ p q = cc
+
+pub slots_id_one : OneAnswer slots_id.Post (λ r. r)
+slots_id_one u v a r₁ r₂ e₁ e₂ p q = cc
+
 pub slots_length_one : OneAnswer slots_length.Post (λ r. r)
 slots_length_one u v a r₁ r₂ e₁ e₂ p q = cc
 
-pub slots_put_length_one : OneAfter slots_put_length.Post (λ e. e.0.now)
+pub slots_put_length_one : OneAfter slots_put_length.Post (λ e. e.1.0.now)
 slots_put_length_one u v a r₁ r₂ e₁ e₂ p q = cc
 
 pub slots_timer_one : OneAnswer slots_timer.Post (λ r. r)
 slots_timer_one u v a r₁ r₂ e₁ e₂ p q = cc
 
-pub slots_put_timer_one : OneAfter slots_put_timer.Post (λ e. e.0.now)
+pub slots_put_timer_one : OneAfter slots_put_timer.Post (λ e. e.1.0.now)
 slots_put_timer_one u v a r₁ r₂ e₁ e₂ p q = cc
 
-pub slots_put_retries_one : OneAfter slots_put_retries.Post (λ e. e.0.now)
+pub slots_retries_one : OneAnswer slots_retries.Post (λ r. r)
+slots_retries_one u v a r₁ r₂ e₁ e₂ p q = cc
+
+pub slots_put_retries_one : OneAfter slots_put_retries.Post (λ e. e.1.0.now)
 slots_put_retries_one u v a r₁ r₂ e₁ e₂ p q = cc
 
 pub slots_slot_for_one : OneAnswer slots_slot_for.Post (λ r. r)

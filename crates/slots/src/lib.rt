@@ -2,11 +2,12 @@
 // Proved: each function is the definition of specs/Slots.antt that it cites, for every memory.
 #![tactic(auto)]
 
-pub mod cells; // cells.rt: what the book says of a cell
+pub mod cells; // cells.rt: a cell, and what the book says of it
 
 ghost use Rattle.std.specs.Prelude.{◌≡◌};
 ghost use Rattle.slots.specs.Slots.{slot_for, cell, spot, waits_in, drop_slot, drop_slots, idled, number_in};
 
+use cells::Cell;
 use end_points::Run;
 use memory::layout;
 use units::Seq;
@@ -26,10 +27,10 @@ pub fn slot_for(w: Window, s: Seq) -> u8
 
 // The book's cell of a sequence number of entry i. Book, entry and window go side by side in this file: a struct of
 // them would be made anew for one line each time.
-pub fn cell_of(i: u8, w: Window, s: Seq) -> u16
+pub fn cell_of(i: u8, w: Window, s: Seq) -> Cell
     ensures { result ≡ cell i w s.0 }
 {
-    layout::CELLS * i as u16 + slot_for(w, s) as u16
+    Cell::of_slot(i, slot_for(w, s))
 }
 
 // The first byte of a slot in the store, for an entry whose part begins at place and whose largest payload is P: no
@@ -72,8 +73,7 @@ pub fn waits(book: &[u16], i: u8, w: Window, handed: u8, k: u8) -> bool
     if w.holds(k) {
         return false;
     }
-    let g = cell_of(i, w, advance(w.start, k));
-    cells::timer(book, g) == 0
+    cell_of(i, w, advance(w.start, k)).timer(book) == 0
 }
 
 // The number k past the start waits no more.
@@ -82,8 +82,7 @@ fn drop_slot(book: &mut [u16], i: u8, w: Window, handed: u8, k: u8)
     ensures { book.new ≡ drop_slot i w handed k book.old }
 {
     if waits(book, i, w, handed, k) {
-        let g = cell_of(i, w, advance(w.start, k));
-        queues::unlink(book, layout::CELL_ID + g);
+        queues::unlink(book, cell_of(i, w, advance(w.start, k)).id());
     }
 }
 

@@ -19,7 +19,7 @@ returns-then-is_new-clause-answer c =
       c.keep.ensures.bytes,
       c.push.ensures,
       accepted,
-    ) (sym (data_answer_new x a.i a.e a.s.0 a.payload.now new))
+    ) (sym (data_answer_new x a.i a.e a.s.0 a.payload.bytes.now new))
 
 pub returns-then-is_new-clause-after : goal.returns-then-is_new-clause-after
 returns-then-is_new-clause-after c =
@@ -36,7 +36,7 @@ returns-then-is_new-clause-after c =
       c.keep.ensures.bytes,
       c.push.ensures,
       accepted,
-    ) (sym (data_after_new x a.i a.e a.s.0 a.payload.now new))
+    ) (sym (data_after_new x a.i a.e a.s.0 a.payload.bytes.now new))
 
 pub returns-clause-answer : goal.returns-clause-answer
 returns-clause-answer c =
@@ -44,7 +44,7 @@ returns-clause-answer c =
     let x : Lent = record { node = a.node.now; book = a.book.now; store = a.store.now; out = a.out.now } in
     let accepted = c.accept-accepted.ensures in
     let other = rw accepted at (sym c.is_new.ensures ∙ c.if-is_new.false) in
-    simp (c.put_none.ensures.length, c.put_none.ensures.written, c.push.ensures) (sym (data_answer_other x a.i a.e a.s.0 a.payload.now other))
+    simp (c.put_none.ensures.length, c.put_none.ensures.written, c.push.ensures) (sym (data_answer_other x a.i a.e a.s.0 a.payload.bytes.now other))
 
 pub returns-clause-after : goal.returns-clause-after
 returns-clause-after c =
@@ -52,4 +52,4 @@ returns-clause-after c =
     let x : Lent = record { node = a.node.now; book = a.book.now; store = a.store.now; out = a.out.now } in
     let accepted = c.accept-accepted.ensures in
     let other = rw accepted at (sym c.is_new.ensures ∙ c.if-is_new.false) in
-    simp (c.put_none.ensures.length, c.put_none.ensures.written, c.push.ensures) (sym (data_after_other x a.i a.e a.s.0 a.payload.now other))
+    simp (c.put_none.ensures.length, c.put_none.ensures.written, c.push.ensures) (sym (data_after_other x a.i a.e a.s.0 a.payload.bytes.now other))

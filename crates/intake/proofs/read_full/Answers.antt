@@ -23,9 +23,6 @@ joined a k n xs ys within fits =
     ap (λ l. take a xs ++ l) (sym (slice_range-put_mid a k n xs ys within fits))
     ∙ take_split a (a + n) xs (put_mid a k xs ys) (omega arith) (take-put_mid_below _ _ _ _ _ (le_refl _) within)
 
-pub loop-at-init : goal.loop-at-init
-loop-at-init g c = record { sized = search rules; within = search rules; taken = Consumes-nil _ }
-
 pub loop-at-preserved : goal.loop-at-preserved
 loop-at-preserved g c =
     let room = length c.loop-at.buffer - c.loop-at.at in

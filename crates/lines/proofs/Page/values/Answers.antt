@@ -30,13 +30,3 @@ loop-v-preserved g c =
           let x = i.said r in
           says_more (map f vs) k within x (rw here at (v.written (record { within = x.within; room = omega (arith, r.room, i.lent.long) })));
     }
-
-pub returns-clause-after : goal.returns-clause-after
-returns-clause-after g c =
-    let long = length-map c.args.vs.now g.T.AsNumber.number in
-    all c.loop-v.invariant.begun (omega (arith, long))
-
-pub returns-clause-written : goal.returns-clause-written
-returns-clause-written g c r =
-    let long = length-map c.args.vs.now g.T.AsNumber.number in
-    rw (take_all c.loop-v.v-index (map g.T.AsNumber.number c.args.vs.now) (omega (arith, long))) at (c.loop-v.invariant.said r)
