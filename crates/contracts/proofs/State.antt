@@ -2,6 +2,8 @@
 -- contract's own text. Assumes nothing.
 use Rattle.memory.proofs.word_at.Reads as memory_word_at
 use Rattle.memory.proofs.half_at.Reads as memory_half_at
+use Rattle.waiting.proofs.acks.U64FromAck.from.Reads as waiting_word
+use Rattle.waiting.proofs.acks.AckFromU64.from.Reads as waiting_ack
 use Rattle.waiting.proofs.acks.waiting.Reads as waiting_waiting
 use Rattle.waiting.proofs.acks.oldest.Reads as waiting_oldest
 use Rattle.waiting.proofs.acks.push.Reads as waiting_push
@@ -75,6 +77,12 @@ pub memory_half_at_one : OneAnswer memory_half_at.Post (λ r. r)
 memory_half_at_one u v a r₁ r₂ e₁ e₂ p q = cc
 
 -- ---- waiting
+
+pub waiting_word_one : OneAnswer waiting_word.Post (λ r. r)
+waiting_word_one u v a r₁ r₂ e₁ e₂ p q = cc
+
+pub waiting_ack_one : OneAnswer waiting_ack.Post (λ r. r)
+waiting_ack_one u v a r₁ r₂ e₁ e₂ p q = cc
 
 pub waiting_waiting_one : OneAnswer waiting_waiting.Post (λ r. r)
 waiting_waiting_one u v a r₁ r₂ e₁ e₂ p q = cc
