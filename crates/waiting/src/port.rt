@@ -24,7 +24,8 @@ const FIRST_RESET: u16 = 48;
 // No sequence number.
 const NO_NUMBER: u16 = 256;
 
-// What is under way: 0 where there is none.
+// What is under way: 0 where there is none. It is the book's own half word, of which entry, number and sort are asked
+// below: a struct of the three would be put together for a question about one.
 pub fn under(book: &[u16]) -> u16
     ensures { result ≡ under_in book.now }
 {
@@ -89,7 +90,8 @@ pub fn is_reset(u: u16, i: u8) -> bool
     u / PER_ENTRY == FIRST_RESET + i as u16
 }
 
-// The number of entry i's Data that is, and 256 where none is.
+// The number of entry i's Data that is, and 256 where none is: each number of a run is compared with it, and none is
+// that.
 pub fn data_out(book: &[u16], i: u8) -> u16
     ensures { result ≡ data_out book.now i }
 {
