@@ -20,7 +20,8 @@ pub fn offset(block: &[u8], j: u8) -> usize
     get32(block, layout::OFFSETS + layout::OFFSET_BYTES * j as usize) as usize
 }
 
-// What lies between two offsets: a payload, or as much of it as there is.
+// What lies between two offsets: a payload, or as much of it as there is. Nothing, where they fall: that is told first,
+// and not left to a difference that stops at 0.
 pub fn between(block: &[u8], from: usize, to: usize) -> &[u8]
     ensures { result.now ≡ take (to - from) (drop from block.now) }
 {
