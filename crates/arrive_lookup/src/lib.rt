@@ -76,7 +76,8 @@ fn channel_digit(kind: Kind, i: u8) -> u8
     }
 }
 
-// Entry i, which is e, is put into the index.
+// Entry i, which is e, is put into the index. That i is below 16 is asked, here and of setup's own step: a type for it
+// would be made there once, and taken apart here.
 #[tactic(auto, unfolding(crate::specs::Lookup::indexed))]
 pub fn put_in_index(node: &mut [u64], i: u8, e: Entry)
     requires { i < 16 }

@@ -120,7 +120,8 @@ fn send_one(
     Ok(())
 }
 
-// An end point that has taken and accepted n payloads more.
+// An end point that has taken and accepted n payloads more. That its counts have room is asked of both together, here
+// and of what is put back: no type of one of them could say it.
 fn more(e: EndPoint, n: u8) -> EndPoint
     requires { (e.run.taken + n < 256) × (e.run.accepted.0 + n < 4294967296) }
     ensures { result ≡ advanced e n }

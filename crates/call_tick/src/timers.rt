@@ -10,7 +10,7 @@ use waiting::{port, queues};
 use window::advance;
 
 // How far the tick of an entry's timers has come: whether the end is Failing, how many timers still run, and the least
-// that is left of one.
+// that is left of one. That fewer than 256 run is asked before each step, and is no invariant: a step may add one.
 #[derive(Clone, Copy)]
 pub struct Timers {
     pub failing: bool,
