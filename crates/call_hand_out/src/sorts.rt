@@ -1,6 +1,6 @@
 // Each sort of what waits, handed out: its frame into the buffer, and what that leaves of node and book. `once` and
 // `fitted` are what their contracts have in common.
-ghost use Rattle.std.specs.Prelude.{◌≡◌};
+ghost use Rattle.std.specs.Prelude.{◌≡◌, ◌<◌};
 ghost use Rattle.std.proofs.lemmas.List.Edits.{sets};
 ghost use Rattle.units.specs.Refusals.{pick};
 ghost use Rattle.waiting.specs.Queues.{unlinked};
@@ -106,10 +106,10 @@ pub fn put_urgent(
 }
 
 // The entry of the slot that is x in its queue.
-fn entry_of(x: u16) -> u8
+fn entry_of(x: u16) -> usize
     ensures { result ≡ id_entry x }
 {
-    (x.saturating_sub(layout::CELL_ID) / layout::CELLS % 256) as u8
+    (x.saturating_sub(layout::CELL_ID) / layout::CELLS % 256) as usize
 }
 
 // The slot that is x in its queue waits no more: its timer stands, and its frame, with this number, is under way.
@@ -118,14 +118,16 @@ fn put_sent(book: &mut [u16], x: u16, number: Seq)
 {
     queues::unlink(book, x);
     Cell::with_id(x).put_timer(book, STANDING);
-    port::begin(book, u8::from(FrameType::Data), entry_of(x), number)
+    port::begin(book, u8::from(FrameType::Data), entry_of(x) as u8, number)
 }
 
-// One number more is handed out: of the run's words one alters, and no other is written.
-fn put_handed(node: &mut [u64], i: u8, r: Run)
+// One number more is handed out: of the run's words one alters, and no other is written. A bound on the index and no
+// byte: with a byte handing out Data costs three instructions more (./bench).
+fn put_handed(node: &mut [u64], i: usize, r: Run)
+    requires { i < 4096 }
     ensures { node.new ≡ handed_node node.old i r }
 {
-    let at = layout::ENTRY_AT + layout::ENTRY_WORDS * i as usize;
+    let at = layout::ENTRY_AT + layout::ENTRY_WORDS * i;
     put(node, at + layout::HANDED, r.handed.wrapping_add(1) as u64)
 }
 
@@ -150,12 +152,12 @@ pub fn put_number<const FIRST: bool>(
     let i = entry_of(x);
     let g = x.saturating_sub(layout::CELL_ID);
     let slot = (g % layout::CELLS) as u8;
-    let entry = load_entry(node, i as usize);
-    let run = run_of(node, i as usize);
+    let entry = load_entry(node, i);
+    let run = run_of(node, i);
     let number = number_in(run.window, slot);
     let fields = fields_to(node, entry, FrameType::Data, number);
     let length = Cell::with_id(x).length(book);
-    let spot = spot_of(load_place(node, i as usize), entry.largest, slot);
+    let spot = spot_of(load_place(node, i), entry.largest, slot);
     let n = put_frame(frame, fields, part(store, spot, length as usize))?;
     put_sent(book, x, number);
     if FIRST {
