@@ -4,8 +4,8 @@
 // Proved, for every input and every content of the memory: which answer, and what all that was lent holds afterwards,
 // each as one equation over the definitions that the layer below cites (its specs/); a refused call leaves all as it
 // was. docs/CONTRACTS.md lists the calls with their definitions.
-// What is lent stands side by side, down to the last function, and in no struct of references: tried on the report, that
-// was as fast, but a third longer, since each read had to go by a method of its own.
+// What is lent stands side by side, down to the last function, and in no struct of references: tried on the report,
+// that was as fast, but a third longer, since each read had to go by a method of its own.
 #![tactic(auto)]
 
 ghost use Rattle.std.specs.Prelude.{◌≡◌};
