@@ -95,7 +95,7 @@ fn put_entries(node: &mut [u64], table: &[u8])
     }
 }
 
-// Entry k of the table, Closed, at a place in the store, and in the index.
+// Entry k of the table, Closed, at a place in the store, and in the index, which asks that k is below 16.
 fn put_entry(node: &mut [u64], k: usize, e: Entry, place: u16)
     requires { k < 16 }
     ensures { node.new ≡ indexed (saved (saved_entry node.old k e place) k Closed first_run) k

@@ -81,7 +81,8 @@ pub fn urgent(
     Ok(())
 }
 
-// A payload lies in the slot of the next number, which waits as data.
+// A payload lies in the slot of the next number, which waits as data. Its length is asked and no `Payload` taken: K6's
+// note names this function as one that others call.
 pub fn lay(book: &mut [u16], store: &mut [u8], i: u8, e: EndPoint, payload: &[u8])
     requires { length payload.now < 65536 }
     ensures book { book.new ≡ laid_book book.old i e (length payload.now) }

@@ -116,7 +116,8 @@ fn is_over(s: State) -> bool
 }
 
 // Entry i becomes Enabled with a Reset waiting, and its bit is set, where it is Failing with no timer running and no
-// frame of its own under way. The record of its contract is the definition's own.
+// frame of its own under way. The record of its contract is the definition's own, and its bounds are of entry and bits
+// together, so no type of one has them.
 #[tactic(auto, unfolding(crate::specs::Ticking::recover, end_points::specs::Ends::end_of))]
 fn recover(node: &mut [u64], book: &mut [u16], i: u8, bits: u16) -> u16
     requires { (i < 16) × (bits < 2 ^ i) }

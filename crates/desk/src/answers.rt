@@ -19,7 +19,7 @@ pub struct Station<'a> {
     pub buffer: &'a mut [u8],
 }
 
-// How long a block a frame left.
+// How long a block a frame left: of the values that `lines` tells, those alone that are lengths.
 fn delivered(was: Was) -> usize {
     match was {
         Was::Ignored => 0,

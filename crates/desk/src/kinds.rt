@@ -9,7 +9,7 @@ pub const COUNTS: u8 = 20;
 
 #[derive(Clone, Copy)]
 pub enum Kind {
-    // One of a trace's, by its number.
+    // One of a trace's, by its number, as `trace_step::call` takes it.
     Traced(u8),
     // A trace has the sends that a plan is made of in its place.
     Plan,

@@ -28,7 +28,8 @@ const INPUT: usize = 65536;
 // How much text is put together before it is written out.
 const TEXT: usize = 65536;
 
-// The lines of all records, or of those up to the first that is torn or unknown.
+// The lines of all records, or of those up to the first that is torn or unknown. No `for`: the index goes on by the
+// length that a record itself says.
 fn run<W: Write>(page: &mut Page<'_>, to: &mut Sink<W>, input: &[u8], station: &mut Station<'_>) {
     let mut i = 0;
     let mut count: u64 = 0;

@@ -14,7 +14,7 @@ pub struct Record {
     pub end: usize,
 }
 
-// The record at an index.
+// The record at an index. Not one with that of `frames`: its head is another, and so is what is judged (`Lies`).
 pub fn record_at(input: &[u8], i: usize) -> Result<Record, Stop>
     ensures { Lies i (length input.now) result }
 {

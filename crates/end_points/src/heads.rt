@@ -6,7 +6,8 @@ ghost use Rattle.end_points.specs.Heads.{count_in, own_in, protocol_in, need_in}
 use memory::{layout, word_at};
 use units::Address;
 
-// How many entries there are.
+// How many entries there are. Each call tests its index against that, in two lines: one step with `?` would be one
+// function more, and its definition.
 pub fn count(node: &[u64]) -> u8
     ensures { result ≡ count_in node.now }
 {

@@ -54,6 +54,8 @@ pub struct EndPoint {
     pub run: Run,
 }
 
+// The kind that a word stands for: every word does, also in garbage, and by another bit than a table's byte. So no
+// `TryFrom`, and not the table's own.
 fn kind_of(w: u64) -> Kind
     ensures { result ≡ kind_of w }
 {
@@ -63,6 +65,7 @@ fn kind_of(w: u64) -> Kind
     Kind::Receives
 }
 
+// The state that three words stand for: any three do, also in garbage (`state_of`), so no `TryFrom`.
 #[tactic(auto, unfolding(crate::specs::Ends::state_of))]
 fn state_of(tag: u64, value: u64, flag: u64) -> State
     ensures { result ≡ state_of tag value flag }

@@ -62,7 +62,8 @@ pub fn shelugvar_fault_byte(refusal: u8) -> u8
     fault_byte(refusal)
 }
 
-// The fields that C hands over.
+// The fields that C hands over, by the definition that C's contracts cite; `frames` reads a record's in the same order,
+// by none.
 #[tactic(auto, unfolding(crate::specs::Firmware::fields_in))]
 fn fields_in(fields: &[u8]) -> Fields
     ensures { result ≡ fields_in fields.now }

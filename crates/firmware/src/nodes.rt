@@ -1,6 +1,6 @@
 // The node's calls for C: the node and its book are the two lent arrays, everything else pointer and length.
 // Each answers the refusal, 0 where it is done; what else it answers goes to the last parameter, which a refused call
-// leaves as it was, as all that was lent.
+// leaves as it was, as all that was lent. Each stores other values: a closure for each would be longer than its match.
 // Proved: each is the node's own call (crates/node), in the numbers that specs/Nodes.antt gives to its answer.
 ghost use Rattle.std.specs.Prelude.{◌≡◌};
 ghost use Rattle.end_points.specs.Answers.{answer_of, counted_of, planned_of, arrived_of, handed_of, stated_of};

@@ -7,7 +7,7 @@ use frame::{Fields, Header};
 use lines::Page;
 use lines::sink::Sink;
 use std::io::Write;
-use units::bytes::{byte_at, get32};
+use units::bytes::{byte_at, get32, part};
 use units::refusals::Refusal;
 use units::{Address, Channel, Seq};
 
@@ -41,10 +41,7 @@ fn reading<W: Write>(page: &mut Page<'_>, to: &mut Sink<W>, bytes: &[u8]) {
 
 // The bytes of a slice from an index on.
 fn rest(bytes: &[u8], from: usize) -> &[u8] {
-    if bytes.len() < from {
-        return &bytes[..0];
-    }
-    &bytes[from..]
+    part(bytes, from, bytes.len())
 }
 
 // The fields at the start of a record to write.

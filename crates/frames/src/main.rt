@@ -45,7 +45,8 @@ fn line<W: Write>(
     page.text(to, b"\n");
 }
 
-// The lines of all records, or of those up to the first that is torn or unknown.
+// The lines of all records, or of those up to the first that is torn or unknown. No `for`: the index goes on by the
+// length that a record itself says.
 fn run<W: Write>(page: &mut Page<'_>, to: &mut Sink<W>, input: &[u8], buffer: &mut [u8]) {
     let mut i = 0;
     let mut count: u64 = 0;

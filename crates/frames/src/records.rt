@@ -22,7 +22,8 @@ pub struct Record {
     pub end: usize,
 }
 
-// The record at an index. One to write holds at least the fields.
+// The record at an index. One to write holds at least the fields. Not one with desk's: its head is another, and so is
+// what is judged (`Lies`).
 pub fn record_at(input: &[u8], i: usize) -> Result<Record, Stop>
     ensures { Lies i (length input.now) result }
 {

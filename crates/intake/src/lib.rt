@@ -10,6 +10,7 @@ use std::io::{Read, Result};
 
 // Answers how many bytes it put at the start of the buffer. On a full buffer nothing says whether more would come.
 // A read that fails ends it with that error: the bytes that came before lie at the buffer's start, and are not counted.
+// No `for`: the reader says how far it goes, and when it ends.
 pub fn read_full<R: Read>(from: &mut R, buffer: &mut [u8]) -> Result<usize>
     ensures within { IfOk result (λ n. n ≤ length buffer.new) }
     ensures bytes { IfOk result (λ n. Consumes (R.remaining from.old) (R.remaining from.new) (take n buffer.new)) }

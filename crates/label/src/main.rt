@@ -53,6 +53,7 @@ fn print_entry(rt: &impl Print, i: usize, e: Entry) -> io::Result<()>
     println!(rt; "{i} {kind} {remote} {channel} {window} {left}")
 }
 
+// No `Display` for it: that would stand in the crate `table`, which prints nothing.
 fn word(kind: Kind) -> &'static str {
     match kind {
         Kind::Sends => "tx",

@@ -1,4 +1,5 @@
-// What the calls answered, in the paper's numbers, each a value.
+// What the calls answered, in the paper's numbers, each a value. Each tells other fields: a closure for each would be
+// longer than its match.
 ghost use Rattle.std.specs.Prelude.{◌≡◌, [], ◌∷◌};
 ghost use Rattle.end_points.specs.Answers.{answer_of, counted_of, planned_of, what_of, value_of, arrived_of, handed_of};
 ghost use Rattle.lines.specs.Lines.{SameBuffer, seen, valued_all};

@@ -1,6 +1,7 @@
 // Lines of text, put together in a page and written to a sink, `to`, when that is full.
 // Proved: what the page holds afterwards, by the definitions of specs/Lines.antt, for every input and whether or not a
-// write fails.
+// write fails. Any page may be given, also one without room, so no invariant asks for room, and the clause `written`
+// says each time where it needs it; and text is put into what was lent, since nothing is allocated.
 #![tactic(auto)]
 
 pub mod sink; // sink.rt: where text goes, and the error that ends it
@@ -177,7 +178,8 @@ impl Page<'_> {
         }
     }
 
-    // The only line where the whole input is refused.
+    // The only line where the whole input is refused. No case of `stopped`: it tells a refusal's number, and no
+    // record's.
     pub fn refused_all<W: Write>(&mut self, to: &mut Sink<W>, why: Refusal)
         ensures lent { SameBuffer self.old self.new }
         ensures after { seen self.new ≡ last_line (seen self.old) (ascii "refused") (number_of why) }

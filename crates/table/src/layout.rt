@@ -64,7 +64,7 @@ impl From<Kind> for u8 {
     }
 }
 
-// The kind that a byte stands for.
+// The kind that a byte stands for: every byte does (`kind_of`), so no `TryFrom`.
 fn kind_of(b: u8) -> Kind
     ensures { result ≡ kind_of b }
 {

@@ -40,7 +40,8 @@ fn told<W: Write>(page: &mut Page<'_>, to: &mut Sink<W>, t: Told)
     }
 }
 
-// A record's line but for its end: its number, its kind, what its call answered.
+// A record's line but for its end: its number, its kind, what its call answered. Any byte is printed for a kind
+// (`begun_of`), desk's own too.
 #[tactic(auto, unfolding(crate::specs::Lines::begun_of))]
 pub fn begun<W: Write>(page: &mut Page<'_>, to: &mut Sink<W>, n: u64, kind: u8, t: Told)
     ensures lent { SameBuffer page.old page.new }
@@ -72,12 +73,7 @@ fn line<W: Write>(page: &mut Page<'_>, to: &mut Sink<W>, file: &[u8], k: usize, 
 fn is_refused(t: Told) -> bool
     ensures { result ≡ is_refused t }
 {
-    match t {
-        Told::Plain(v) => v.is_err(),
-        Told::Arrival(_) => false,
-        Told::Tick(_) => false,
-        Told::HandOut(_) => false,
-    }
+    matches!(t, Told::Plain(Err(_)))
 }
 
 // The lines of a replay, of a file that is given whole; `buffer` is the block and the frame buffer. A file against the

@@ -105,14 +105,15 @@ pub fn put32(s: &mut [u8], i: usize, v: u32)
     put16(s, i + 2, (v % 65536) as u16);
 }
 
-// The smaller of two.
+// The smaller of two: the library's `min`, by the name that docs/CONTRACTS.md has for it.
 pub fn least(a: usize, b: usize) -> usize
     ensures { result ≡ min a b }
 {
     a.min(b)
 }
 
-// Items stored one after the other, as many as there is room for.
+// Items stored one after the other, as many as there is room for. One by one: `copy_from_slice` would ask C for
+// `memmove` beside `memset`, which is all that docs/C.md says the archive needs.
 pub fn put_all<T: Copy>(s: &mut [T], i: usize, items: &[T])
     ensures { s.new ≡ sets s.old i items.now }
 {

@@ -27,7 +27,7 @@ pub enum Refusal {
     BadBlock,
 }
 
-// The numbers of the refusals for a fault of a frame's header.
+// The numbers of the refusals for a fault of a frame's header, since C asks by them where the fault sits.
 pub const UNKNOWN_TYPE: u8 = 15;
 
 pub const USER_BITS: u8 = 16;

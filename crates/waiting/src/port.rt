@@ -76,7 +76,7 @@ pub fn number(u: u16) -> Seq
     Seq((u % PER_ENTRY) as u8)
 }
 
-// Whether it is entry i's Data.
+// Whether it is entry i's Data. This and its like for a Reset are one line each, by the name of what they ask.
 pub fn is_data(u: u16, i: u8) -> bool
     ensures { result ≡ is_data u i }
 {
