@@ -9,6 +9,7 @@ use Prim.Native.Nat.{ℕ, ◌≤◌, ◌<◌}
 use native.Mathlib.Omega.{arith}
 use borrow.Author.Tests.{ne_eqb, eqb-false, ltb-true}
 use lib.Dec.{eqb, ltb}
+use Rattle.std.proofs.lemmas.Bool.{and_parts, not-true}
 use Rattle.units.specs.declared.refusals.Refusal.{Refusal}
 use Rattle.units.specs.declared.refusals.Refusal.TheVariants as refusal
 use Rattle.units.specs.Refusals.{number_of, pick, verdict, Verdict}
@@ -81,12 +82,8 @@ lacks n (t ∷ ts) = not (eqb (number_of t.1) n) && lacks n ts
 pub not_given : (ts : List (Bool × Refusal)) (w : Refusal) → lacks (number_of w) ts ≡ true → verdict ts ≢ Err w
 not_given [] w h e = let z : ◌≡◌ {A = ℕ} 0 1 = cc in absurd (omega arith)
 not_given (t ∷ ts) w h e =
-    let k = both (eqb (number_of t.1) (number_of w)) (lacks (number_of w) ts) h in
-    not_given ts w k.1 ((passed_over t ts w (differ t.1 w k.0) Iff.rfl Iff.rfl).0 e).1
-  where
-    both : (a b : Bool) → (not a && b) ≡ true → (a ≡ false) × (b ≡ true)
-    both true b h = absurd (true≢false (sym h))
-    both false b h = (refl, h)
+    let k = and_parts (not (eqb (number_of t.1) (number_of w))) (lacks (number_of w) ts) h in
+    not_given ts w k.1 ((passed_over t ts w (differ t.1 w (not-true (eqb (number_of t.1) (number_of w)) k.0)) Iff.rfl Iff.rfl).0 e).1
 
 -- so where its numbers are all below another
 abbrev pub below : ℕ → List (Bool × Refusal) → Bool
@@ -96,13 +93,9 @@ below n (t ∷ ts) = ltb (number_of t.1) n && below n ts
 pub below_lacks : (ts : List (Bool × Refusal)) (n k : ℕ) → n ≤ k → below n ts ≡ true → lacks k ts ≡ true
 below_lacks [] n k h e = refl
 below_lacks (t ∷ ts) n k h e =
-    let a = and_true (ltb (number_of t.1) n) (below n ts) e in
+    let a = and_parts (ltb (number_of t.1) n) (below n ts) e in
     let less : number_of t.1 < n = ltb-true (number_of t.1) n a.0 in
     rw (ne_eqb (number_of t.1) k (λ z. omega arith)) (below_lacks ts n k h a.1)
-  where
-    and_true : (a b : Bool) → (a && b) ≡ true → (a ≡ true) × (b ≡ true)
-    and_true true b h = (refl, h)
-    and_true false b h = absurd (true≢false (sym h))
 
 -- the test itself fits, where none that follows refuses with the same
 pub fits_here : {A : Type 0} (b : Bool) (w : Refusal) (ts : List (Bool × Refusal)) → lacks (number_of w) ts ≡ true
