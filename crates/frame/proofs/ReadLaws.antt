@@ -1,6 +1,6 @@
 -- Laws of the reader: what a taken frame shows, and how it reads the bytes that the writer makes. Assumes nothing.
 use mathlib.Core.Path.{◌≡◌, refl, ap}
-use mathlib.Core.Bool.{Bool, true, false, ◌&&◌, not}
+use mathlib.Core.Bool.{Bool, true, ◌&&◌, not}
 use mathlib.Core.List.{List, [], ◌∷◌}
 use Prim.Native.Nat.{ℕ, ◌+◌, ◌-◌, ◌≤◌, ◌<◌}
 use native.Mathlib.Omega.{arith}
@@ -8,6 +8,7 @@ use borrow.Author.Tests.{le-leb, lt-leb, eq-eqb, leb-true, leb-false, eqb-true, 
 use lib.Dec.{leb, eqb}
 use lib.ListN.{length, get_or}
 use lib.Seq.{take_at}
+use Rattle.std.proofs.lemmas.Bool.{and_parts}
 use Rattle.units.specs.Bytes.{get16_of, be16}
 use Rattle.units.specs.Refusals.{verdict, Verdict}
 use Rattle.units.specs.declared.refusals.Refusal.{Refusal}
@@ -19,16 +20,12 @@ use Rattle.frame.specs.declared.Fields.{Fields}
 use Rattle.frame.specs.declared.Header.{Header}
 use Rattle.frame.specs.Types.{type_of, suits, seq_reads, seq_writes}
 use Rattle.frame.specs.Layout.{type_at, user_at, payload_of, head_bytes, body_bytes, frame_bytes}
-use Rattle.frame.specs.Reading.{sound_of, header_tests, header_at, read_as, read_of}
+use Rattle.frame.specs.Reading.{sound_of, header_tests, header_at, read_as, read_of, header_of}
 use Rattle.frame.proofs.TypeLaws.{suits_le, writes_reads, writes_given}
 use Rattle.frame.proofs.WriteLaws.{length_frame}
 use Rattle.std.specs.Prelude.{Ok, Err}
 
 -- ---- what a taken frame shows
-
-and_true : (a b : Bool) → (a && b) ≡ true → (a ≡ true) × (b ≡ true)
-and_true true b e = (refl, e)
-and_true false b e = let z : ◌≡◌ {A = ℕ} 0 1 = cc in absurd (omega arith)
 
 pub record Taken (f : List ℕ) : Type 0 where
   pub long : 9 ≤ length f
@@ -49,8 +46,8 @@ taken f h e =
     let tests : List (Bool × Refusal) = (not (sound_of f), refusal.BadFrame) ∷ header_tests f in
     let v = passed (verdict tests) (header_at (type_of (type_at f)) f) h e in
     let c = clear tests v.0 in
-    let a = and_true (leb 9 (length f) && eqb (get16_of f 4 + 9) (length f)) (eqb (check_of f) 0) (not-false (sound_of f) c.0) in
-    let b = and_true (leb 9 (length f)) (eqb (get16_of f 4 + 9) (length f)) a.0 in (
+    let a = and_parts (leb 9 (length f) && eqb (get16_of f 4 + 9) (length f)) (eqb (check_of f) 0) (not-false (sound_of f) c.0) in
+    let b = and_parts (leb 9 (length f)) (eqb (get16_of f 4 + 9) (length f)) a.0 in (
       record {
         long = leb-true 9 (length f) b.0;
         size = eqb-true (get16_of f 4 + 9) (length f) b.1;
@@ -62,6 +59,11 @@ taken f h e =
       },
       v.1,
     )
+
+-- a sound frame reads whole as its second half does
+pub whole_read : (f : List ℕ) (h : Header) → sound_of f ≡ true → header_of f ≡ Ok h → read_of f ≡ Ok h
+unfolding header_of read_of
+whole_read f h s e = rw s e
 
 -- ---- the bytes that the writer makes
 

@@ -1,20 +1,17 @@
 -- Laws of the frame types: what a known number, a fitting payload and a type's own number say. Assumes nothing.
 use mathlib.Core.Path.{◌≡◌, refl, sym}
-use mathlib.Core.Bool.{Bool, true, false, ◌&&◌}
+use mathlib.Core.Bool.{true, false, ◌&&◌}
 use Prim.Native.Nat.{ℕ, zero, suc, ◌≤◌, ◌<◌}
 use native.Mathlib.Omega.{arith}
 use borrow.Author.Tests.{leb-true, eqb-true}
 use lib.Dec.{leb}
+use Rattle.std.proofs.lemmas.Bool.{and_parts}
 use Rattle.frame.specs.declared.FrameType.{FrameType}
 use Rattle.frame.specs.declared.FrameType.TheVariants.{Data, Acknowledge, Reset, Urgent}
 use Rattle.frame.specs.Types.{type_number, type_of, suits, seq_reads, seq_writes, seq_given}
 
 and_le : (n : ℕ) → (leb 1 n && leb n 65520) ≡ true → n ≤ 65520
-and_le n e = leb-true n 65520 (go (leb 1 n) (leb n 65520) e)
-  where
-    go : (a b : Bool) → (a && b) ≡ true → b ≡ true
-    go true b h = h
-    go false b h = let z : ◌≡◌ {A = ℕ} 0 1 = cc in absurd (omega arith)
+and_le n e = leb-true n 65520 (and_parts (leb 1 n) (leb n 65520) e).1
 
 -- no payload that fits is longer than the longest
 pub suits_le : (t : FrameType) (n : ℕ) → suits t n ≡ true → n ≤ 65520

@@ -1,6 +1,6 @@
 -- A window's size is a power of two, from 1 to 128. Assumes nothing.
-use Rattle.std.proofs.Common.{◌≡◌, ℕ, zero, suc, ◌+◌, ◌/◌, ◌%◌, ◌^◌, ◌<◌, ◌≤◌, Bool, true, false, ◌&&◌, eqb, leb, refl, pow-suc, arith, pow_pos, pow_mono, eqb-true, leb-true}
-use mathlib.Core.Bool.{false≢true}
+use Rattle.std.proofs.lemmas.Bool.{and_parts}
+use Rattle.std.proofs.Common.{◌≡◌, ℕ, zero, suc, ◌+◌, ◌/◌, ◌%◌, ◌^◌, ◌<◌, ◌≤◌, true, eqb, leb, refl, pow-suc, arith, pow_pos, pow_mono, eqb-true, leb-true}
 use mathlib.Core.Logic.{by_cases}
 use native.Mathlib.Decide.{dec_le}
 use lib.Arith.{bin_ind}
@@ -41,16 +41,12 @@ one_bit =
 
 -- ---- the size
 
-both : (a b : Bool) → (a && b) ≡ true → (a ≡ true) × (b ≡ true)
-both true b e = (refl, e)
-both false b e = absurd (false≢true e)
-
 pub size_le : (W : ℕ) → is_size W ≡ true → W ≤ 128
-size_le W v = leb-true W 128 (both (eqb (ones W) 1) (leb W 128) v).1
+size_le W v = leb-true W 128 (and_parts (eqb (ones W) 1) (leb W 128) v).1
 
 pub size_power : (W : ℕ) → is_size W ≡ true → (j : ℕ) × (W ≡ 2 ^ j) × (j ≤ 7)
 size_power W v =
-    let p = one_bit W (eqb-true (ones W) 1 (both (eqb (ones W) 1) (leb W 128) v).0) in
+    let p = one_bit W (eqb-true (ones W) 1 (and_parts (eqb (ones W) 1) (leb W 128) v).0) in
     let e = p.1 in
     let l = size_le W v in
     (p.0, e, by_cases (dec_le p.0 7) (λ h. h) (λ h. absurd (omega (arith, pow_mono {i = 8} {j = p.0} (omega arith)))))
