@@ -84,6 +84,7 @@ fn state_of(tag: u64, value: u64, flag: u64) -> State
 
 // The words of entry i, as many of its 32 as there are. The length is tested once here: where it is known, as in every
 // call of the node, no read of a word below tests it again.
+#[tactic(auto, using(crate::proofs::Past::none_there))]
 fn words_of(node: &[u64], i: usize) -> &[u64]
     ensures { result.now ≡ take entry_long (drop (entry_at i) node.now) }
 {
@@ -195,7 +196,7 @@ pub fn load(node: &[u64], i: usize) -> EndPoint
 }
 
 // End point i is put back with a state and a run; what the table says of it stays.
-#[tactic(auto, unfolding(crate::specs::Ends::saved))]
+#[tactic(auto, unfolding(crate::specs::Ends::saved), using(crate::proofs::Past::none_saved))]
 pub fn save(node: &mut [u64], i: usize, s: State, r: Run)
     ensures { node.new ≡ saved node.old i s r }
 {
@@ -236,7 +237,7 @@ fn state_words(s: State) -> [u64; 3]
 }
 
 // Entry i as the table has it, at its place in the store.
-#[tactic(auto, unfolding(crate::specs::Ends::saved_entry))]
+#[tactic(auto, unfolding(crate::specs::Ends::saved_entry), using(crate::proofs::Past::no_entry_saved))]
 pub fn save_entry(node: &mut [u64], i: usize, e: Entry, place: u16)
     ensures { node.new ≡ saved_entry node.old i e place }
 {

@@ -5,4 +5,4 @@ use Rattle.end_points.proofs.Cut.{cut}
 use Rattle.end_points.proofs.load_place.Goals as goal
 
 pub returns : goal.returns
-returns c = rw (c.word_at.ensures ∙ cut c.args.node.now c.words_of.result.now c.args.i 7 c.words_of.ensures (omega arith))
+returns c = rw (c.word_at.ensures ∙ cut c.args.node.now c.args.i c.words_of.ensures 7 (omega arith))
