@@ -1,28 +1,18 @@
 -- Data taken in, case by case: a number in the window and new, and any other. Assumes nothing.
 use mathlib.Core.Path.{◌≡◌}
 use mathlib.Core.Bool.{true, false}
-use mathlib.Core.List.{List, []}
+use mathlib.Core.List.{List}
 use Prim.Native.Nat.{ℕ}
 use Rattle.window.specs.Windows.{accept_of}
 use Rattle.end_points.specs.Lent.{Lent}
 use Rattle.end_points.specs.Runs.{is_new}
 use Rattle.end_points.specs.declared.EndPoint.{EndPoint}
-use Rattle.end_points.specs.declared.answers.Was.TheVariants as was
-use Rattle.blocks.specs.Blocks.{takes}
-use Rattle.arrive_data.specs.Receiving.{delivered, given, first_time, repeated, data_answer, data_after}
+use Rattle.arrive_data.specs.Receiving.{first_time, repeated, data_after}
 
 module _ (x : Lent) (i : ℕ) (e : EndPoint) (s : ℕ) (p : List ℕ) where
-  pub data_answer_new : is_new (accept_of e.run.window s).found ≡ true → data_answer x i e s p ≡ was.Data (takes x.out (delivered x i e s p))
-  unfolding data_answer given
-  data_answer_new h = rw h
-
   pub data_after_new : is_new (accept_of e.run.window s).found ≡ true → data_after x i e s p ≡ first_time x i e s p
   unfolding data_after
   data_after_new h = rw h
-
-  pub data_answer_other : is_new (accept_of e.run.window s).found ≡ false → data_answer x i e s p ≡ was.Data (takes x.out [])
-  unfolding data_answer given
-  data_answer_other h = rw h
 
   pub data_after_other : is_new (accept_of e.run.window s).found ≡ false → data_after x i e s p ≡ repeated x i s
   unfolding data_after

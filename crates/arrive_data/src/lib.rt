@@ -37,6 +37,7 @@ pub fn take_reset(node: &mut [u64], i: u8, e: EndPoint) -> Was
 
 // Data, at Open: a new payload in the window is kept, and what then follows the start without a gap is delivered;
 // any other is dropped. An acknowledgement waits in all cases.
+#[tactic(auto, unfolding(crate::specs::Receiving::data_answer, crate::specs::Receiving::given, crate::specs::Receiving::data_after))]
 pub fn take_data(
     node: &mut [u64],
     book: &mut [u16],
