@@ -95,6 +95,7 @@ pub fn put_none(out: &mut [u8]) -> usize
 }
 
 // The block of one payload; answers how much of it the lent block took.
+#[tactic(auto, using(crate::proofs::Appending::length_one, crate::proofs::Appending::sets_one))]
 pub fn put_one(out: &mut [u8], payload: carried::Payload) -> usize
     ensures length { result ≡ takes out.old (payload.entry.bytes.now ∷ []) }
     ensures written { out.new ≡ sets out.old 0 (block_of (payload.entry.bytes.now ∷ [])) }
