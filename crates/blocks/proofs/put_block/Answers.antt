@@ -15,16 +15,12 @@ loop-j-preserved c =
     c.put_all.ensures
     (payloads_more _ _ _ _ _ _ _ _ c.payload-p.ensures.is)
 
-pub returns-clause-length : goal.returns-clause-length
-returns-clause-length c =
+pub returns : goal.returns
+returns c =
     let l = c.loop-j in
-    let a = c.args in
-    let h : l.j ≡ a.k = omega arith in
-    let w = begun_done a.out.now (rw h at l.invariant) c.put16.ensures c.put_offset-2.ensures in omega (arith, w.0, (c.put_offset-2.auto.out ∙ begun_long c.loop-j.invariant ∙ c.put16.auto.s))
-
-pub returns-clause-written : goal.returns-clause-written
-returns-clause-written c =
-    let l = c.loop-j in
-    let a = c.args in
-    let h : l.j ≡ a.k = omega arith in
-    let w = begun_done a.out.now (rw h at l.invariant) c.put16.ensures c.put_offset-2.ensures in w.1
+    let h : l.j ≡ c.args.k = omega arith in
+    let w = begun_done c.args.out.now (rw h at l.invariant) c.put16.ensures c.put_offset-2.ensures in
+    record {
+      length = omega (arith, w.0, c.put_offset-2.auto.out ∙ begun_long l.invariant ∙ c.put16.auto.s);
+      written = w.1;
+    }
