@@ -9,6 +9,7 @@ use native.Mathlib.Omega.{arith}
 use lib.ListN.{length, get_elem?}
 use lib.Dec.{eqb, leb}
 use borrow.Author.Tests.{eq-eqb, eqb-true, le-leb, lt-leb}
+use Rattle.std.proofs.lemmas.Bool.{or_parts}
 use Rattle.units.specs.Refusals.{pick}
 use Rattle.machine.specs.Machine.{Number, End, past, is_spent, fallen, ticked_all, any_spent}
 use Rattle.machine.specs.Laws.{item}
@@ -52,15 +53,11 @@ none_retried M (z ∷ zs) zero x y h g =
     omega arith
 none_retried M (z ∷ zs) (suc k) x y h g = none_retried M zs k x y h g
 
-neither : (a b : Bool) → (a || b) ≡ false → (a ≡ false) × (b ≡ false)
-neither true b h = absurd (let z : ◌≡◌ {A = ℕ} 0 1 = cc in omega arith)
-neither false b h = (refl, h)
-
 pub due_retried : (M : ℕ) (xs : List Number) → any_spent M xs ≡ false → Retried (λ x. pick (eqb x.timer 1) 1 0) xs (ticked_all M true xs)
 unfolding ticked_all any_spent
 due_retried M [] n k x y h g = not_none h
 due_retried M (z ∷ zs) n zero x y h g =
-    let s = neither (is_spent M z) (any_spent M zs) n in
+    let s = or_parts (is_spent M z) (any_spent M zs) n in
     let a : z ≡ x = cc in
     let b : fallen (not (is_spent M z)) z ≡ y = cc in
     rw (← b, ← a, s.0) (sides (eqb z.timer 1))
@@ -69,7 +66,7 @@ due_retried M (z ∷ zs) n zero x y h g =
     sides true = refl
     sides false = omega arith
 due_retried M (z ∷ zs) n (suc k) x y h g =
-    let s = neither (is_spent M z) (any_spent M zs) n in
+    let s = or_parts (is_spent M z) (any_spent M zs) n in
     due_retried M zs s.1 k x y h (subst (λ (b : Bool). get_elem? (ticked_all M (not b) zs) k ≡ some y) s.0 g)
 
 -- ---- which is spent

@@ -84,13 +84,14 @@ nothing_due i e r d datas = refl
 same_node : (m : Machine) (es : List End) (v w : Sort → List Item) → ((q : Sort) → v q ≡ w q) → node m es v ≡ node m es w
 same_node m es v w h = ap (λ (f : Sort → List Item). node m es f) (fun_ext h)
 
+-- nothing more of a sort, whether or not it is the one
+pub append_none : {A : Type 0} (xs : List A) (z : Bool) → xs ≡ pick z (xs ++ []) xs
+append_none xs true = sym (append-nil xs)
+append_none xs false = refl
+
 again_is : (i : ℕ) (e : End) (k : ℕ) (xs : List Number) (m : Machine) → again_from i e k xs m ≡ waiting_as (only resends (λ l. l ++ due_from i e k xs)) m
 unfolding again_from due_from
-again_is i e k [] m = same_node m m.ends _ _ (λ q. same q (eqb (rank q) 3))
-  where
-    same : (q : Sort) (z : Bool) → m.waiting q ≡ pick z (m.waiting q ++ []) (m.waiting q)
-    same q true = sym (append-nil (m.waiting q))
-    same q false = refl
+again_is i e k [] m = same_node m m.ends _ _ (λ q. append_none (m.waiting q) (eqb (rank q) 3))
 again_is i e k (x ∷ xs) m = sides (eqb x.timer 1) (again_is i e (suc k) xs (waits resends i (past e k) m)) (again_is i e (suc k) xs m)
   where
     both : (q : Sort) (z : Bool)

@@ -5,7 +5,7 @@ use Prim.Native.Nat.{ℕ, zero, suc, ◌+◌, ◌-◌, ◌≤◌, ◌<◌}
 use mathlib.Core.Path.{◌≡◌, refl, sym, ap, subst, ◌∙◌, fun_ext}
 use mathlib.Core.Logic.{◌≢◌}
 use mathlib.Core.Bool.{Bool, true, false, not, ◌&&◌, ◌||◌, and-true, and-false}
-use mathlib.Core.List.{List, [], ◌∷◌, ◌++◌, append-nil, append_assoc, Memᴰ}
+use mathlib.Core.List.{List, [], ◌∷◌, ◌++◌, append_assoc, Memᴰ}
 use native.Mathlib.Decide.{dec_lt, ℕ_discrete}
 use native.Mathlib.Omega.{arith}
 use lib.ListN.{length, get_or, set}
@@ -34,6 +34,7 @@ use Rattle.good.proofs.Framing.{same_under, cell_low}
 use Rattle.good.proofs.Idling.{idle}
 use Rattle.good.proofs.TickSlots.{Lives, runs_alone, Slots, slots_first}
 use Rattle.machine.specs.Machine.{Number, listed, is_spent, fallen, ticked_all, any_spent}
+use Rattle.machine.proofs.Timers.{append_none}
 use Rattle.refinement.specs.Standing.{Reading, payload_for, number_for}
 use Rattle.machine.proofs.Listed.{listed_ext}
 use Rattle.refinement.proofs.Listing.{beyond, Put, put_both}
@@ -395,16 +396,12 @@ module _ (st b : List ℕ) (l : Lists) (L : Lines b l) (i : ℕ) (low : i < 16) 
         stands = λ j l s. refl;
         tried = λ j l. absurd (omega arith);
         untried = λ j l s. refl;
-        queued = λ y. subst (Lines b) (fun_ext (λ r. same r (eqb r layout.resends))) L;
+        queued = λ y. subst (Lines b) (fun_ext (λ r. append_none (l r) (eqb r layout.resends))) L;
       }
     where
       not_not : (a : Bool) → a ≡ not (not a)
       not_not true = refl
       not_not false = refl
-
-      same : (r : ℕ) (a : Bool) → l r ≡ pick a (l r ++ []) (l r)
-      same r true = sym (append-nil (l r))
-      same r false = refl
   come (suc k) h = step k (omega arith) (come k (omega arith))
 
   -- ---- the numbers then

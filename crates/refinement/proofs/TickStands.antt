@@ -3,7 +3,7 @@ use Prim.Native.Nat.{ℕ, zero, suc, ◌+◌, ◌≤◌, ◌<◌, ◌-◌}
 use mathlib.Core.Path.{◌≡◌, refl, sym, ap, ◌∙◌, fun_ext, subst}
 use mathlib.Core.Logic.{◌≢◌}
 use mathlib.Core.Bool.{Bool, true, false, not, ◌&&◌}
-use mathlib.Core.List.{List, [], ◌∷◌, ◌++◌, append-nil, append_assoc, map, map-append}
+use mathlib.Core.List.{List, [], ◌∷◌, ◌++◌, append_assoc, map, map-append}
 use native.Mathlib.Omega.{arith}
 use lib.ListN.{length}
 use lib.Dec.{eqb}
@@ -46,6 +46,7 @@ use Rattle.machine.specs.Machine as machine
 use Rattle.machine.specs.Machine.{Number, End, Item, Sort, resends, Machine, listed, stated, numbered, rank}
 use Rattle.machine.specs.Machine.{only, waiting_as, turned, waits, silent, ticked_all, any_spent, again_from}
 use Rattle.machine.specs.Machine.{failing, ticked, node, resets}
+use Rattle.machine.proofs.Timers.{append_none}
 use Rattle.refinement.specs.Standing.{Reading, number_for, state_for, end_for, slot_item}
 use Rattle.machine.proofs.Listed.{length_listed}
 use Rattle.refinement.proofs.Listing.{beyond}
@@ -72,11 +73,8 @@ again_snoc i e k (y ∷ ys) x m =
 
 -- none; and one more after ys
 again_none : (m : Machine) → m ≡ try_again [] m
-again_none m = ap (λ (f : Sort → List Item). node m m.ends f) (fun_ext (λ q. same q (eqb (rank q) 3)))
-  where
-    same : (q : Sort) (z : Bool) → m.waiting q ≡ pick z (m.waiting q ++ []) (m.waiting q)
-    same q true = sym (append-nil (m.waiting q))
-    same q false = refl
+again_none m =
+    ap (λ (f : Sort → List Item). node m m.ends f) (fun_ext (λ q. append_none (m.waiting q) (eqb (rank q) 3)))
 
 again_more : (i s : ℕ) (ys : List Item) (m : Machine)
     → waits resends i s (try_again ys m) ≡ try_again (ys ++ (record { entry = i; number = s } ∷ [])) m
