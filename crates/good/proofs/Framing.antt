@@ -251,22 +251,23 @@ slot_lt w s g =
     let p = size_pos w.size g.sized in
     rw (ne_eqb w.size 0 (λ e. omega arith)) (mod-lt s p)
 
+-- a slot is one of 128
+pub slot_small : (w : Window) → GoodWindow w → (s : ℕ) → slot_for w s < 128
+slot_small w g s = omega (arith, slot_lt w s g, size_le w.size g.sized)
+
 -- a cell is one of 2048
 pub cell_low : (i : ℕ) → i < 16 → (w : Window) → GoodWindow w → (s : ℕ) → cell i w s < all_cells
-cell_low i h w g s = omega (arith, slot_lt w s g, size_le w.size g.sized)
+cell_low i h w g s = omega (arith, slot_small w g s)
 
 module _ (j : ℕ) (low : j < 16) (w : Window) (g : GoodWindow w) where
-  slot_small : (s : ℕ) → slot_for w s < 128
-  slot_small s = omega (arith, slot_lt w s g, size_le w.size g.sized)
-
   pub length_owner : (s : ℕ) → cell_owner (length_at (cell j w s)) ≡ j
-  length_owner s = let h = slot_small s in omega arith
+  length_owner s = let h = slot_small w g s in omega arith
 
   pub timer_owner : (s : ℕ) → cell_owner (timer_at (cell j w s)) ≡ j
-  timer_owner s = let h = slot_small s in omega arith
+  timer_owner s = let h = slot_small w g s in omega arith
 
   pub retries_owner : (s : ℕ) → cell_owner (retries_at (cell j w s)) ≡ j
-  retries_owner s = let h = slot_small s in omega arith
+  retries_owner s = let h = slot_small w g s in omega arith
 
 pub running_ext : (b b' : List ℕ) (i : ℕ) (w : Window) (n : ℕ)
     → ((k : ℕ) → k < n → timer_in b' (cell i w (past w k)) ≡ timer_in b (cell i w (past w k))) → running b' i w n ≡ running b i w n

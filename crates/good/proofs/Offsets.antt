@@ -14,12 +14,12 @@ use Rattle.memory.specs.Layout.{ids_end, reset_id, urgent_id}
 use Rattle.window.specs.Windows.{accept_of, pass_of, run_of, Good as GoodWindow}
 use Rattle.window.specs.declared.Window.{Window}
 use Rattle.window.proofs.Accepting.{accept_start, accept_size}
-use Rattle.window.proofs.Sizes.{size_pos, size_le, size_power}
+use Rattle.window.proofs.Sizes.{size_pos, size_power}
 use Rattle.window.proofs.WindowLaw.{slot_byte, slots_apart}
 use Rattle.slots.specs.Slots.{slot_for, cell, past, number_in}
 use Rattle.memory.specs.Layout.{owner_of, Ranged}
 use Rattle.good.specs.Good.{id_at, ids}
-use Rattle.good.proofs.Framing.{slot_lt}
+use Rattle.good.proofs.Framing.{slot_small}
 
 -- ---- whose it is
 
@@ -40,19 +40,16 @@ unfolding Ranged
 urgent_ranged i h = (omega arith, omega arith)
 
 module _ (i : ℕ) (low : i < 16) (w : Window) (g : GoodWindow w) where
-  slot_small : (s : ℕ) → slot_for w s < 128
-  slot_small s = omega (arith, slot_lt w s g, size_le w.size g.sized)
-
   pub id_low : (k : ℕ) → 64 ≤ id_at i w k
   id_low k = omega arith
 
   pub id_high : (k : ℕ) → id_at i w k < ids_end
-  id_high k = let h = slot_small (past w k) in omega arith
+  id_high k = let h = slot_small w g (past w k) in omega arith
 
   pub id_owner : (k : ℕ) → owner_of (id_at i w k) ≡ i
   unfolding owner_of
   id_owner k =
-      let h = slot_small (past w k) in
+      let h = slot_small w g (past w k) in
       rw (le-ltb (id_at i w k) 32 (omega arith), le-ltb (id_at i w k) 64 (omega arith)) (omega arith)
 
   pub resend_ranged : (k : ℕ) → Ranged 2 (id_at i w k)
