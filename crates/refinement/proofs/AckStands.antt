@@ -33,8 +33,7 @@ use Rattle.end_points.specs.declared.Run.{Run}
 use Rattle.end_points.specs.declared.EndPoint.{EndPoint}
 use Rattle.end_points.specs.declared.answers.Was.TheVariants.{Ignored, Acknowledged, Opened}
 use Rattle.slots.specs.Slots.{cell, past, timer_in, retries_in}
-use Rattle.timing.specs.Timing.{clock_in, roused}
-use Rattle.timing.proofs.Falling.{left_zero}
+use Rattle.timing.specs.Timing.{roused}
 use Rattle.arrive_ack.specs.Acking as memory
 use Rattle.arrive_ack.specs.Acking.{ack_answer, counted_node, ack_node, ack_book, ack_after, stopped}
 use Rattle.memory.specs.Layout.{owner_of}
@@ -60,6 +59,7 @@ use Rattle.machine.specs.Machine.{Number, End, Item, Sort, acks, resets, urgents
 use Rattle.machine.specs.Machine.{listed, stated, passing, timed, acked_run, running, turned, silent, not_again, without}
 use Rattle.machine.specs.Machine.{anew, answers, acking}
 use Rattle.refinement.specs.Standing.{Reading, read_at, state_for, number_for, end_for, end_at, ack_item, plain_item, slot_item, waiting_for, stands_for, Stands}
+use Rattle.refinement.proofs.Readings.{zero_left}
 use Rattle.refinement.proofs.Listing.{map_ext}
 use Rattle.refinement.proofs.Elsewhere.{no_places, Leaves, leaves, end_at_holds, still, turned_stands}
 use Rattle.refinement.proofs.Waiting.{silent_steady, windows_other, lists_are, waits_still, without_map, sender_acks, silent_stands}
@@ -106,9 +106,6 @@ module _ (t : List ℕ) (n : Memory) (l : Lists) (g : Good t n.node n.book l) (r
 
   abbrev L : Reading
   L = read_at n
-
-  zero_left : (d : ℕ) → eqb (L d) 0 ≡ eqb d 0
-  zero_left = left_zero (clock_in n.node)
 
   abbrev e : EndPoint
   e = end_of n.node i
@@ -186,10 +183,10 @@ module _ (t : List ℕ) (n : Memory) (l : Lists) (g : Good t n.node n.book l) (r
     module _ {b : List ℕ} (S : Sending n.book i e.run e.entry.largest) (T : Timed n.book b i w at 0)
         (R : (k : ℕ) → k < all_cells → retries_in b k ≡ retries_in n.book k) where
       acked_run_is : acked_run noted ≡ p
-      acked_run_is = run_is L zero_left n.store n.book i e s S window b low C T R
+      acked_run_is = run_is L (zero_left n) n.store n.book i e s S window b low C T R
 
       numbers_left : (z : State) → drop p noted ≡ listed (e.run.taken - p) (number_for L n.store b i (turned_to e z acked))
-      numbers_left = numbers_then L zero_left n.store n.book i e s S window b low C T R
+      numbers_left = numbers_then L (zero_left n) n.store n.book i e s S window b low C T R
 
       confirmed_is : (e.run.confirmed.0 + p) % 4294967296 ≡ e.run.confirmed.0 + p
       confirmed_is =
@@ -487,7 +484,7 @@ module _ (t : List ℕ) (n : Memory) (l : Lists) (g : Good t n.node n.book l) (r
       → (memory.counts e.run s ≡ false → now z ≡ x)
       → (memory.counts e.run s ≡ true → (acked_run noted ≡ p) × Stands t (kept (now z)) (f passed))
       → Takes t (machine.acked M block i E s f) (Ok (record { entry = i; was = pick (memory.counts e.run s) (Acknowledged p) Ignored })) (now z)
-  counts_as z f S stays counts = rw (← counts_is L zero_left n.store n.book i e s S) (sides (memory.counts e.run s) refl)
+  counts_as z f S stays counts = rw (← counts_is L (zero_left n) n.store n.book i e s S) (sides (memory.counts e.run s) refl)
     where
       sides : (y : Bool) → memory.counts e.run s ≡ y
           → Takes t (pick y (answers (0 ∷ 1 ∷ i ∷ acked_run noted ∷ []) block (f passed)) (answers (0 ∷ 0 ∷ i ∷ []) block M))

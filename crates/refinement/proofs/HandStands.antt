@@ -37,8 +37,7 @@ use Rattle.end_points.specs.declared.State.{State}
 use Rattle.end_points.specs.declared.State.TheVariants.{Enabled, Open}
 use Rattle.end_points.specs.declared.EndPoint.{EndPoint}
 use Rattle.slots.specs.Slots.{cell, past, number_in, retries_in}
-use Rattle.timing.specs.Timing.{clock_in, left_of, standing}
-use Rattle.timing.proofs.Falling.{left_zero}
+use Rattle.timing.specs.Timing.{left_of, standing}
 use Rattle.call_hand_out.specs.Handing.{next_out, fields_to, ack_frame, reset_frame, slot_payload}
 use Rattle.memory.specs.Layout.{id_entry, id_slot}
 use Rattle.call_hand_out.specs.Handing.{urgent_frame, data_frame, frame_out, fitted, hand_out_answer, handed_run, sent, data_sent, out_node, out_book}
@@ -66,6 +65,7 @@ use Rattle.machine.specs.Machine.{port, urging, number_at, turned, rank, only, w
 use Rattle.machine.specs.Machine.{in_order, handing_out, step}
 use Rattle.refinement.specs.Standing.{Reading, read_at, end_for, end_at, ack_item, slot_item, waiting_for, under_for, stands_for, Follows}
 use Rattle.machine.proofs.Listed.{elem_listed}
+use Rattle.refinement.proofs.Readings.{zero_left}
 use Rattle.refinement.proofs.Elsewhere.{cells_but, cells_as, still, ported_stands}
 use Rattle.refinement.proofs.Waiting.{item_of, waiting_is, queue_of, window_steady, waits_only, waits_less, lists_are}
 use Rattle.refinement.proofs.Following.{low_at, stated_at, unheld}
@@ -125,9 +125,6 @@ module _ (t : List ℕ) (n : Memory) (l : Lists) (g : Good t n.node n.book l) (r
 
   abbrev L : Reading
   L = read_at n
-
-  zero_left : (d : ℕ) → eqb (L d) 0 ≡ eqb d 0
-  zero_left = left_zero (clock_in n.node)
 
   -- lent a buffer that the frame fits
   abbrev X : Next → Lent
@@ -423,16 +420,16 @@ module _ (t : List ℕ) (n : Memory) (l : Lists) (g : Good t n.node n.book l) (r
     unfolding end_for
     slot_end h out missing others =
         ap (λ (b : List ℕ). end_for L n.store b i (handed_to e h)) book_is
-        ∙ timed_end L zero_left n.store n.book i e window j S.taken O.sending.taken slot_book low S.sends h 0
+        ∙ timed_end L (zero_left n) n.store n.book i e window j S.taken O.sending.taken slot_book low S.sends h 0
         (λ c m. slot_cells (length_at c) (omega arith) ∙ timer.lengths c m) retries
         (λ m c d. slot_cells (timer_at (cell i w (past w m))) (omega arith) ∙ timer.there m c d) others_not
-        (timer_under L zero_left n.store slot_book i (handed_to e h) j (sym under_way)) out missing others
+        (timer_under L (zero_left n) n.store slot_book i (handed_to e h) j (sym under_way)) out missing others
         ∙ rw S.opened
 
     slot_payload_holds : slot_payload n.book n.store e k ≡ (number_at (end_at n i) (past w j)).payload
     slot_payload_holds =
         rw (S.slot, S.here)
-        (sym (ap (λ (x : Number). x.payload) (number_is L zero_left n.store n.book i e window j S.taken O.sending.taken)))
+        (sym (ap (λ (x : Number). x.payload) (number_is L (zero_left n) n.store n.book i e window j S.taken O.sending.taken)))
 
     slot_frame : data_frame n.node n.book n.store k ≡ frame_of M datas (end_at n i) (past w j)
     unfolding data_frame frame_of end_for

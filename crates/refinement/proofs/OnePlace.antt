@@ -28,8 +28,6 @@ use Rattle.end_points.specs.declared.State.{State}
 use Rattle.end_points.specs.declared.State.TheVariants.{Closed, Enabled, Open, Failing}
 use Rattle.end_points.specs.declared.EndPoint.{EndPoint}
 use Rattle.slots.specs.Slots.{cell, past, timer_in}
-use Rattle.timing.specs.Timing.{clock_in}
-use Rattle.timing.proofs.Falling.{left_zero}
 use Rattle.good.specs.Good.{Lists, OpenSender, Good, id_at}
 use Rattle.good.specs.Calls.{Memory}
 use Rattle.good.proofs.Members.{mine_all, mine_in}
@@ -37,6 +35,7 @@ use Rattle.machine.specs.Machine.{Number, End, Item, Machine, Out, listed, numbe
 use Rattle.machine.specs.Sound.{the_first, the_second, the_third, InOnePlace, EachInOnePlace}
 use Rattle.refinement.specs.Standing.{Reading, read_at, number_for, end_for, end_at, slot_item, waiting_for, type_for, stands_for, StandsInOnePlace}
 use Rattle.machine.proofs.Listed.{length_listed, get_d_listed}
+use Rattle.refinement.proofs.Readings.{zero_left}
 use Rattle.refinement.proofs.Elsewhere.{none_taken}
 use Rattle.refinement.proofs.Following.{state_in, low_at, stated_at, item_at}
 use Rattle.refinement.proofs.Numbers.{timer_under, timer_else}
@@ -57,9 +56,6 @@ module _ (t : List ℕ) (n : Memory) (l : Lists) (g : Good t n.node n.book l) (i
 
   abbrev L : Reading
   L = read_at n
-
-  zero_left : (d : ℕ) → eqb (L d) 0 ≡ eqb d 0
-  zero_left = left_zero (clock_in n.node)
 
   abbrev e : EndPoint
   e = end_of n.node i
@@ -184,13 +180,13 @@ module _ (t : List ℕ) (n : Memory) (l : Lists) (g : Good t n.node n.book l) (i
         where
           sides : Dec (past w k ≡ data_out n.book i) → Dec (timer_in n.book at ≡ 0) → InOnePlace M i E s
           sides (yes o) z =
-              the_third (λ r. r (timer_is ∙ timer_under L zero_left n.store n.book i e k o)) (waits_not (O.standing k handed missing o)) (under o)
+              the_third (λ r. r (timer_is ∙ timer_under L (zero_left n) n.store n.book i e k o)) (waits_not (O.standing k handed missing o)) (under o)
           sides (no o) (yes z) =
-              the_second (λ r. r (timer_is ∙ timer_else L zero_left n.store n.book i e k handed o
-              ∙ eqb-true (L (timer_in n.book at)) 0 (zero_left (timer_in n.book at) ∙ eq-eqb (timer_in n.book at) 0 z))) (waits z) (under_not o)
+              the_second (λ r. r (timer_is ∙ timer_else L (zero_left n) n.store n.book i e k handed o
+              ∙ eqb-true (L (timer_in n.book at)) 0 (zero_left n (timer_in n.book at) ∙ eq-eqb (timer_in n.book at) 0 z))) (waits z) (under_not o)
           sides (no o) (no z) =
-              the_first (λ r. eqb-false (L (timer_in n.book at)) 0 (zero_left (timer_in n.book at) ∙ ne_eqb (timer_in n.book at) 0 z)
-              (sym (timer_else L zero_left n.store n.book i e k handed o) ∙ sym timer_is ∙ r)) (waits_not z) (under_not o)
+              the_first (λ r. eqb-false (L (timer_in n.book at)) 0 (zero_left n (timer_in n.book at) ∙ ne_eqb (timer_in n.book at) 0 z)
+              (sym (timer_else L (zero_left n) n.store n.book i e k handed o) ∙ sym timer_is ∙ r)) (waits_not z) (under_not o)
 
 pub stands_in_one_place : StandsInOnePlace
 unfolding StandsInOnePlace EachInOnePlace

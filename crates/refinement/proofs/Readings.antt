@@ -6,20 +6,27 @@ use mathlib.Core.Logic.{◌≢◌}
 use mathlib.Core.List.{List, []}
 use native.Mathlib.Omega.{arith}
 use lib.ListN.{length, set}
+use lib.Dec.{eqb}
 use Rattle.table.specs.Layout.{count_of, own_of, protocol_of}
 use Rattle.table.specs.Areas.{store_of}
 use Rattle.waiting.specs.Order.{acks_in, not_of}
 use Rattle.waiting.specs.Port.{under_in}
 use Rattle.end_points.specs.Ends.{end_of}
 use Rattle.end_points.specs.Heads.{count_in}
+use Rattle.timing.specs.Timing.{clock_in}
+use Rattle.timing.proofs.Falling.{left_zero}
 use Rattle.good.specs.Good.{Lists, Good, mine}
 use Rattle.good.specs.Calls.{Memory}
 use Rattle.good.proofs.Payloads.{stored_long}
 use Rattle.machine.specs.Machine.{End, Item, Sort, Machine, node, listed, turned, silent}
 use Rattle.machine.proofs.Listed.{listed_ext, set_listed}
-use Rattle.refinement.specs.Standing.{Reading, end_for, waiting_for, under_for}
+use Rattle.refinement.specs.Standing.{Reading, read_at, end_for, waiting_for, under_for}
 use Rattle.refinement.proofs.Elsewhere.{Leaves, elsewhere}
 use Rattle.refinement.proofs.Waiting.{silent_waits}
+
+-- what is read of a timer is 0 just where the book has 0
+pub zero_left : (n : Memory) (d : ℕ) → eqb (read_at n d) 0 ≡ eqb d 0
+zero_left n = left_zero (clock_in n.node)
 
 abbrev pub Readings : Type 0
 Readings = ℕ → Reading

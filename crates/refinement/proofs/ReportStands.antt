@@ -31,7 +31,7 @@ use Rattle.end_points.specs.declared.EndPoint.{EndPoint}
 use Rattle.end_points.specs.declared.Run.{Run}
 use Rattle.slots.specs.Slots.{cell, past, timer_in, retries_in}
 use Rattle.timing.specs.Timing.{clock_in, left_of, later, heeded, roused}
-use Rattle.timing.proofs.Falling.{left_zero, left_starts}
+use Rattle.timing.proofs.Falling.{left_starts}
 use Rattle.call_report.specs.Reporting.{report_answer, report_after, data_starts, started_node, started_book}
 use Rattle.good.specs.Good.{Lists, Sending, Standing, EnabledSender, FailingSender, Stated, Good}
 use Rattle.good.specs.Calls.{Memory, bare, kept_bare, answer, after}
@@ -50,6 +50,7 @@ use Rattle.machine.specs.Machine.{End, Machine, listed, stated, numbered, number
 use Rattle.machine.specs.Machine.{reported, reporting, step}
 use Rattle.refinement.specs.Standing.{Reading, read_at, number_for, state_for, end_for, end_at, type_for, stands_for, Stands, Follows}
 use Rattle.machine.proofs.Listed.{elem_listed, get_d_listed}
+use Rattle.refinement.proofs.Readings.{zero_left}
 use Rattle.refinement.proofs.Elsewhere.{timer_for, cells_read, still, ported_stands}
 use Rattle.refinement.proofs.Waiting.{window_steady, waits_same}
 use Rattle.refinement.proofs.Following.{state_in, low_at}
@@ -95,9 +96,6 @@ module _ (t : List ℕ) (n : Memory) (l : Lists) (g : Good t n.node n.book l) (r
 
   abbrev L : Reading
   L = read_at n
-
-  zero_left : (d : ℕ) → eqb (L d) 0 ≡ eqb d 0
-  zero_left = left_zero (clock_in n.node)
 
   abbrev u : ℕ
   u = under_in n.book
@@ -188,16 +186,16 @@ module _ (t : List ℕ) (n : Memory) (l : Lists) (g : Good t n.node n.book l) (r
     where
       then : k < e.run.handed → timer_for L (ended n.book) i e.run k ≡ L (timer_in n.book (cell i w (past w k)))
       then h =
-          timer_else L zero_left n.store (ended n.book) i e k h (λ z. let y : past w k ≡ no_number = z ∙ idle.data! in omega (arith, y))
+          timer_else L (zero_left n) n.store (ended n.book) i e k h (λ z. let y : past w k ≡ no_number = z ∙ idle.data! in omega (arith, y))
           ∙ ap L (port_cells n.book 0 (timer_at (cell i w (past w k))) (omega arith))
 
       sides : Dec (k < e.run.handed) → Dec (past w k ≡ data_out n.book i)
           → timer_for L (ended n.book) i e.run k ≡ timer_for L n.book i e.run k
-      sides (yes h) (yes o) = then h ∙ ap L (zeros k h o) ∙ sym (timer_under L zero_left n.store n.book i e k o)
-      sides (yes h) (no o) = then h ∙ sym (timer_else L zero_left n.store n.book i e k h o)
+      sides (yes h) (yes o) = then h ∙ ap L (zeros k h o) ∙ sym (timer_under L (zero_left n) n.store n.book i e k o)
+      sides (yes h) (no o) = then h ∙ sym (timer_else L (zero_left n) n.store n.book i e k h o)
       sides (no h) o =
-          timer_unhanded L zero_left n.store (ended n.book) i e k (omega arith)
-          ∙ sym (timer_unhanded L zero_left n.store n.book i e k (omega arith))
+          timer_unhanded L (zero_left n) n.store (ended n.book) i e k (omega arith)
+          ∙ sym (timer_unhanded L (zero_left n) n.store n.book i e k (omega arith))
 
   -- in a state that the node may have put
   reads_as : Stopped → (z : State) → end_for L n.store (ended n.book) i (turned_to e z e.run)
@@ -256,7 +254,7 @@ module _ (t : List ℕ) (n : Memory) (l : Lists) (g : Good t n.node n.book l) (r
     -- its timer starts where the number counts: handed out, and not acknowledged
     starts_counted : is_data u i ≡ true → counts ≡ true → data_starts n.book i e.run u ≡ true
     starts_counted d c =
-        let C = counts_says e.run s (counts_is L zero_left n.store n.book i e s S ∙ c) in
+        let C = counts_says e.run s (counts_is L (zero_left n) n.store n.book i e s S ∙ c) in
         let o : past w k ≡ data_out n.book i = number_here ∙ sym (keeps.under_number t (bare n) l g some_under d) in
         let z = ap (λ (v : ℕ). eqb (timer_in n.book (cell i w v)) 0) (sym number_here)
         ∙ ne_eqb (timer_in n.book (cell i w (past w k))) 0 (stands k C.handed C.missing o) in
@@ -295,7 +293,7 @@ module _ (t : List ℕ) (n : Memory) (l : Lists) (g : Good t n.node n.book l) (r
       T = keeps.start_timed t (bare n) l g some_under kind! d S
 
       C : Counts e.run s
-      C = counts_says e.run s (counts_is L zero_left n.store n.book i e s S ∙ counted_starts d)
+      C = counts_says e.run s (counts_is L (zero_left n) n.store n.book i e s S ∙ counted_starts d)
 
       none_then : data_out (ended book₁) i ≡ no_number
       none_then = (none_idle (ended book₁) i (ended_under book₁ l (keeps.start_within t (bare n) l g some_under kind! d S).lines)).data!
@@ -307,7 +305,7 @@ module _ (t : List ℕ) (n : Memory) (l : Lists) (g : Good t n.node n.book l) (r
 
       reads_full : timer_for L (ended book₁) i e.run k ≡ e.entry.timeout
       reads_full =
-          timer_else L zero_left n.store (ended book₁) i e k d.handed (λ z. let y : past w k ≡ no_number = z ∙ none_then in omega (arith, y))
+          timer_else L (zero_left n) n.store (ended book₁) i e k d.handed (λ z. let y : past w k ≡ no_number = z ∙ none_then in omega (arith, y))
           ∙ ap L (port_cells book₁ 0 (timer_at (cell i w (past w k))) (omega arith) ∙ T.here)
           ∙ left_starts (clock_in n.node) e.entry.timeout (omega arith) (sender_timeout t n.node n.book l g i known kind!)
           (omega (arith, timeout_fits n.node i))
@@ -317,7 +315,7 @@ module _ (t : List ℕ) (n : Memory) (l : Lists) (g : Good t n.node n.book l) (r
 
       started_end : end_for L n.store (ended book₁) i e ≡ stated (state_for L (is_reset (under_in (ended book₁)) i) ns₁ e.state) (numbered E.start ns₁ E)
       started_end =
-          timed_end L zero_left n.store n.book i e window k (omega (arith, d.handed, S.handed)) S.taken (ended book₁) low kind! e.run.handed
+          timed_end L (zero_left n) n.store n.book i e window k (omega (arith, d.handed, S.handed)) S.taken (ended book₁) low kind! e.run.handed
           e.entry.timeout (λ c m. port_cells book₁ 0 (length_at c) (omega arith) ∙ T.lengths c m) retries
           (λ m c f. port_cells book₁ 0 (timer_at (cell i w (past w m))) (omega arith) ∙ T.there m c f) others_not reads_full d.handed
           C.missing (λ m f. refl)
