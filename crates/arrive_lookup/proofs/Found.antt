@@ -6,8 +6,8 @@ use mathlib.Core.Path.{◌≡◌, refl, sym, ap₂, ◌∙◌}
 use native.Mathlib.Omega.{arith}
 use lib.Dec.{eqb, ltb}
 use borrow.Author.Tests.{eqb-true}
+use Rattle.std.proofs.lemmas.Bool.{and_parts}
 use Rattle.table.specs.declared.Entry.{Entry}
-use Rattle.table.proofs.Every.{both}
 use Rattle.end_points.specs.Ends.{load_entry}
 use Rattle.end_points.specs.Heads.{count_in}
 use Rattle.end_points.specs.States.{is_sends}
@@ -30,8 +30,8 @@ same_true false false h = refl
 pub fitting : (e : Entry) (sends : Bool) (source channel : ℕ) → fits e sends source channel ≡ true → Fitting e sends source channel
 unfolding fits
 fitting e sends source channel h =
-    let p = both (eqb e.channel.0 channel) (eqb e.remote.0 source && same sends (is_sends e.kind)) h in
-    let q = both (eqb e.remote.0 source) (same sends (is_sends e.kind)) p.1 in
+    let p = and_parts (eqb e.channel.0 channel) (eqb e.remote.0 source && same sends (is_sends e.kind)) h in
+    let q = and_parts (eqb e.remote.0 source) (same sends (is_sends e.kind)) p.1 in
     record { channel = eqb-true e.channel.0 channel p.0; source = eqb-true e.remote.0 source q.0; kind = same_true sends (is_sends e.kind) q.1 }
 
 -- ---- what the index lists
@@ -63,4 +63,4 @@ module _ (ws : List ℕ) (x : Indexed ws) (sends : Bool) (source channel : ℕ) 
   found_fits h =
       let f : fits_at (first_from (listed ws sends source channel) 0 16) ≡ true =
       sym (lists (first_from (listed ws sends source channel) 0 16) (omega (arith, x.few))) ∙ first_holds (listed ws sends source channel) 0 16 (omega (arith, x.few)) in
-      fitting _ sends source channel (both (ltb _ (count_in ws)) (fits _ sends source channel) f).1
+      fitting _ sends source channel (and_parts (ltb _ (count_in ws)) (fits _ sends source channel) f).1

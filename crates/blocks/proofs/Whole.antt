@@ -9,8 +9,8 @@ use borrow.Author.Tests.{le-leb, leb-true, eq-eqb, eqb-true}
 use lib.ListN.{length, get_or, take, drop, length-append, length-take, length-drop, take-append-drop}
 use lib.Seq.{sets, sets-eq, take_at, append_snoc, drop-length, drop-cons, drop-drop}
 use lib.Dec.{leb}
+use Rattle.std.proofs.lemmas.Bool.{and_parts}
 use Rattle.units.specs.Bytes.{get16_of, get32_of, be16, be32}
-use Rattle.table.proofs.Every.{both}
 use Rattle.blocks.specs.Blocks.{offsets, joined_up, block_of}
 use Rattle.blocks.specs.Reading.{count_in, offset_in, payload_in, payloads_in, read_block, never_fall, is_block, is_plan, WrittenIsBlock, HandsOn, BlockIsWritten}
 use Rattle.blocks.proofs.Appending.{length_block}
@@ -77,8 +77,8 @@ record Passed (s : List ℕ) : Type 0 where
 passed : (s : List ℕ) → is_block s ≡ true → Passed s
 unfolding is_block
 passed s h =
-    let p = both _ _ h in
-    let q = both _ _ p.1 in
+    let p = and_parts _ _ h in
+    let q = and_parts _ _ p.1 in
     record { first = eqb-true _ _ p.0; rising = q.0; last = eqb-true _ _ q.1 }
 
 module _ (s : List ℕ) (bytes : (k : ℕ) → get_or s k 0 < 256) (p : Passed s) where
@@ -86,11 +86,11 @@ module _ (s : List ℕ) (bytes : (k : ℕ) → get_or s k 0 < 256) (p : Passed s
   never_fall_holds : (n j : ℕ) → j + n ≡ count_in s → never_fall s j n ≡ true
   unfolding never_fall
   never_fall_holds n zero e = let f : n ≡ count_in s = omega arith in rw f p.rising
-  never_fall_holds n (suc j) e = rw (← add-one j) (both (leb (offset_in s j) (offset_in s (j + 1))) _ (never_fall_holds (suc n) j (omega arith))).1
+  never_fall_holds n (suc j) e = rw (← add-one j) (and_parts (leb (offset_in s j) (offset_in s (j + 1))) _ (never_fall_holds (suc n) j (omega arith))).1
 
   rises : (n j : ℕ) → j + suc n ≡ count_in s → offset_in s j ≤ offset_in s (j + 1)
   unfolding never_fall
-  rises n j e = leb-true _ _ (both _ _ (never_fall_holds (suc n) j e)).0
+  rises n j e = leb-true _ _ (and_parts _ _ (never_fall_holds (suc n) j e)).0
 
   -- so every payload begins inside the block, the first one too, and there is room for the offsets
   inside : (n j : ℕ) → j + n ≡ count_in s → offset_in s j ≤ length s

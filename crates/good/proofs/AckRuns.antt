@@ -10,6 +10,7 @@ use native.Mathlib.Omega.{arith}
 use lib.ListN.{set}
 use lib.Dec.{eqb, ltb}
 use borrow.Author.Tests.{eqb-true, eqb-false, ltb-true}
+use Rattle.std.proofs.lemmas.Bool.{and_parts}
 use Rattle.units.specs.Refusals.{pick}
 use Rattle.memory.specs.Layout.{resends, cell_id, timer_at}
 use Rattle.waiting.specs.Queues.{unlinked}
@@ -20,7 +21,6 @@ use Rattle.window.specs.declared.Passed.{Passed}
 use Rattle.window.proofs.Accepting.{found_new, accept_size, accept_good, accept_held}
 use Rattle.window.proofs.Holding.{held_below_holds}
 use Rattle.window.proofs.Passing.{run_held, pass_run, pass_size, pass_good, pass_held, pass_first}
-use Rattle.table.proofs.Every.{both}
 use Rattle.end_points.proofs.Kept.{RunFits}
 use Rattle.end_points.specs.Runs.{is_new}
 use Rattle.end_points.specs.declared.Run.{Run}
@@ -56,7 +56,7 @@ pub record Counts (r : Run) (s : ℕ) : Type 0 where
 pub counts_says : (r : Run) (s : ℕ) → counts r s ≡ true → Counts r s
 unfolding counts
 counts_says r s h =
-    let p = both (ltb (offset_of r.window s) r.handed) (is_new (accept_of r.window s).found) h in
+    let p = and_parts (ltb (offset_of r.window s) r.handed) (is_new (accept_of r.window s).found) h in
     let n = found_new r.window s (is_new_holds (accept_of r.window s).found p.1) in
     record { inside = n.0; handed = ltb-true (offset_of r.window s) r.handed p.0; missing = n.1 }
 

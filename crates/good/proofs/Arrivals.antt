@@ -9,6 +9,7 @@ use native.Mathlib.Omega.{arith}
 use lib.ListN.{length, get_or, take, drop, length-take, length-drop}
 use lib.Dec.{leb}
 use borrow.Author.Tests.{leb-true, leb-false, ltb-false, not-false}
+use Rattle.std.proofs.lemmas.Bool.{and_parts}
 use Rattle.units.specs.Refusals.{verdict, Verdict}
 use Rattle.units.specs.Bytes.{get16_of}
 use Rattle.units.specs.declared.refusals.Refusal.{Refusal}
@@ -20,7 +21,7 @@ use Rattle.frame.specs.Types.{type_of, suits, seq_given, for_sender, carries, an
 use Rattle.frame.specs.declared.Header.{Header}
 use Rattle.frame.specs.declared.FrameType.{FrameType}
 use Rattle.frame.specs.declared.FrameType.TheVariants as type
-use Rattle.frame.proofs.ReadLaws.{taken as framed}
+use Rattle.frame.proofs.ReadLaws.{taken as framed, whole_read}
 use Rattle.end_points.specs.Ends.{load_entry, end_of}
 use Rattle.end_points.specs.Heads.{count_in, need_in}
 use Rattle.end_points.specs.States.{is_sends, is_closed, is_open}
@@ -29,7 +30,6 @@ use Rattle.end_points.specs.declared.State.TheVariants.{Open}
 use Rattle.arrive_lookup.specs.Lookup.{Indexed, entry_for}
 use Rattle.arrive_lookup.proofs.Found.{Fitting, found_fits}
 use Rattle.call_arrive.specs.Arriving.{block_room, entry_tests, entry_of, entry_verdict, taken_in_answer, taken_in_after, answer_as, after_as, entry_answer, entry_after, read_answer, read_after, frame_tests, arrival_answer, arrival_after}
-use Rattle.table.proofs.Every.{both}
 use Rattle.std.specs.Prelude.{Result, Ok, Err}
 use Rattle.end_points.proofs.Telling.{is_open_holds}
 
@@ -79,10 +79,10 @@ payload_size f h e =
     (n ∙ l, λ d. rw n (carried (type_of (type_at f)) (get16_of f 4) (rw q d) t.0.fits))
   where
     carried : (t : FrameType) (n : ℕ) → carries t ≡ true → suits t n ≡ true → 1 ≤ n
-    carried type.Data n d s = leb-true 1 n (both (leb 1 n) (leb n 65520) s).0
+    carried type.Data n d s = leb-true 1 n (and_parts (leb 1 n) (leb n 65520) s).0
     carried type.Acknowledge n d s = absurd (true≢false (sym d))
     carried type.Reset n d s = absurd (true≢false (sym d))
-    carried type.Urgent n d s = leb-true 1 n (both (leb 1 n) (leb n 65520) s).0
+    carried type.Urgent n d s = leb-true 1 n (and_parts (leb 1 n) (leb n 65520) s).0
 
 seq_byte : (t : FrameType) (s : ℕ) → s < 256 → seq_given t s < 256
 seq_byte type.Data s h = h
@@ -135,16 +135,12 @@ module _ (x : Lent) (index : Indexed x.node) (f : List ℕ) (h : Header) (r : re
 -- ---- the call
 
 module _ (x : Lent) (index : Indexed x.node) (f : List ℕ) where
-  whole_read : (h : Header) → sound_of f ≡ true → header_of f ≡ Ok h → read_of f ≡ Ok h
-  unfolding header_of read_of
-  whole_read h s e = rw s e
-
   read_on : (v : Result Header Refusal) → header_of f ≡ v → verdict (frame_tests x.node f) ≡ Ok tt → Refused x f ⊎ Taken x f
   unfolding arrival_answer arrival_after read_answer read_after
   read_on (Err w) e p = inl (record { why = w; answer = rw (p, e); after = rw (p, e) })
   read_on (Ok h) e p =
       let c = clear (frame_tests x.node f) p in
-      at_entry x index f h (whole_read h (not-false (sound_of f) c.0) e) (rw (p, e)) (rw (p, e)) (entry_verdict x (entry_of x h) h) refl
+      at_entry x index f h (whole_read f h (not-false (sound_of f) c.0) e) (rw (p, e)) (rw (p, e)) (entry_verdict x (entry_of x h) h) refl
 
   judged : (v : Verdict) → verdict (frame_tests x.node f) ≡ v → Refused x f ⊎ Taken x f
   unfolding arrival_answer arrival_after

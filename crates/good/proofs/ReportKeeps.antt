@@ -10,6 +10,7 @@ use native.Mathlib.Omega.{arith}
 use lib.ListN.{length, set}
 use lib.Dec.{eqb, ltb}
 use borrow.Author.Tests.{not-true, eq-eqb, ne_eqb, eqb-true, eqb-false, ltb-true, lt-ltb}
+use Rattle.std.proofs.lemmas.Bool.{and_parts}
 use Rattle.units.specs.Refusals.{pick}
 use Rattle.memory.specs.Layout.{quiet_at, node_words, timer_at}
 use Rattle.waiting.specs.Acks.{waiting_of}
@@ -20,7 +21,6 @@ use Rattle.timing.proofs.Falling.{later_runs}
 use Rattle.window.specs.Windows.{offset_of, held, Good as GoodWindow}
 use Rattle.window.specs.declared.Window.{Window}
 use Rattle.window.proofs.WindowLaw.{distance_back}
-use Rattle.table.proofs.Every.{both}
 use Rattle.end_points.specs.Ends.{end_of, saved}
 use Rattle.end_points.specs.Heads.{count_in}
 use Rattle.end_points.specs.States.{is_sends}
@@ -52,8 +52,8 @@ pub record DataStarts (b : List ℕ) (i : ℕ) (e : EndPoint) (u : ℕ) : Type 0
 pub data_starts_holds : (b : List ℕ) (i : ℕ) (e : EndPoint) (u : ℕ) → data_starts b i e.run u ≡ true → DataStarts b i e u
 data_starts_holds b i e u h =
     let w = e.run.window in
-    let p = both (is_data u i) _ h in
-    let q = both (ltb (offset_of w (out_number u)) e.run.handed) _ p.1 in
+    let p = and_parts (is_data u i) _ h in
+    let q = and_parts (ltb (offset_of w (out_number u)) e.run.handed) _ p.1 in
     record {
       data! = p.0;
       handed = ltb-true (offset_of w (out_number u)) e.run.handed q.0;

@@ -9,6 +9,7 @@ use native.Mathlib.Omega.{arith}
 use lib.ListN.{length, take, drop, get_elem?, length-take, length-drop}
 use lib.Dec.{eqb, leb, ltb}
 use borrow.Author.Tests.{le-leb, lt-leb, le-ltb, eq-eqb, eqb-true}
+use Rattle.std.proofs.lemmas.Bool.{and_parts}
 use Rattle.units.specs.Bytes.{get16_of}
 use Rattle.frame.specs.Layout.{payload_of, head_bytes, body_bytes, frame_bytes}
 use Rattle.frame.specs.Reading.{sound_of, header_of, read_of}
@@ -20,7 +21,6 @@ use Rattle.frame.proofs.ReadLaws.{taken as framed, header_for, payload_frame, re
 use Rattle.frame.proofs.TypeLaws.{type_of_number}
 use Rattle.table.specs.declared.Entry.{Entry}
 use Rattle.table.specs.Layout.{count_of}
-use Rattle.table.proofs.Every.{both}
 use Rattle.table.proofs.Good.{one_entry}
 use Rattle.end_points.specs.States.{is_sends, is_closed, is_open}
 use Rattle.end_points.specs.declared.State.{State}
@@ -72,8 +72,8 @@ fits_is x sends source channel f =
 is_fits : (x : Entry) (sends : Bool) (source channel : ℕ) → fits x sends source channel ≡ true → Fitting x sends source channel
 unfolding fits
 is_fits x sends source channel h =
-    let a = both (eqb x.channel.0 channel) _ h in
-    let b = both (eqb x.remote.0 source) (same sends (is_sends x.kind)) a.1 in
+    let a = and_parts (eqb x.channel.0 channel) _ h in
+    let b = and_parts (eqb x.remote.0 source) (same sends (is_sends x.kind)) a.1 in
     record { kind = true_same sends (is_sends x.kind) b.1; remote = eqb-true _ _ b.0; over = eqb-true _ _ a.0 }
 
 module _ (t : List ℕ) (m : Machine) (S : Sound t m) where

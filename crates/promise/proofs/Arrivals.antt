@@ -4,7 +4,7 @@ use Prim.Native.Nat.{ℕ}
 use mathlib.Core.Path.{◌≡◌, refl, sym, ap, subst, ◌∙◌}
 use mathlib.Core.Logic.{◌≢◌, ◌⊎◌, inl, inr}
 use mathlib.Core.Bool.{Bool, true, false, not, ◌&&◌}
-use mathlib.Core.Option.{Option, none, some}
+use mathlib.Core.Option.{Option, none, some, some-injective}
 use mathlib.Core.List.{List, [], ◌∷◌}
 use lib.ListN.{length, get_elem?}
 use lib.Dec.{eqb}
@@ -22,6 +22,7 @@ use Rattle.frame.specs.Types.{for_sender}
 use Rattle.frame.specs.declared.Header.{Header}
 use Rattle.frame.specs.declared.FrameType.{FrameType}
 use Rattle.frame.specs.declared.FrameType.TheVariants as type
+use Rattle.frame.proofs.ReadLaws.{whole_read}
 use Rattle.end_points.specs.States.{is_sends}
 use Rattle.end_points.specs.declared.State.{State}
 use Rattle.end_points.specs.declared.State.TheVariants.{Closed, Enabled, Open, Failing}
@@ -31,7 +32,7 @@ use Rattle.machine.specs.Calls.{arrives}
 use Rattle.machine.specs.Sound.{Sound}
 use Rattle.machine.specs.Laws.{On}
 use Rattle.promise.specs.Seen.{is_done, names}
-use Rattle.promise.proofs.Entries.{some_same, found_fits, names_own, names_other}
+use Rattle.promise.proofs.Entries.{found_fits, names_own, names_other}
 use Rattle.promise.proofs.Watched.{Watch, Follows, Step, seen_as, still, refused_done, elsewhere}
 use Rattle.std.specs.Prelude.{Result, Ok, Err}
 
@@ -50,10 +51,6 @@ pub record Taken (m : Machine) (block f : List ℕ) : Type 0 where
   pub fit : Fitting end.entry (for_sender header.kind) header.source.0 header.channel.0
   pub clear : Clear (entry_tests m end header.kind header.length (length block))
   pub is : arriving m block f ≡ taken_in m block (entry_for m header) end header.kind header.seq.0 (payload_of f)
-
-whole_read : (f : List ℕ) (h : Header) → sound_of f ≡ true → header_of f ≡ Ok h → read_of f ≡ Ok h
-unfolding header_of read_of
-whole_read f h s e = rw s e
 
 module _ (m : Machine) (block f : List ℕ) where
   abbrev frame_tests : List (Bool × Refusal)
@@ -186,7 +183,7 @@ module _ (K : Watch) (t : List ℕ) (m : Machine) (S : Sound t m) (i : ℕ) (e :
     seen = K.comes block f o.answer ∙ rw (taken_done m block k a.end s (payload_of f) q, a.read)
 
     same : i ≡ k → a.end ≡ e
-    same c = some_same (sym a.there ∙ sym (ap (λ (j : ℕ). get_elem? m.ends j) c) ∙ there)
+    same c = some-injective _ _ (sym a.there ∙ sym (ap (λ (j : ℕ). get_elem? m.ends j) c) ∙ there)
 
     kinds : is_sends a.end.entry.kind ≡ for_sender q
     kinds = a.fit.kind ∙ ap for_sender kind

@@ -3,16 +3,16 @@ use Prim.Native.Nat.{ℕ, suc, ◌<◌}
 use mathlib.Core.Path.{◌≡◌, refl, sym, ap, ◌∙◌}
 use mathlib.Core.Logic.{◌≢◌}
 use mathlib.Core.Bool.{Bool, true, false}
-use mathlib.Core.Option.{Option, some}
+use mathlib.Core.Option.{some, some-injective}
 use mathlib.Core.List.{List, [], ◌∷◌}
 use native.Mathlib.Omega.{arith}
 use lib.ListN.{get_elem?}
 use lib.Dec.{eqb}
 use borrow.Author.Tests.{eq-eqb, eqb-true}
+use Rattle.std.proofs.lemmas.Bool.{and_parts, false_from_ne_true}
 use Rattle.units.specs.Refusals.{pick}
 use Rattle.table.specs.Layout.{count_of, entry_of}
 use Rattle.table.specs.declared.Entry.{Entry}
-use Rattle.table.proofs.Every.{both}
 use Rattle.table.proofs.Good.{one_entry}
 use Rattle.frame.specs.Types.{for_sender}
 use Rattle.frame.specs.declared.Header.{Header}
@@ -25,9 +25,6 @@ use Rattle.machine.proofs.Entries.{not_none, elem_lt}
 use Rattle.promise.specs.Seen.{names}
 use Rattle.end_points.proofs.Telling.{same_kind}
 
-pub some_same : {A : Type 0} {a b : A} → ◌≡◌ {A = Option A} (some a) (some b) → a ≡ b
-some_same e = cc
-
 -- ---- the entry that a frame is for
 
 placed : (test : End → Bool) (es : List End) (e : End) → get_elem? es (place_of test es) ≡ some e → test e ≡ true
@@ -37,7 +34,7 @@ placed test (x ∷ xs) e h = sides (test x) refl h (placed test xs e)
   where
     sides : (b : Bool) → test x ≡ b → get_elem? (x ∷ xs) (pick b 0 (suc (place_of test xs))) ≡ some e
         → (get_elem? xs (place_of test xs) ≡ some e → test e ≡ true) → test e ≡ true
-    sides true q g below = ap test (sym (some_same g)) ∙ q
+    sides true q g below = ap test (sym (some-injective _ _ g)) ∙ q
     sides false q g below = below g
 
 pub found_fits : (m : Machine) (h : Header) (e : End) → get_elem? m.ends (entry_for m h) ≡ some e
@@ -47,10 +44,6 @@ found_fits m h e g =
     (placed (λ x. fits x.entry (for_sender h.kind) h.source.0 h.channel.0) m.ends e g)
 
 -- ---- which entry a frame names
-
-is_false : (b : Bool) → (b ≡ true → ⊥) → b ≡ false
-is_false true h = absurd (h refl)
-is_false false h = refl
 
 module _ (t : List ℕ) (m : Machine) (S : Sound t m) (i : ℕ) (e : End) (there : get_elem? m.ends i ≡ some e) where
   known : i < count_of t
@@ -79,7 +72,7 @@ module _ (t : List ℕ) (m : Machine) (S : Sound t m) (i : ℕ) (e : End) (there
 
     clash : is_sends e.entry.kind ≡ is_sends f.entry.kind → named ≡ true → i ≡ k
     clash q h =
-        let p = both (eqb own.remote.0 f.entry.remote.0) (eqb own.channel.0 f.entry.channel.0) h in
+        let p = and_parts (eqb own.remote.0 f.entry.remote.0) (eqb own.channel.0 f.entry.channel.0) h in
         let x : f.entry ≡ entry_of t k = (S.bounded k f here).entry in
         one_entry t S.table i k known (let z = elem_lt m.ends k here in let y = S.count in omega arith)
         (ap (λ (y : Entry). y.kind) (sym entry_is) ∙ same_kind _ _ q ∙ ap (λ (y : Entry). y.kind) x)
@@ -87,4 +80,4 @@ module _ (t : List ℕ) (m : Machine) (S : Sound t m) (i : ℕ) (e : End) (there
         (eqb-true _ _ p.1 ∙ ap (λ (y : Entry). y.channel.0) x)
 
     pub names_other : is_sends e.entry.kind ≡ is_sends f.entry.kind → i ≢ k → named ≡ false
-    names_other q d = is_false named (λ h. d (clash q h))
+    names_other q d = false_from_ne_true named (λ h. d (clash q h))

@@ -3,7 +3,7 @@
 use Prim.Native.Nat.{ℕ, ◌≤◌}
 use mathlib.Core.Path.{◌≡◌, refl, sym, ap, subst, ◌∙◌}
 use mathlib.Core.Logic.{◌≢◌, ◌⊎◌, inl, inr}
-use mathlib.Core.Option.{Option, none, some}
+use mathlib.Core.Option.{Option, none, some, some-injective}
 use mathlib.Core.List.{List, [], Memᴰ}
 use native.Mathlib.Decide.{ℕ_discrete}
 use native.Mathlib.Omega.{arith}
@@ -31,7 +31,7 @@ use Rattle.machine.proofs.Judged.{by_verdict}
 use Rattle.machine.proofs.Handing.{next_or_none, room_tests, gone, owner, under_is, goes_is, none_is, reads_back}
 use Rattle.machine.proofs.Apart.{gone_leaves}
 use Rattle.promise.specs.Seen.{names}
-use Rattle.promise.proofs.Entries.{some_same, names_own, names_other}
+use Rattle.promise.proofs.Entries.{names_own, names_other}
 use Rattle.promise.proofs.Watched.{Watch, owed, Step, seen_as, still, untouched, refused_done}
 use Rattle.std.specs.Prelude.{Ok, Err}
 
@@ -124,7 +124,7 @@ module _ (K : Watch) (t : List ℕ) (m : Machine) (S : Sound t m) (i : ℕ) (e :
         ∙ rw (frame_in buffer (frame_of m q x s) w.long, out_reads m q x s (frame_of m q x s) r, r.payload)
 
     pub same : i ≡ k → x ≡ e
-    same c = some_same (sym w.owned.there ∙ sym (ap (λ (j : ℕ). get_elem? m.ends j) c) ∙ there)
+    same c = some-injective _ _ (sym w.owned.there ∙ sym (ap (λ (j : ℕ). get_elem? m.ends j) c) ∙ there)
 
     -- of another entry, and unseen
     apart : i ≢ k → went ≡ K.quiet → Goes o

@@ -4,7 +4,7 @@
 use Prim.Native.Nat.{ℕ, ◌-◌, ◌<◌}
 use mathlib.Core.Path.{◌≡◌, refl, sym, ap, subst, ◌∙◌}
 use mathlib.Core.Bool.{Bool, true, false}
-use mathlib.Core.Option.{some}
+use mathlib.Core.Option.{some, some-injective}
 use mathlib.Core.List.{List, [], ◌∷◌, ◌++◌, map}
 use native.Mathlib.Omega.{arith}
 use lib.ListN.{length, take, replicate, get_elem?, length-append, length-replicate}
@@ -42,7 +42,7 @@ use Rattle.promise.specs.Nodes.{owed_in, NodesPromise}
 use Rattle.promise.proofs.Channel.{Recv}
 use Rattle.promise.proofs.Laws.{SLaws, RLaws, s_viewed}
 use Rattle.promise.proofs.Lifting.{demand_3_nodes}
-use Rattle.promise.proofs.Entries.{some_same, entry_is, receiver_runs}
+use Rattle.promise.proofs.Entries.{entry_is, receiver_runs}
 use Rattle.promise.proofs.Watched.{Watch, owed, Step}
 use Rattle.promise.proofs.SenderCalls.{s_watch, SStep, s_opens, s_closes, s_sends, s_urges, s_counts, s_reports}
 use Rattle.promise.proofs.SenderPlans.{s_plans}
@@ -241,7 +241,7 @@ module _ (t : List ℕ) (i : ℕ) (h : i < count_of t) (k : (entry_of t i).kind 
   -- of a node that stands for the machine
   end_there : (n : Memory) (m : Machine) (v : At t i n m) → v.end ≡ end_at n i
   end_there n m v =
-      some_same (sym v.there ∙ ap (λ (y : Machine). get_elem? y.ends i) (sym v.stands.is)
+      some-injective _ _ (sym v.there ∙ ap (λ (y : Machine). get_elem? y.ends i) (sym v.stands.is)
       ∙ elem_listed (count_of t) (end_at n) i h)
 
   -- a Reset's timer and how many of a Failing end's run are no part of what is seen

@@ -7,8 +7,8 @@ use mathlib.Core.Option.{some}
 use mathlib.Core.List.{List}
 use lib.ListN.{length, get_elem?, set}
 use lib.Dec.{eqb}
+use Rattle.std.proofs.lemmas.Bool.{and_parts}
 use Rattle.table.specs.Layout.{entry_of}
-use Rattle.table.proofs.Every.{both}
 use Rattle.frame.specs.declared.FrameType.{FrameType}
 use Rattle.frame.specs.declared.FrameType.TheVariants as type
 use Rattle.end_points.specs.States.{is_sends}
@@ -67,7 +67,7 @@ module _ (t : List ℕ) (m : Machine) (S : Sound t m) (i : ℕ) (e : End) (there
         sides : (b : Bool) → counts ≡ b → Hears (acked m out i e s next)
         sides true h =
             rw h (leaves _ (stated st (passing (acked_run ns) ns e)) (rw ends (placed _))
-            (passed_view e s W narrow (both (number_at e s).handed (not (number_at e s).acked) h).0 st q
+            (passed_view e s W narrow (and_parts (number_at e s).handed (not (number_at e s).acked) h).0 st q
             ∙ sym (is ∙ rw (counts_same e s W narrow, h))))
         sides false h = rw h (leaves _ e there (sym (is ∙ rw (counts_same e s W narrow, h))))
 

@@ -3,7 +3,7 @@
 use Prim.Native.Nat.{ℕ, ◌/◌, ◌%◌, ◌^◌}
 use mathlib.Core.Path.{◌≡◌, refl, sym, ap, subst, ◌∙◌}
 use mathlib.Core.Bool.{Bool, true, false, true≢false}
-use mathlib.Core.Option.{some}
+use mathlib.Core.Option.{some, some-injective}
 use mathlib.Core.List.{List}
 use lib.ListN.{get_elem?}
 use lib.Dec.{eqb}
@@ -21,7 +21,6 @@ use Rattle.promise.specs.History.{SState, s_quiet, s_ends, s_failing}
 use Rattle.promise.specs.Seen.{s_seen, s_state_of}
 use Rattle.promise.proofs.Channel.{Send}
 use Rattle.promise.proofs.Laws.{SNext, sn_same, sn_fail, sn_end}
-use Rattle.promise.proofs.Entries.{some_same}
 use Rattle.promise.proofs.Watched.{seen_as}
 use Rattle.promise.proofs.SenderView.{view, send_of, ticked_view}
 use Rattle.promise.proofs.SenderCalls.{s_watch, SStep}
@@ -82,7 +81,7 @@ module _ (t : List ℕ) (m : Machine) (i : ℕ) (e : End) (there : get_elem? m.e
       none : bit ≡ 1 → ⊥
       none b =
           let x = (recovers.bit i).0 b in
-          let same : x.0 ≡ timed e = some_same (sym x.1 ∙ fell_there) in
+          let same : x.0 ≡ timed e = some-injective _ _ (sym x.1 ∙ fell_there) in
           true≢false (sym x.2 ∙ ap (may_recover (timers m).under i) same ∙ o)
 
   pub s_ticks : SStep t m i e ticks (step m ticks)

@@ -25,6 +25,7 @@ use Rattle.frame.specs.declared.Header.{Header}
 use Rattle.frame.specs.declared.FrameType.{FrameType}
 use Rattle.frame.specs.declared.FrameType.TheVariants as type
 use Rattle.frame.specs.Types.{for_sender, carries, answered}
+use Rattle.frame.proofs.ReadLaws.{whole_read}
 use Rattle.end_points.specs.Ends.{load_entry, end_of}
 use Rattle.end_points.specs.Heads.{count_in}
 use Rattle.end_points.specs.States.{is_sends, is_open}
@@ -198,10 +199,6 @@ module _ (t : List ℕ) (n : Memory) (l : Lists) (g : Good t n.node n.book l) (r
   -- ---- the call
 
   module _ (f : List ℕ) (bytes : Bytes f) where
-    whole_read : (h : Header) → sound_of f ≡ true → header_of f ≡ Ok h → read_of f ≡ Ok h
-    unfolding header_of read_of
-    whole_read h s e = rw s e
-
     no_end : (i : ℕ) (h : Header) → count_in n.node ≤ i → entry_verdict x i h ≡ Err refusal.NoEndPoint
     no_end i h li = rw (le-leb (count_in n.node) i li)
 
@@ -223,7 +220,7 @@ module _ (t : List ℕ) (n : Memory) (l : Lists) (g : Good t n.node n.book l) (r
     framed h sound e = sides (dec_lt (j h) (count_in n.node))
       where
         r : read_of f ≡ Ok h
-        r = whole_read h sound e
+        r = whole_read f h sound e
 
         sides : Dec (j h < count_in n.node) → Reads (Ok h)
         sides (yes hj) =

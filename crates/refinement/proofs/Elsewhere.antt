@@ -11,6 +11,7 @@ use lib.ListN.{length, get_or, take, drop, replicate, set}
 use lib.Dec.{eqb, ltb}
 use lib.Seq.{sets}
 use borrow.Author.Tests.{not-true, eq-eqb}
+use Rattle.std.proofs.lemmas.Bool.{and_parts}
 use Rattle.units.specs.Refusals.{pick}
 use Rattle.waiting.specs.Port.{under_in, is_reset, data_out}
 use Rattle.memory.specs.Layout.{cells_at, length_at, timer_at, retries_at}
@@ -38,7 +39,6 @@ use Rattle.good.proofs.Payloads.{s_filled, r_filled, Stored, unaltered, put, sto
 use Rattle.machine.specs.Machine.{End, Item, Sort, Out, number, stated, node, port, listed, turned}
 use Rattle.refinement.specs.Standing.{Reading, read_at, payload_for, number_for, place_for, state_for, end_for, end_at, waiting_for, under_for, stands_for, Stands}
 use Rattle.machine.proofs.Listed.{listed_ext, listed_replicate, set_listed}
-use Rattle.table.proofs.Every.{both}
 
 -- ---- an end point stands for the same, in another book and store
 
@@ -72,7 +72,7 @@ module _ (L : Reading) (st st' b b' : List ℕ) (i : ℕ) (e : EndPoint) where
       sides : (t : Bool) → (not (is_sends e.entry.kind) && held e.run.window k) ≡ t
           → ◌≡◌ {A = Option (List ℕ)} (pick t (some (payload_for st' b' i e k)) none) (pick t (some (payload_for st b i e k)) none)
       sides true h =
-          let z = both (not (is_sends e.entry.kind)) (held e.run.window k) h in
+          let z = and_parts (not (is_sends e.entry.kind)) (held e.run.window k) h in
           ap some (p k (not-true (is_sends e.entry.kind) z.0) z.1)
       sides false h = refl
 

@@ -4,7 +4,7 @@ use Prim.Native.Nat.{ℕ, zero, suc, ◌-◌, ◌/◌, ◌%◌, ◌≤◌, ◌<�
 use mathlib.Core.Path.{◌≡◌, refl, sym, ap, subst, ◌∙◌}
 use mathlib.Core.Logic.{◌⊎◌, inl, inr}
 use mathlib.Core.Bool.{Bool, true, false, not, ◌&&◌}
-use mathlib.Core.Option.{Option, none, some}
+use mathlib.Core.Option.{none, some, none-ne-some, some-injective}
 use mathlib.Core.List.Memᴰ
 use mathlib.Core.List.{List, [], ◌∷◌, map, Memᴰ}
 use native.Mathlib.Decide.{dec_lt}
@@ -13,6 +13,7 @@ use lib.ListN.{length, drop, get_elem?, length-drop, length-map}
 use lib.Seq.{length-take-le}
 use lib.Dec.{eqb}
 use borrow.Author.Tests.{eqb-false}
+use Rattle.std.proofs.lemmas.Bool.{and_parts, not-true}
 use Rattle.units.specs.Refusals.{pick}
 use Rattle.memory.specs.Layout as layout
 use Rattle.waiting.specs.Port.{under_in, is_reset}
@@ -49,7 +50,6 @@ use Rattle.refinement.specs.Standing.{Reading, read_at, state_for, payload_for, 
 use Rattle.machine.proofs.Listed.{length_listed, get_d_listed, elem_listed, elem_none}
 use Rattle.refinement.proofs.Elsewhere.{no_urgent, none_taken, urgent_most}
 use Rattle.refinement.proofs.Following.{state_in, item_at}
-use Rattle.table.proofs.Every.{both}
 
 -- ---- members of a list by its numbers
 
@@ -62,31 +62,21 @@ mem_listed {A} (suc n) f y m = sides (Memᴰ.append_cases (listed n f) m) (mem_l
     sides (inl k) below = let b = below k in (b.0, omega (arith, b.1), b.2)
     sides (inr k) below = (n, omega arith, Memᴰ.eq_of_singleton k)
 
-not_some : {A : Type 0} (a : A) → ◌≡◌ {A = Option A} none (some a) → ⊥
-not_some a e = let z : ◌≡◌ {A = ℕ} 0 1 = cc in omega arith
-
-some_same : {A : Type 0} (a b : A) → ◌≡◌ {A = Option A} (some a) (some b) → a ≡ b
-some_same a b e = cc
-
 pub elem_of : {A : Type 0} (n : ℕ) (f : ℕ → A) (i : ℕ) (a : A) → get_elem? (listed n f) i ≡ some a → (i < n) × (a ≡ f i)
 elem_of {A} n f i a e = sides (dec_lt i n)
   where
     sides : Dec (i < n) → (i < n) × (a ≡ f i)
-    sides (yes h) = (h, some_same a (f i) (sym e ∙ elem_listed n f i h))
-    sides (no h) = absurd (not_some a (sym (elem_none n f i (omega arith)) ∙ e))
+    sides (yes h) = (h, some-injective a (f i) (sym e ∙ elem_listed n f i h))
+    sides (no h) = absurd (none-ne-some a (sym (elem_none n f i (omega arith)) ∙ e))
 
 -- what is picked is one of two
 picked : {A : Type 0} (t : Bool) (a p : A) → pick t (some a) none ≡ some p → (t ≡ true) × (p ≡ a)
-picked true a p e = (refl, some_same p a (sym e))
-picked false a p e = absurd (not_some p e)
+picked true a p e = (refl, some-injective p a (sym e))
+picked false a p e = absurd (none-ne-some p e)
 
 pub picked_not : {A : Type 0} (t : Bool) (a p : A) → pick t none (some a) ≡ some p → (t ≡ false) × (p ≡ a)
-picked_not true a p e = absurd (not_some p e)
-picked_not false a p e = (refl, some_same p a (sym e))
-
-not_true : (a : Bool) → not a ≡ true → a ≡ false
-not_true true h = absurd (let z : ◌≡◌ {A = ℕ} 0 1 = cc in omega arith)
-not_true false h = refl
+picked_not true a p e = absurd (none-ne-some p e)
+picked_not false a p e = (refl, some-injective p a (sym e))
 
 -- a state is Failing where it reads so
 failing_for : (L : Reading) (u : Bool) (ns : List Number) (s : State) (k : ℕ) → state_for L u ns s ≡ Failing k → (m : ℕ) × (s ≡ Failing m)
@@ -145,8 +135,8 @@ module _ (t : List ℕ) (n : Memory) (l : Lists) (g : Good t n.node n.book l) (r
         sides : (k : ℕ) × (k < e.entry.window) × (some p ≡ place_for n.store n.book i e k) → Sized e.entry p
         sides (k, h, q) =
             let x = picked (not (is_sends e.entry.kind) && held w k) (payload_for n.store n.book i e k) p (sym q) in
-            let y = both (not (is_sends e.entry.kind)) (held w k) x.0 in
-            rw x.1 (filled_sized k (r_filled t n.node n.book l g i li (not_true (is_sends e.entry.kind) y.0) k y.1))
+            let y = and_parts (not (is_sends e.entry.kind)) (held w k) x.0 in
+            rw x.1 (filled_sized k (r_filled t n.node n.book l g i li (not-true (is_sends e.entry.kind) y.0) k y.1))
 
     urgent_sized : (p : List ℕ) → (end_at n i).urgent ≡ some p → Sized e.entry p
     unfolding end_for

@@ -11,6 +11,7 @@ use native.Mathlib.Omega.{arith}
 use lib.ListN.{length}
 use lib.Dec.{eqb, ltb}
 use borrow.Author.Tests.{eq-eqb, ne_eqb, lt-ltb, le-ltb}
+use Rattle.std.proofs.lemmas.Bool.{and_parts}
 use Rattle.units.specs.Refusals.{pick}
 use Rattle.memory.specs.Layout as layout
 use Rattle.memory.specs.Layout.{reset_id}
@@ -151,10 +152,6 @@ module _ (t : List ℕ) (n : Memory) (l : Lists) (g : Good t n.node n.book l) (r
 
 -- ---- an end that is over becomes Enabled
 
-first_true : (a b : Bool) → (a && b) ≡ true → a ≡ true
-first_true true b h = refl
-first_true false b h = h
-
 -- the frame under way is entry i's own, in the machine as in the book
 of_own : (b : List ℕ) (i : ℕ) → is_of i (under_for (under_in b)) ≡ is_own b i
 of_own b i = sides (eqb (under_in b) 0) _
@@ -277,7 +274,7 @@ module _ (t : List ℕ) (n : Memory) (l : Lists) (g : Good t n.node n.book l) (r
           → StandsWith R t (kept_bare n
           (pick z (memory.again i (record { lent = bare n; bits = bits }))
           (record { lent = bare n; bits = bits })).lent) (pick z (enabled i (end_with R n i) (stands_with R t n l)) (stands_with R t n l))
-      sides true z = over_stands (is_over_holds e.state (first_true (is_over e.state) (not (is_own n.book i)) z))
+      sides true z = over_stands (is_over_holds e.state (and_parts (is_over e.state) (not (is_own n.book i)) z).0)
       sides false z = still_with R g room (λ j h. refl)
 
 -- ---- every end that is over

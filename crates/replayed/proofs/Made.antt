@@ -10,7 +10,7 @@ use borrow.Author.Tests.{leb-true}
 use lib.Dec.{leb}
 use lib.ListN.{get_or, take, drop, get_or-eq_default, length-take}
 use lib.Seq.{get_or-take, get_or-drop}
-use Rattle.table.proofs.Every.{both}
+use Rattle.std.proofs.lemmas.Bool.{and_parts}
 use Rattle.end_points.specs.Lent.{Lent}
 use Rattle.trace.specs.Kinds.{table_kind, report_kind, is_kind}
 use Rattle.trace.specs.Layout.{head_size, head_from, bytes_from}
@@ -85,7 +85,7 @@ module _ (x : Lent) (i : ℕ) (b : List ℕ) where
       is n = ℕ_discrete kind n
 
       bounds : (1 ≤ kind) × (kind ≤ 9)
-      bounds = let p = both (leb table_kind kind) (leb kind report_kind) known in (leb-true 1 kind p.0, leb-true kind 9 p.1)
+      bounds = let p = and_parts (leb table_kind kind) (leb kind report_kind) known in (leb-true 1 kind p.0, leb-true kind 9 p.1)
 
       sides : Dec (kind ≡ 2) → Dec (kind ≡ 3) → Dec (kind ≡ 4) → Dec (kind ≡ 5) → Dec (kind ≡ 6) → Dec (kind ≡ 7) → Dec (kind ≡ 8) → Made kind
       sides (yes e) _ _ _ _ _ _ = subst Made (sym e) open_made

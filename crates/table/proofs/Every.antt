@@ -1,16 +1,12 @@
 -- Laws of a test that holds of every number below one, `every_below`. Assumes nothing.
 use mathlib.Core.Path.{◌≡◌, refl}
-use mathlib.Core.Bool.{Bool, true, false, ◌&&◌}
+use mathlib.Core.Bool.{Bool, true, false}
 use Prim.Native.Nat.{ℕ, zero, suc, ◌+◌, ◌<◌}
 use native.Mathlib.Decide.{dec_lt}
 use native.Mathlib.Numerals.{add-one}
 use native.Mathlib.Omega.{arith}
+use Rattle.std.proofs.lemmas.Bool.{and_parts}
 use Rattle.table.specs.Rules.{every_below}
-
--- both parts of a conjunction hold
-pub both : (a b : Bool) → (a && b) ≡ true → (a ≡ true) × (b ≡ true)
-both true b h = (refl, h)
-both false b h = let z : ◌≡◌ {A = ℕ} 0 1 = cc in absurd (omega arith)
 
 -- none below 0 fails
 pub every_none : (test : ℕ → Bool) → every_below 0 test ≡ true
@@ -27,7 +23,7 @@ pub every_at : (n : ℕ) (test : ℕ → Bool) → every_below n test ≡ true �
 unfolding every_below
 every_at zero test h i l = absurd (omega arith)
 every_at (suc n) test h i l =
-    let parts = both (every_below n test) (test n) h in
+    let parts = and_parts (every_below n test) (test n) h in
     sides (every_at n test parts.0 i) parts.1 (dec_lt i n)
   where
     sides : (i < n → test i ≡ true) → test n ≡ true → Dec (i < n) → test i ≡ true

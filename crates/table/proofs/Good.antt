@@ -10,6 +10,7 @@ use lib.Count.{ones}
 use lib.Dec.{eqb, leb}
 use lib.ListN.{length}
 use borrow.Author.Tests.{eqb-true, leb-true, eq-eqb, not-true}
+use Rattle.std.proofs.lemmas.Bool.{and_parts}
 use Rattle.units.specs.Refusals.{pick}
 use Rattle.units.specs.Sizes.{default_size, is_size, may_write, in_force}
 use Rattle.units.specs.declared.Address.{Address}
@@ -20,7 +21,7 @@ use Rattle.table.specs.Layout.{head_size, start_of, count_of, first_of, own_of, 
 use Rattle.table.specs.Areas.{store_of}
 use Rattle.table.specs.Rules.{every_below, is_address, head_good, timed, numbers_good, form_good, agree, apart, entry_good, fits, good_table}
 use Rattle.table.specs.Laws.{OneEntry, StoreFits}
-use Rattle.table.proofs.Every.{both, every_at}
+use Rattle.table.proofs.Every.{every_at}
 
 -- The rules taken apart
 
@@ -28,14 +29,14 @@ use Rattle.table.proofs.Every.{both, every_at}
 pub address_range : (a : Address) → is_address a ≡ true → (32 ≤ a.0) × (a.0 ≤ 254)
 unfolding is_address
 address_range a h =
-    let p = both (leb 32 a.0) (leb a.0 254) h in
+    let p = and_parts (leb 32 a.0) (leb a.0 254) h in
     (leb-true 32 a.0 p.0, leb-true a.0 254 p.1)
 
 -- a size is 1 to 128
 pub size_range : (w : ℕ) → is_size w ≡ true → (1 ≤ w) × (w ≤ 128)
 unfolding ones
-size_range zero h = absurd (omega (arith, eqb-true 0 1 (both (eqb 0 1) true h).0))
-size_range (suc w) h = (omega arith, leb-true (suc w) 128 (both (eqb (ones (suc w)) 1) (leb (suc w) 128) h).1)
+size_range zero h = absurd (omega (arith, eqb-true 0 1 (and_parts (eqb 0 1) true h).0))
+size_range (suc w) h = (omega arith, leb-true (suc w) 128 (and_parts (eqb (ones (suc w)) 1) (leb (suc w) 128) h).1)
 
 -- what a table writes puts a size in force
 default_size_holds : is_size default_size ≡ true
@@ -53,8 +54,8 @@ written_size w = sides (eqb w 0)
 groups : (t : List ℕ) → good_table t ≡ true → (head_good t ≡ true) × ((every_below (count_of t) (entry_good t) ≡ true) × (store_of t ≤ 32768))
 unfolding good_table fits
 groups t g =
-    let p = both (head_good t && every_below (count_of t) (entry_good t)) (leb (store_of t) 32768) g in
-    let q = both (head_good t) (every_below (count_of t) (entry_good t)) p.0 in
+    let p = and_parts (head_good t && every_below (count_of t) (entry_good t)) (leb (store_of t) 32768) g in
+    let q = and_parts (head_good t) (every_below (count_of t) (entry_good t)) p.0 in
     (q.0, (q.1, leb-true (store_of t) 32768 p.1))
 
 -- The head
@@ -69,11 +70,11 @@ pub record GoodHead (t : List ℕ) : Type 0 where
 head_parts : (t : List ℕ) → head_good t ≡ true → GoodHead t
 unfolding head_good
 head_parts t h =
-    let zeros = both _ (eqb (head_zeros_of t) 0) h in
-    let protocol = both _ (leb 1 (protocol_of t)) zeros.0 in
-    let own = both _ (is_address (own_of t)) protocol.0 in
-    let first = both _ (eqb (first_of t) head_size) own.0 in
-    let long = both (leb (count_of t) 16) (eqb (length t) (start_of (count_of t))) first.0 in
+    let zeros = and_parts _ (eqb (head_zeros_of t) 0) h in
+    let protocol = and_parts _ (leb 1 (protocol_of t)) zeros.0 in
+    let own = and_parts _ (is_address (own_of t)) protocol.0 in
+    let first = and_parts _ (eqb (first_of t) head_size) own.0 in
+    let long = and_parts (leb (count_of t) 16) (eqb (length t) (start_of (count_of t))) first.0 in
     record {
       count = leb-true (count_of t) 16 long.0;
       long = eqb-true (length t) (start_of (count_of t)) long.1;
@@ -105,15 +106,15 @@ timed_sender Receives t m h e = let z : ◌≡◌ {A = ℕ} 0 1 = cc in absurd (
 timed_receiver : (k : Kind) (t m : ℕ) → timed k t m ≡ true → k ≡ Receives → (t ≡ 0) × (m ≡ 0)
 timed_receiver Sends t m h e = let z : ◌≡◌ {A = ℕ} 0 1 = cc in absurd (omega arith)
 timed_receiver Receives t m h e =
-    let p = both (eqb t 0) (eqb m 0) h in
+    let p = and_parts (eqb t 0) (eqb m 0) h in
     (eqb-true t 0 p.0, eqb-true m 0 p.1)
 
 entry_parts : (e : Entry) → numbers_good e ≡ true → is_size e.window ≡ true → GoodEntry e
 unfolding numbers_good
 entry_parts e h w =
-    let times = both _ (timed e.kind e.timeout e.retries) h in
-    let high = both _ (leb e.largest 32768) times.0 in
-    let low = both (is_address e.remote) (leb 1 e.largest) high.0 in
+    let times = and_parts _ (timed e.kind e.timeout e.retries) h in
+    let high = and_parts _ (leb e.largest 32768) times.0 in
+    let low = and_parts (is_address e.remote) (leb 1 e.largest) high.0 in
     record {
       remote_low = (address_range e.remote low.0).0;
       remote_high = (address_range e.remote low.0).1;
@@ -134,16 +135,16 @@ window_in_force t i = refl
 form_parts : (t : List ℕ) (i : ℕ) → form_good t i ≡ true → GoodEntry (entry_of t i)
 unfolding form_good
 form_parts t i h =
-    let numbers = both _ (numbers_good (entry_of t i)) h in
-    let zeros = both _ (eqb (zeros_from t (start_of i)) 0) numbers.0 in
-    let written = both (leb (kind_byte_from t (start_of i)) 1) (may_write (window_from t (start_of i))) zeros.0 in
+    let numbers = and_parts _ (numbers_good (entry_of t i)) h in
+    let zeros = and_parts _ (eqb (zeros_from t (start_of i)) 0) numbers.0 in
+    let written = and_parts (leb (kind_byte_from t (start_of i)) 1) (may_write (window_from t (start_of i))) zeros.0 in
     entry_parts (entry_of t i) numbers.1 (rw (window_in_force t i) (written_size (window_from t (start_of i)) written.1))
 
 -- an entry's bytes keep their rules, and it agrees with none before it
 module _ (t : List ℕ) (g : good_table t ≡ true) (i : ℕ) (l : i < count_of t) where
   halves : (form_good t i ≡ true) × (apart t i ≡ true)
   unfolding entry_good
-  halves = both (form_good t i) (apart t i) (every_at (count_of t) (entry_good t) (groups t g).1.0 i l)
+  halves = and_parts (form_good t i) (apart t i) (every_at (count_of t) (entry_good t) (groups t g).1.0 i l)
 
   pub good_entry : GoodEntry (entry_of t i)
   good_entry = form_parts t i halves.0

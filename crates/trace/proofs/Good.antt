@@ -9,8 +9,9 @@ use borrow.Author.Tests.{eqb-true, leb-true, eq-eqb, ne_eqb, not-true}
 use lib.Dec.{eqb, leb}
 use lib.ListN.{length, drop, length-drop}
 use lib.Seq.{length-take-le}
+use Rattle.std.proofs.lemmas.Bool.{and_parts}
 use Rattle.table.specs.Rules.{every_below}
-use Rattle.table.proofs.Every.{both, every_at}
+use Rattle.table.proofs.Every.{every_at}
 use Rattle.trace.specs.Kinds.{table_kind, is_kind, takes_index}
 use Rattle.trace.specs.Layout.{header_size, most_bytes, most_records, count_of, begin_of, head_from, bytes_from, end_from}
 use Rattle.trace.specs.Rules.{header_good, taken_or_zero, form_good, placed, record_good, unused_good, good_trace}
@@ -21,15 +22,15 @@ use Rattle.trace.specs.Laws.{Filled, GoodIsFilled, GoodIsRecorded}
 module _ (f : List ℕ) (g : good_trace f ≡ true) where
   groups : (header_good f ≡ true) × (every_below (count_of f) (record_good f) ≡ true)
   unfolding good_trace
-  groups = both (header_good f) (every_below (count_of f) (record_good f)) (both _ (unused_good f) g).0
+  groups = and_parts (header_good f) (every_below (count_of f) (record_good f)) (and_parts _ (unused_good f) g).0
 
   pub filled : Filled f
   unfolding header_good
   filled =
-      let last = both _ (eqb (begin_of f (count_of f)) (length f)) groups.0 in
-      let first = both _ (eqb (begin_of f 0) header_size) last.0 in
-      let few = both _ (leb (count_of f) most_records) first.0 in
-      let some = both (leb header_size (length f) && leb (length f) most_bytes) (leb 1 (count_of f)) few.0 in
+      let last = and_parts _ (eqb (begin_of f (count_of f)) (length f)) groups.0 in
+      let first = and_parts _ (eqb (begin_of f 0) header_size) last.0 in
+      let few = and_parts _ (leb (count_of f) most_records) first.0 in
+      let some = and_parts (leb header_size (length f) && leb (length f) most_bytes) (leb 1 (count_of f)) few.0 in
       record {
         some = leb-true 1 (count_of f) some.1;
         first = eqb-true (begin_of f 0) header_size first.1;
@@ -43,8 +44,8 @@ module _ (f : List ℕ) (g : good_trace f ≡ true) where
     parts : (eqb (begin_of f (k + 1)) (end_from f at) ≡ true) × (form_good (head_from f at) ≡ true) × (placed k (head_from f at).kind ≡ true)
     unfolding record_good
     parts =
-        let p = both _ (placed k (head_from f at).kind) (every_at (count_of f) (record_good f) groups.1 k l) in
-        let q = both (eqb (begin_of f (k + 1)) (end_from f at)) (form_good (head_from f at)) p.0 in
+        let p = and_parts _ (placed k (head_from f at).kind) (every_at (count_of f) (record_good f) groups.1 k l) in
+        let q = and_parts (eqb (begin_of f (k + 1)) (end_from f at)) (form_good (head_from f at)) p.0 in
         (q.0, q.1, p.1)
 
     follows : begin_of f (k + 1) ≡ end_from f at
@@ -52,7 +53,7 @@ module _ (f : List ℕ) (g : good_trace f ≡ true) where
 
     known : is_kind (head_from f at).kind ≡ true
     unfolding form_good
-    known = (both (is_kind (head_from f at).kind) (taken_or_zero (takes_index (head_from f at).kind) (head_from f at).index) (both _ _ parts.1).0).0
+    known = (and_parts (is_kind (head_from f at).kind) (taken_or_zero (takes_index (head_from f at).kind) (head_from f at).index) (and_parts _ _ parts.1).0).0
 
     table : k ≡ 0 → (head_from f at).kind ≡ table_kind
     table e = eqb-true (head_from f at).kind table_kind (rw (eq-eqb k 0 e) at parts.2)
