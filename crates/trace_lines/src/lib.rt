@@ -79,6 +79,7 @@ fn is_refused(t: Told) -> bool
 // The lines of a replay, of a file that is given whole; `buffer` is the block and the frame buffer. A file against the
 // rules gives `refused 21` alone, before any call is made, and a table that is refused ends the replay after its line.
 // [R21, L10, L11, L12]
+#[tactic(auto, unfolding(crate::specs::Lines::replay_page, crate::specs::Lines::replay_lent, crate::specs::Lines::replay_text))]
 pub fn replay<W: Write>(
     page: &mut Page<'_>,
     to: &mut Sink<W>,

@@ -6,7 +6,8 @@ use Rattle.lines.proofs.Saying.{says_nothing, says_then}
 use Rattle.std.proofs.Common.{length, ◌≡◌, ℕ, ◌+◌, List, refl, sym, ap, ◌∙◌, arith}
 use native.Mathlib.Numerals.{add-one}
 use Rattle.end_points.specs.Lent.{Lent}
-use Rattle.lines.specs.Lines.{Page}
+use Rattle.lines.specs.Lines.{SameBuffer, Page}
+use Rattle.lines.specs.declared.Page as lent
 use Rattle.trace.specs.Layout.{count_of}
 use Rattle.trace.specs.Laws.{GoodIsFilled}
 use Rattle.trace.proofs.Good.{good_is_filled}
@@ -20,6 +21,9 @@ use Rattle.trace_lines.proofs.replay.Invariants.{Replayed}
 use Rattle.trace_lines.proofs.replay.Goals.{else-k-eq-FIRST-via-then-k-eq-FIRST+else-is_refused}
 use Rattle.trace_lines.proofs.replay.Goals.{else-k-eq-FIRST-via-else-k-eq-FIRST}
 use Rattle.trace_lines.proofs.replay.Goals as goal
+
+same_then : {x y z : lent.Page} → SameBuffer x y → SameBuffer y z → SameBuffer x z
+same_then a b = record { name = b.name ∙ a.name; long = b.long ∙ a.long }
 
 -- one record more
 module _ {f : List ℕ} {p q : Page} {x y : Lent} {n k : ℕ} (r : Replayed f p q x y n k) {t : Told} {q' : Page} {y' : Lent}
@@ -49,14 +53,6 @@ module _ {f : List ℕ} {p q : Page} {x y : Lent} {n k : ℕ} (r : Replayed f p 
       let here = more (record { within = so_far.within; room = omega (arith, room.room, long) }) in
       rw (add-one, ← told_more) (says_then so_far here)
 
-pub returns-then-not-is_good-clause-text : goal.returns-then-not-is_good-clause-text
-unfolding replay_page
-returns-then-not-is_good-clause-text g c = rw (sym c.is_good.ensures ∙ c.if-not-is_good.true) c.refused_all.ensures.after
-
-pub returns-then-not-is_good-clause-after : goal.returns-then-not-is_good-clause-after
-unfolding replay_lent
-returns-then-not-is_good-clause-after g c = rw (sym c.is_good.ensures ∙ c.if-not-is_good.true)
-
 pub loop-k-init : goal.loop-k-init
 unfolding lines_after state_after lines_text
 loop-k-init g c =
@@ -76,38 +72,13 @@ loop-k-init g c =
       said = λ room. says_nothing room.within;
     }
 
-pub returns-then-is_refused-clause-text : goal.returns-then-is_refused-clause-text
-unfolding replay_page made_of
-returns-then-is_refused-clause-text g c =
-    let r = c.loop-k.invariant.replayed in
-    let s = c.step-t.ensures in
-    let line = c.line.ensures.after in
-    let first = c.if-k-eq-FIRST.true in
-    let t = sym (first_told r s.answer s.after line first) ∙ sym c.is_refused.ensures ∙ c.if-is_refused.true in
-    let good = r.good in
-    let lines = rw first at (lines_more r s.answer s.after line) in
-    rw (good, t) lines
-
-pub returns-then-is_refused-clause-after : goal.returns-then-is_refused-clause-after
-unfolding replay_lent made_of
-returns-then-is_refused-clause-after g c =
-    let r = c.loop-k.invariant.replayed in
-    let s = c.step-t.ensures in
-    let line = c.line.ensures.after in
-    let first = c.if-k-eq-FIRST.true in
-    let t = sym (first_told r s.answer s.after line first) ∙ sym c.is_refused.ensures ∙ c.if-is_refused.true in
-    let good = r.good in
-    let state = rw first at (state_more r s.answer s.after line) in
-    rw (good, t) state
-
 pub loop-k-preserved : goal.loop-k-preserved
 loop-k-preserved g c =
-    let lent = c.loop-k.invariant.lent in
     let r = c.loop-k.invariant.replayed in
     let s = c.step-t.ensures in
     let line = c.line.ensures.after in
     record {
-      lent = record { name = c.line.ensures.lent.name ∙ lent.name; long = c.line.ensures.lent.long ∙ lent.long };
+      lent = same_then c.loop-k.invariant.lent c.line.ensures.lent;
       replayed =
           record {
             good = r.good;
@@ -126,52 +97,41 @@ loop-k-preserved g c =
       said = λ room. said_more r s.answer s.after line room c.loop-k.invariant.lent.long (c.loop-k.invariant.said room) c.line.ensures.written;
     }
 
-pub returns-clause-text : goal.returns-clause-text
-unfolding replay_page made_of GoodIsFilled
-returns-clause-text g c =
-    let l = c.loop-k in
-    let f = c.args.file.now in
-    let some = (good_is_filled f l.invariant.replayed.good).some in
-    let last : l.k ≡ count_of f = omega (arith, l.invariant.replayed.all) in
-    let goes_on = l.invariant.replayed.goes_on (omega (arith, l.invariant.replayed.all)) in
-    let lines = rw last at l.invariant.replayed.lines in
-    let good = l.invariant.replayed.good in
-    rw (good, goes_on) lines
-
-pub returns-clause-after : goal.returns-clause-after
-unfolding replay_lent made_of GoodIsFilled
-returns-clause-after g c =
-    let l = c.loop-k in
-    let f = c.args.file.now in
-    let some = (good_is_filled f l.invariant.replayed.good).some in
-    let last : l.k ≡ count_of f = omega (arith, l.invariant.replayed.all) in
-    let goes_on = l.invariant.replayed.goes_on (omega (arith, l.invariant.replayed.all)) in
-    let good = l.invariant.replayed.good in
-    rw (good, goes_on) (rw last at l.invariant.replayed.state)
-
-pub returns-then-not-is_good-clause-written : goal.returns-then-not-is_good-clause-written
-unfolding replay_text
-returns-then-not-is_good-clause-written g c room = rw (sym c.is_good.ensures ∙ c.if-not-is_good.true) (c.refused_all.ensures.written room)
-
-pub returns-then-is_refused-clause-written : goal.returns-then-is_refused-clause-written
-unfolding replay_text made_of
-returns-then-is_refused-clause-written g c room =
-    let r = c.loop-k.invariant.replayed in
+pub returns-then-is_refused : goal.returns-then-is_refused
+unfolding replay_page replay_lent replay_text made_of
+returns-then-is_refused g c =
+    let i = c.loop-k.invariant in
+    let r = i.replayed in
     let s = c.step-t.ensures in
-    let line = c.line.ensures.after in
+    let line = c.line.ensures in
     let first = c.if-k-eq-FIRST.true in
-    let t = sym (first_told r s.answer s.after line first) ∙ sym c.is_refused.ensures ∙ c.if-is_refused.true in
     let good = r.good in
-    let said = said_more r s.answer s.after line room c.loop-k.invariant.lent.long (c.loop-k.invariant.said room) c.line.ensures.written in
-    rw (good, t) (rw first at said)
+    let told = sym (first_told r s.answer s.after line.after first) ∙ sym c.is_refused.ensures ∙ c.if-is_refused.true in
+    let lines = rw first at (lines_more r s.answer s.after line.after) in
+    let state = rw first at (state_more r s.answer s.after line.after) in
+    record {
+      lent = same_then i.lent line.lent;
+      text = rw (good, told) lines;
+      after = rw (good, told) state;
+      written = λ room.
+          let said = said_more r s.answer s.after line.after room i.lent.long (i.said room) line.written in
+          rw (good, told) (rw first at said);
+    }
 
-pub returns-clause-written : goal.returns-clause-written
-unfolding replay_text made_of GoodIsFilled
-returns-clause-written g c room =
-    let l = c.loop-k in
-    let f = c.args.file.now in
-    let some = (good_is_filled f l.invariant.replayed.good).some in
-    let last : l.k ≡ count_of f = omega (arith, l.invariant.replayed.all) in
-    let goes_on = l.invariant.replayed.goes_on (omega (arith, l.invariant.replayed.all)) in
-    let good = l.invariant.replayed.good in
-    rw (good, goes_on) (rw last at (l.invariant.said room))
+pub returns : goal.returns
+unfolding replay_page replay_lent replay_text made_of GoodIsFilled
+returns g c =
+    let i = c.loop-k.invariant in
+    let r = i.replayed in
+    let some = (good_is_filled c.args.file.now r.good).some in
+    let last : c.loop-k.k ≡ count_of c.args.file.now = omega (arith, r.all) in
+    let goes_on = r.goes_on (omega (arith, r.all)) in
+    let good = r.good in
+    let lines = rw last at r.lines in
+    let state = rw last at r.state in
+    record {
+      lent = i.lent;
+      text = rw (good, goes_on) lines;
+      after = rw (good, goes_on) state;
+      written = λ room. rw (good, goes_on) (rw last at (i.said room));
+    }
