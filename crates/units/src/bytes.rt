@@ -21,6 +21,7 @@ pub fn byte_at(s: &[u8], i: usize) -> u8
 
 // The two bytes from an index on, as a number. `from_be_bytes` asks for both; here one past the end counts as 0, as
 // `get16_of` says. `get32` is no second size of it: its result is of another type.
+#[tactic(auto, unfolding(crate::specs::Bytes::get16_of), using(crate::proofs::Runs::far16))]
 pub fn get16(s: &[u8], i: usize) -> u16
     ensures { result ≡ get16_of s.now i }
 {
@@ -40,6 +41,7 @@ fn joined(a: u8, b: u8, c: u8, d: u8) -> u32
 }
 
 // The four bytes from an index on, as a number. Where all are there, which is tested first, it is one load.
+#[tactic(auto, unfolding(crate::specs::Bytes::get16_of, crate::specs::Bytes::get32_of), using(crate::proofs::Runs::far32))]
 pub fn get32(s: &[u8], i: usize) -> u32
     ensures { result ≡ get32_of s.now i }
 {
@@ -84,6 +86,7 @@ pub fn put<T: Copy>(s: &mut [T], i: usize, item: T)
 
 // A number stored in two bytes. Not by `to_be_bytes` at once: where there is room for one of the two, that one is
 // stored (`be16`).
+#[tactic(auto, unfolding(crate::specs::Bytes::be16), using(crate::proofs::Runs::sets_out))]
 pub fn put16(s: &mut [u8], i: usize, v: u16)
     ensures { s.new ≡ sets s.old i (be16 v) }
 {
@@ -95,6 +98,7 @@ pub fn put16(s: &mut [u8], i: usize, v: u16)
 }
 
 // A number stored in four bytes, as many as there is room for: with `put16` two functions, as there are two types.
+#[tactic(auto, unfolding(crate::specs::Bytes::be16, crate::specs::Bytes::be32), using(crate::proofs::Runs::sets_out))]
 pub fn put32(s: &mut [u8], i: usize, v: u32)
     ensures { s.new ≡ sets s.old i (be32 v) }
 {
@@ -114,6 +118,7 @@ pub fn least(a: usize, b: usize) -> usize
 
 // Items stored one after the other, as many as there is room for. One by one: `copy_from_slice` would ask C for
 // `memmove` beside `memset`, which is all that docs/C.md says the archive needs.
+#[tactic(auto, using(crate::proofs::Runs::sets_out, crate::proofs::Runs::sets_more, crate::proofs::Runs::sets_whole))]
 pub fn put_all<T: Copy>(s: &mut [T], i: usize, items: &[T])
     ensures { s.new ≡ sets s.old i items.now }
 {
