@@ -46,6 +46,7 @@ pub fn is_set(m: Marks, k: u8) -> bool
 }
 
 // The marks with k set too.
+#[tactic(auto, using(crate::proofs::TwoWords::set_low, crate::proofs::TwoWords::set_high, crate::proofs::TwoWords::set_past))]
 pub fn with_set(m: Marks, k: u8) -> Marks
     ensures { result ≡ parted (bit_or (joined m) (2 ^ k)) }
 {
@@ -61,6 +62,7 @@ pub fn with_set(m: Marks, k: u8) -> Marks
 }
 
 // The marks n places lower; the n lowest go.
+#[tactic(auto, using(crate::proofs::TwoWords::shift_low, crate::proofs::TwoWords::shift_high, crate::proofs::TwoWords::shift_all))]
 pub fn shift_down(m: Marks, n: u8) -> Marks
     ensures { result ≡ parted (joined m / 2 ^ n) }
 {
