@@ -45,6 +45,7 @@ fn is_address(a: Address) -> bool
 
 // Whether every entry keeps its rules. Its like in crates/trace tests something else: a closure for the test would
 // need the bound on i in its contract, and be no shorter.
+#[tactic(auto, using(crate::proofs::Every::every_none, crate::proofs::Every::every_more))]
 fn entries_good(table: &[u8]) -> bool
     ensures { result ≡ every_below (count_of table.now) (entry_good table.now) }
 {
