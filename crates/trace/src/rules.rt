@@ -34,6 +34,7 @@ fn header_good(file: &[u8]) -> bool
 
 // Whether every record keeps its rules. Its like in crates/table tests something else: a closure for the test would
 // need the bound on k in its contract, and be no shorter.
+#[tactic(auto, using(table::proofs::Every::every_none, table::proofs::Every::every_more))]
 fn records_good(file: &[u8]) -> bool
     ensures { result ≡ every_below (count_of file.now) (record_good file.now) }
 {
