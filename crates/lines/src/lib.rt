@@ -59,15 +59,22 @@ pub enum Stop {
     Unknown, // a record is of no listed kind
 }
 
+// Writes out what is taken of a buffer that is lent only to be read: its first `at` bytes; nothing where it has fewer.
+pub fn flush<W: Write>(to: &mut Sink<W>, out: &[u8], at: usize)
+    ensures { at ≤ length out.now → Puts W.contents to.old to.new (take at out.now) }
+{
+    if at <= out.len() {
+        to.put(&out[0..at]);
+    }
+}
+
 impl Page<'_> {
     // Writes out what is taken.
     pub fn flush<W: Write>(&self, to: &mut Sink<W>)
         ensures { self.now.taken ≤ length self.now.bytes.now →
             Puts W.contents to.old to.new (take self.now.taken self.now.bytes.now) }
     {
-        if self.taken <= self.bytes.len() {
-            to.put(&self.bytes[0..self.taken]);
-        }
+        flush(to, self.bytes, self.taken)
     }
 
     // Where n bytes more go. Where there is no room behind what is taken, that is written out first.
