@@ -30,7 +30,7 @@ fn is_ours(node: &[u64], frame: &[u8]) -> bool
     ensures { result ≡ ours node.now frame.now }
 {
     let destination = Address(byte_at(frame, layout::DESTINATION));
-    destination == heads::own(node) && byte_at(frame, layout::PROTOCOL) == heads::protocol(node)
+    destination.is(heads::own(node)) && byte_at(frame, layout::PROTOCOL) == heads::protocol(node)
 }
 
 // Entry i, which is e, takes in a frame of type t, number s and payload.

@@ -125,7 +125,7 @@ pub fn put_all<T: Copy>(s: &mut [T], i: usize, items: &[T])
     if s.len() <= i {
         return;
     }
-    let n = (s.len() - i).min(items.len());
+    let n = least(s.len() - i, items.len());
     for k in 0..n {
         s[i + k] = items[k];
     }
