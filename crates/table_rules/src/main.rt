@@ -151,9 +151,11 @@ fn number(rt: &impl Print, at: usize, v: u16) -> io::Result<()> {
     altered(rt, "number", at, v as u64, &table)
 }
 
-// The paper's table, altered: what of it, where that stands, and its value.
+// The paper's table, altered: what of it and where that stands, its value, and whether it is refused. Each is written
+// by itself, so that a run whose output fails has told what came before.
 fn altered(rt: &impl Print, what: &str, at: usize, value: u64, table: &[u8]) -> io::Result<()> {
-    print!(rt; "{what} {at} is {value}")?;
+    print!(rt; "{what} {at}")?;
+    print!(rt; " is {value}")?;
     show(rt, "", table)
 }
 
