@@ -4,6 +4,27 @@ ghost use Rattle.trace.specs.Kinds.{is_kind, takes_index, takes_bytes};
 
 use units::refusals::Refusal;
 
+// The numbers that stand for them in a file.
+
+pub const TABLE: u8 = 1;
+
+pub const OPEN: u8 = 2;
+
+pub const CLOSE: u8 = 3;
+
+pub const SEND: u8 = 4;
+
+pub const URGENT: u8 = 5;
+
+pub const ARRIVAL: u8 = 6;
+
+pub const TICK: u8 = 7;
+
+pub const HAND_OUT: u8 = 8;
+
+// The end of the frame under way.
+pub const REPORT: u8 = 9;
+
 #[derive(Clone, Copy)]
 pub enum Kind {
     Table,
@@ -29,15 +50,15 @@ impl TryFrom<u8> for Kind {
     // The kind that a number stands for. [L6]
     fn try_from(number: u8) -> Result<Kind, Refusal> {
         match number {
-            1 => Ok(Kind::Table),
-            2 => Ok(Kind::Open),
-            3 => Ok(Kind::Close),
-            4 => Ok(Kind::Send),
-            5 => Ok(Kind::Urgent),
-            6 => Ok(Kind::Arrival),
-            7 => Ok(Kind::Tick),
-            8 => Ok(Kind::HandOut),
-            9 => Ok(Kind::Report),
+            TABLE => Ok(Kind::Table),
+            OPEN => Ok(Kind::Open),
+            CLOSE => Ok(Kind::Close),
+            SEND => Ok(Kind::Send),
+            URGENT => Ok(Kind::Urgent),
+            ARRIVAL => Ok(Kind::Arrival),
+            TICK => Ok(Kind::Tick),
+            HAND_OUT => Ok(Kind::HandOut),
+            REPORT => Ok(Kind::Report),
             _ => Err(Refusal::BadTrace),
         }
     }
