@@ -1,7 +1,7 @@
 -- A block as it is written, payload by payload: one payload more behind the others, and how long each part is. Assumes nothing.
 use mathlib.Core.Path.{◌≡◌, refl, sym, ap, ◌∙◌}
 use mathlib.Core.List.{List, [], ◌∷◌, ◌++◌, append_assoc, append-nil}
-use Prim.Native.Nat.{ℕ, suc, ◌+◌, ◌*◌, ◌≤◌, ◌<◌}
+use Prim.Native.Nat.{ℕ, zero, suc, ◌+◌, ◌*◌, ◌≤◌, ◌<◌}
 use native.Mathlib.Numerals.{add-one}
 use native.Mathlib.Omega.{arith}
 use lib.ListN.{length, set, length-append}
@@ -53,6 +53,11 @@ length_block ps =
     )
 
 module _ (store b : List ℕ) (i place largest : ℕ) (w : Window) where
+  pub length_payloads : (k : ℕ) → length (payloads store b i place largest w k) ≡ k
+  unfolding payloads
+  length_payloads zero = refl
+  length_payloads (suc k) = rw (length-append (payloads store b i place largest w k) (payload_at store b i place largest w k ∷ []), length_payloads k) (omega arith)
+
   pub payloads_more : (k : ℕ) (p : List ℕ) → p ≡ payload_at store b i place largest w k → payloads store b i place largest w (k + 1) ≡ payloads store b i place largest w k ++ (p ∷ [])
   unfolding payloads
   payloads_more k p e = rw (add-one k, e)

@@ -255,6 +255,7 @@ tested x i p h =
 -- what a send that passed made of the entry
 pub record SendPassed (x : Lent) (i : ℕ) (p : List ℕ) (e : EndPoint) (after : Lent) : Type 0 where
   pub asked : Asked x i p
+  pub counted : e.run.accepted.0 ≢ 4294967295
   pub room : e.run.taken < e.run.window.size
   pub is : after ≡ sent x i e p
   pub end : end_of after.node i ≡ turned_to e Open (sent_run e.run)
@@ -333,6 +334,7 @@ module _ (t : List ℕ) (x : Lent) (l : Lists) (i : ℕ) (p : List ℕ) (g : Goo
   sent_passed =
       record {
         asked = d.asked;
+        counted = d.counted;
         room = d.room;
         is = refl;
         end = put_end

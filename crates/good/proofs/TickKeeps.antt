@@ -33,7 +33,7 @@ use Rattle.slots.specs.Slots.{cell, past, length_in, timer_in}
 use Rattle.timing.specs.Timing.{clock_in, quiet_in, later, left_of, passed as passing}
 use Rattle.timing.proofs.Falling.{later_next}
 use Rattle.call_tick.specs.Ticking.{Scanned, tick_entry, tick_entries, Recovered, again, recover, recover_all, entries, scanned, scan_both, scan_after, still_after, tick_both, tick_after, tick_answer}
-use Rattle.call_tick.proofs.Apart.{begun, timed, tick_same, scan_head}
+use Rattle.call_tick.proofs.Apart.{begun, timed, tick_only, scan_head}
 use Rattle.end_points.specs.States.{is_over}
 use Rattle.good.specs.Good.{Lists, Silent, Stated, Timely, Good}
 use Rattle.good.proofs.Lined.{added}
@@ -134,7 +134,7 @@ passed t c x l g idle zero h =
 passed t c x l g idle (suc n) h =
     let p = passed t c x l g idle n (omega arith) in
     let y = tick_entries c n (begun x) in
-    pass_then t c x y (tick_entry c n y) n h p (tick_entry_keeps t c y p.lists p.good n (omega (arith, p.count)) p.idle) ((tick_same c n y).before quiet_at (omega arith))
+    pass_then t c x y (tick_entry c n y) n h p (tick_entry_keeps t c y p.lists p.good n (omega (arith, p.count)) p.idle) ((tick_only c n y).before quiet_at (omega arith))
 
 -- ---- the bits
 

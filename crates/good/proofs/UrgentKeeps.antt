@@ -26,7 +26,7 @@ use Rattle.end_points.specs.declared.State.{State}
 use Rattle.end_points.specs.declared.State.TheVariants.{Open}
 use Rattle.end_points.specs.declared.Run.{Run}
 use Rattle.end_points.specs.declared.EndPoint.{EndPoint}
-use Rattle.slots.specs.Slots.{cell, spot, past}
+use Rattle.slots.specs.Slots.{cell, spot, past, length_in}
 use Rattle.call_send.specs.Sending.{urgent_tests, urgent_answer, urgent_run, urged, urgent_after}
 use Rattle.timing.specs.Timing.{clock_in, quiet_in}
 use Rattle.memory.specs.Layout.{Ranged}
@@ -150,6 +150,7 @@ pub record UrgentPassed (x : Lent) (i : ℕ) (p : List ℕ) (e : EndPoint) (afte
   pub waits : e.run.urgent ≡ 0
   pub is : after ≡ urged x i e p
   pub end : end_of after.node i ≡ turned_to e Open (urgent_run e.run (length p))
+  pub lengths : (c : ℕ) → length_in after.book c ≡ length_in x.book c
   pub stored : after.store ≡ sets x.store (spot e.place e.entry.largest e.run.window.size) p
 
 -- the run still fits its words
@@ -228,6 +229,7 @@ module _ (t : List ℕ) (x : Lent) (l : Lists) (i : ℕ) (p : List ℕ) (g : Goo
         is = refl;
         end = end_saved x.node i e.state (urgent_run e.run (length p)) g.long low (state_fits x.node i) fits same_size
             ∙ ap (λ (s : State). turned_to e s (urgent_run e.run (length p))) d.asked.opened;
+        lengths = λ c. cells x.book l g.lines i low e was d.waits (length p) d.asked.some d.asked.most none (length_at c) (omega arith);
         stored = refl;
       }
 

@@ -13,7 +13,7 @@ use Rattle.std.proofs.KnownBytes.{Appends-nil, Appends-trans}
 use Rattle.std.specs.declared.option.Option.{Option}
 use Rattle.units.specs.Refusals.{pick}
 use Rattle.lines.specs.Lines.{Page, page, place_of}
-use Rattle.lines.specs.Sink.{Says, value_text, values_text}
+use Rattle.lines.specs.Sink.{Puts, Says, value_text, values_text}
 use Rattle.lines.specs.declared.sink.Sink.{Sink}
 
 -- ---- places
@@ -35,6 +35,11 @@ take_sets xs ys i l =
 
 -- ---- known bytes
 
+known_flushed : (a b : Option (List ℕ)) (waits : List ℕ) → Appends a b waits → Appends (append_known a waits) (append_known b []) []
+known_flushed None b waits p = tt
+known_flushed (Some x) None waits p = absurd p
+known_flushed (Some x) (Some y) waits p = ap (λ (l : List ℕ). l ++ []) p
+
 known_grown : (a : Option (List ℕ)) (old new bytes : List ℕ) → new ≡ old ++ bytes → Appends (append_known a old) (append_known a new) bytes
 known_grown None old new bytes e = tt
 known_grown (Some x) old new bytes e = ap (λ (l : List ℕ). x ++ l) e ∙ sym (append_assoc x old bytes)
@@ -44,6 +49,9 @@ known_grown (Some x) old new bytes e = ap (λ (l : List ℕ). x ++ l) e ∙ sym 
 module _ {W : Type 0} {contents : W → Option (List ℕ)} where
   pub says_nothing : {s : Sink W} {p : Page} → p.taken ≤ length p.bytes → Says contents s p s p []
   says_nothing l = record { within = l; grown = λ n. (n, Appends-nil _) }
+
+  pub says_flushed : {s t : Sink W} {out : List ℕ} {at : ℕ} → Puts contents s t (take at out) → Says contents s (page out at) t (page out 0) []
+  says_flushed h = record { within = omega arith; grown = λ n. ((h n).0, known_flushed _ _ _ (h n).1) }
 
   pub says_then : {s t u : Sink W} {p q r : Page} {a b : List ℕ} → Says contents s p t q a → Says contents t q u r b → Says contents s p u r (a ++ b)
   says_then x y = record { within = y.within; grown = λ n. let m = y.grown n in let k = x.grown m.0 in (k.0, Appends-trans _ _ _ _ _ k.1 m.1) }

@@ -56,6 +56,13 @@ left_pos c d runs = sides (left c d runs)
     sides (inr h) = omega (arith, h.1, runs)
 
 module _ (c d : ℕ) (clock : c ≤ 65535) (number : d ≤ 65535) (runs : d ≢ 0) where
+  pub left_most : left_of c d ≤ 65535
+  left_most = sides (left c d runs)
+    where
+      sides : Left c d → left_of c d ≤ 65535
+      sides (inl h) = omega (arith, h.0, h.1)
+      sides (inr h) = omega (arith, h.0, h.1)
+
   -- it falls by one a tick, unless the tick is the one at which it runs out
   pub left_falls : d ≢ later c 1 → left_of (later c 1) d ≡ left_of c d - 1
   left_falls e = sides (next c clock) (left c d runs) (left (later c 1) d runs)

@@ -1,5 +1,5 @@
 -- What is held of a window: nothing at or beyond its size, how many are, and that the view says all. Assumes nothing.
-use Rattle.std.proofs.Common.{◌≡◌, ℕ, zero, suc, ◌+◌, ◌*◌, ◌/◌, ◌%◌, ◌^◌, ◌<◌, ◌≤◌, true, false, eqb, sym, refl, ap, ◌∙◌, ap₂, true≢false, lt_of_lt_of_le, mod-lt, mod-eq_of_lt, one-add, arith, pow_pos, pow_mono}
+use Rattle.std.proofs.Common.{◌≡◌, ℕ, zero, suc, ◌+◌, ◌*◌, ◌/◌, ◌%◌, ◌^◌, ◌<◌, ◌≤◌, true, false, eqb, ◌↔◌, sym, refl, ap, ◌∙◌, ap₂, true≢false, lt_of_lt_of_le, mod-lt, mod-eq_of_lt, one-add, arith, pow_pos, pow_mono}
 use mathlib.Core.Logic.{by_cases}
 use native.Mathlib.Nat.{mod-one}
 use native.Mathlib.Decide.{dec_lt}
@@ -11,8 +11,8 @@ use Rattle.window.specs.Marks.{joined, bit}
 use Rattle.window.specs.Windows.{held, held_count, Good}
 use Rattle.window.specs.declared.Marks.{Marks}
 use Rattle.window.specs.declared.Window.{Window}
-use Rattle.window.proofs.Bits.{bit_above, bit_ext}
-use Rattle.window.proofs.Sizes.{size_le, ones_zero}
+use Rattle.window.proofs.Bits.{bit_above, bit_ext, bit_of_zero}
+use Rattle.window.proofs.Sizes.{size_le, no_ones, ones_zero}
 
 -- ---- nothing is held at or beyond the size
 
@@ -51,6 +51,13 @@ ones_below w (suc n) =
 
 pub count_below : (w : Window) → Good w → held_count w ≡ held_below w w.size
 count_below w g = ap ones (sym (mod-eq_of_lt g.below)) ∙ ones_below w w.size
+
+pub count_none : (w : Window) → (held_count w ≡ 0) ↔ ((k : ℕ) → held w k ≡ false)
+unfolding held
+count_none w = (
+  (λ e k. ap (λ (n : ℕ). bit n k) (no_ones (joined w.marks) e) ∙ bit_of_zero k),
+  (λ h. ap ones (bit_ext (joined w.marks) 0 (λ k. h k ∙ sym (bit_of_zero k))) ∙ ones_zero),
+)
 
 -- ---- the view says all: windows with the same start, size and held offsets are the same
 

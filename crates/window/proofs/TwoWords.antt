@@ -1,6 +1,6 @@
 -- What the functions on two words of marks compute: the digits of one number, set, counted and shifted.
 -- Assumes nothing.
-use Rattle.std.proofs.Common.{◌≡◌, ℕ, ◌+◌, ◌-◌, ◌*◌, ◌/◌, ◌%◌, ◌^◌, ◌<◌, ◌≤◌, sym, ap, ◌∙◌, subst, ap₂, lt_of_lt_of_le, lt_of_le_of_lt, add-zero, mod-lt, mod-eq_of_lt, mul_comm, add_comm, one-mul, zero-add, div-le_self, arith, lit<, pow_pos, pow_mono, pow-add, shl_exact, shr-shr, shr_lt}
+use Rattle.std.proofs.Common.{◌≡◌, ℕ, ◌+◌, ◌-◌, ◌*◌, ◌/◌, ◌%◌, ◌^◌, ◌<◌, ◌≤◌, sym, ap, ◌∙◌, subst, ap₂, lt_of_lt_of_le, lt_of_le_of_lt, add-zero, mod-lt, mod-eq_of_lt, mul_comm, add_comm, one-mul, zero-add, div-le_self, div-one, arith, lit<, pow_pos, pow_mono, pow-add, shl_exact, shr-shr, shr_lt}
 use native.Mathlib.Nat.{div-eq_of_lt, mul-mod_left, mul-mod_right, mul-add-div_right, mod-mod}
 use lib.Arith.{digits_lt}
 use lib.Bits.{bit_or, or_block, or_lt, or_mod, or_shifted_r, or_zero_r}
@@ -98,6 +98,9 @@ module _ (m : Marks) (lo : m.0 < 2 ^ 64) (hi : m.1 < 2 ^ 64) where
       let same : bit_or (joined m) (2 ^ k) % 2 ^ 128 ≡ joined m =
       or_mod (joined m) (2 ^ k) 128 ∙ ap₂ bit_or (mod-eq_of_lt joined_lt) (pow_mod 128 k l) ∙ or_zero_r (joined m) in
       parted_is m (bit_or (joined m) (2 ^ k) % 2 ^ 128) lo hi (sym same) ∙ parted_mod (bit_or (joined m) (2 ^ k))
+
+  pub shift_none : m ≡ parted (joined m / 2 ^ 0)
+  shift_none = parted_is m _ lo hi (sym (div-one (joined m)))
 
   pub shift_low : (n : ℕ) → n < 64
       → record { 0 = bit_or (m.0 / 2 ^ n) ((m.1 * 2 ^ (64 - n)) % 2 ^ 64); 1 = m.1 / 2 ^ n } ≡ parted (joined m / 2 ^ n)
