@@ -7,14 +7,15 @@ crate and the function (`node_send`; a function for C by its own name): only one
 be over the reading of the contract (`use Rattle.node.proofs.send.Reads as NAME` in its file), and has to speak of
 everything that is lent to be altered: of each `&mut` parameter, by its place among the arguments. A conversion (`impl
 From`, `TryFrom`) counts as a function, gives its answer by one equation, and has its name from the definition there:
-`number_of` of units is `units_number`. A function that is lent such memory and may refuse also needs `pub
-NAME_refused`: refused, all is as it was. Of a function that is lent a page and a sink the theorem speaks of any two
-sinks, whatever writers they have (`OneBehind`), of every type of numbers where it takes them, and of all that the page
-holds afterwards (`left_in`); of a function over any type of items it speaks of every such type. The contract of what is
-lent a struct has to be one record of specs/, which the theorem names. A symbol of the archive has no theorem of its
-own, since nothing can stand on an archive: it has to promise, word for word, what firmware's function of its name does,
-and to do nothing but call that. Nor has a trait's method, but an equation in the trait that fixes its answer. The
-exceptions stand below with their reasons, and in docs/CONTRACTS.md.
+`number_of` of units is `units_number`. Its reading, like that of a method, is one of its impl (`U8FromRefusal.from`) or
+type. A function that is lent such memory and may refuse also needs `pub NAME_refused`: refused, all is as it was. Of a
+function that is lent a page and a sink the theorem speaks of any two sinks, whatever writers they have (`OneBehind`),
+of every type of numbers where it takes them, and of all that the page holds afterwards (`left_in`); of a function over
+any type of items it speaks of every such type. The contract of what is lent a struct has to be one record of specs/,
+which the theorem names. A symbol of the archive has no theorem of its own, since nothing can stand on an archive: it
+has to promise, word for word, what firmware's function of its name does, and to do nothing but call that. Nor has a
+trait's method, but an equation in the trait that fixes its answer. The exceptions stand below with their reasons, and
+in docs/CONTRACTS.md.
 """
 import pathlib
 import re
@@ -54,14 +55,14 @@ REFUSES = re.compile(r"Result<.*, Refusal>|Told")  # and for C a number
 NO_REFUSAL = {"shelugvar_tick"}
 FUNCTION = re.compile(r'( *)pub (?:const |unsafe |extern "C" )*fn (\w+)(?:<[^>]*>)?\(')
 IMPL = re.compile(r"impl(?:<[^>]*>)? (?:.* for )?(\w+)")  # and the type
-CONVERSION = re.compile(r"^impl (?:Try)?From<.*?^\}", re.M | re.S)
+CONVERSION = re.compile(r"^impl(?:<[^\n]*>)? (Try)?From<([^\n]*)> for ([^\n]*?) \{.*?^\}", re.M | re.S)
 TRAIT = re.compile(r"^pub trait .*?^\}", re.M | re.S)
 GIVES = re.compile(r"^    ghost (?:try_)?from_gives = \{ λ (\w+) (\w+)\. \2 ≡ (\w+) \1 \};$", re.M)
 
 
 class Function(NamedTuple):
     name: str
-    of: str  # the type whose method it is, or nothing
+    of: str  # the type whose method it is, or the impl of a conversion by the prover's name, or nothing
     parameters: list[str]
     answer: str
     contract: str  # from its answer to its body
@@ -119,11 +120,14 @@ def conversions(text: str) -> list[tuple[str, Function]]:
     """The conversions of a file that is laid out, each with the definition that it gives, or with none. The definition
     stands in the contract's place: by it docs/CONTRACTS.md has a conversion."""
     found = []
-    for impl in CONVERSION.findall(text):
-        gives = GIVES.search(impl)
-        called = re.search(r"^    fn (\w+)", impl, re.M)
+    for impl in CONVERSION.finditer(text):
+        gives = GIVES.search(impl[0])
+        called = re.search(r"^    fn (\w+)", impl[0], re.M)
         name = gives[3] if gives else ""
-        found.append((name, Function(called[1] if called else "", "", [], "", name, "")))
+        source, made = (it[0].upper() + it[1:] for it in impl.group(2, 3))
+        plain = re.fullmatch(r"\w+", source + made)  # else the prover's name for it is not looked for
+        of = f"{made}{impl[1] or ''}From{source}" if plain else r"\w+"
+        found.append((name, Function(called[1] if called else "", of, [], "", name, "")))
     return found
 
 
@@ -174,7 +178,7 @@ def leaves_out(theorem: Theorem, one: Function) -> bool:
                for text in said)
 
 
-def over_contract(crate: str, name: str, theorem: Theorem, kind: str) -> bool:
+def over_contract(crate: str, one: Function, theorem: Theorem, kind: str) -> bool:
     """Whether a theorem is of a kind and over the reading of the function's contract, which its file names. One that is
     indented is of a function that is lent a page and a sink, over every two types of writers and every type of numbers,
     or of a function over any type of items, over every such type; and it assumes nothing else."""
@@ -189,7 +193,9 @@ def over_contract(crate: str, name: str, theorem: Theorem, kind: str) -> bool:
     else:
         form = rf"\s+{kind}(?: \{{[^}}]*\}})?\s+{post}[^→⊎×]*"
     found = re.fullmatch(form, theorem.stated)
-    reading = rf"^use Rattle\.{crate}\.proofs\.(?:\w+\.)*{name}\.Reads as (\S+)$"
+    path = rf"{one.of}\.{one.name}" if one.of else one.name
+    # before it modules alone, whose names begin with a lower-case letter, and no type
+    reading = rf"^use Rattle\.{crate}\.proofs\.(?:[a-z]\w*\.)*{path}\.Reads as (\S+)$"
     return bool(found) and found[1] in re.findall(reading, theorem.file, re.M)
 
 
@@ -199,7 +205,7 @@ def lacks(crate: str, one: Function, name: str, proofs: list[str]) -> list[str]:
     wanted = [(f"{name}_one", r"One\w*")] + [(f"{name}_refused", "Spares")] * bool(one.altered and refuses)
     wrong = []
     for theorem, kind in wanted:
-        found = [it for it in statements(proofs, theorem) if over_contract(crate, one.name, it, kind)]
+        found = [it for it in statements(proofs, theorem) if over_contract(crate, one, it, kind)]
         if len(found) != 1:
             wrong.append(f"has no theorem {theorem} over its contract")
         elif leaves_out(found[0], one):
