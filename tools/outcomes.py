@@ -55,7 +55,7 @@ REFUSES = re.compile(r"Result<.*, Refusal>|Told")  # and for C a number
 NO_REFUSAL = {"shelugvar_tick"}
 FUNCTION = re.compile(r'( *)pub (?:const |unsafe |extern "C" )*fn (\w+)(?:<[^>]*>)?\(')
 IMPL = re.compile(r"impl(?:<[^>]*>)? (?:.* for )?(\w+)")  # and the type
-CONVERSION = re.compile(r"^impl(?:<[^\n]*>)? (Try)?From<([^\n]*)> for ([^\n]*?) \{.*?^\}", re.M | re.S)
+CONVERSION = re.compile(r"^impl(?:<[^\n]*>)?\s(Try)?From<([^{]*?)>\s+for\s+([^{]*?)\s*\{.*?^\}", re.M | re.S)
 TRAIT = re.compile(r"^pub trait .*?^\}", re.M | re.S)
 GIVES = re.compile(r"^    ghost (?:try_)?from_gives = \{ λ (\w+) (\w+)\. \2 ≡ (\w+) \1 \};$", re.M)
 
